@@ -2,8 +2,8 @@
 use Rattle.std.proofs.Common.{◌≡◌, ℕ, List, [], ◌∷◌, ◌++◌, Some, refl, sym, append-nil}
 use Rattle.std.proofs.Common.{append_assoc, true, false}
 use Rattle.std.proofs.lemmas.Bool.{false≢true}
-use Rattle.thorin_words.specs.declared.words.Place.{Place}
-use Rattle.thorin_words.specs.declared.words.Place.TheVariants.{Between, Inside, Escaped}
+use Rattle.thorin_words.specs.declared.words.LexerState.{LexerState}
+use Rattle.thorin_words.specs.declared.words.LexerState.TheVariants.{Between, Inside, Escaped}
 use Rattle.thorin_words.specs.Words.{put, words_from, words_of, escaped, quoted, keeps, behind}
 use Rattle.thorin_words.specs.Words.{is_between}
 
@@ -39,43 +39,43 @@ extended word byte (first ∷ rest) = rw append_assoc refl
 
 -- a byte further: one that the word keeps, one behind which it ends, another in it, and one between
 -- two words
-module _ (word : List ℕ) (place : Place) (byte : ℕ) {left rest : List ℕ}
+module _ (word : List ℕ) (state : LexerState) (byte : ℕ) {left rest : List ℕ}
     (front : left ≡ byte ∷ rest) where
-  pub kept : keeps place byte ≡ true → prefix word (words_from place left) ≡
-      prefix (word ++ byte ∷ []) (words_from (behind place byte) rest)
+  pub kept : keeps state byte ≡ true → prefix word (words_from state left) ≡
+      prefix (word ++ byte ∷ []) (words_from (behind state byte) rest)
   kept is = rw (front, is) (extended word byte _)
 
-  pub ended : keeps place byte ≡ false → is_between (behind place byte) ≡ true
-      → is_between place ≡ false → prefix word (words_from place left) ≡
-      word ∷ words_from (behind place byte) rest
+  pub ended : keeps state byte ≡ false → is_between (behind state byte) ≡ true
+      → is_between state ≡ false → prefix word (words_from state left) ≡
+      word ∷ words_from (behind state byte) rest
   ended out ends inside = rw (front, out, ends, inside, append-nil) refl
 
-  pub passed : keeps place byte ≡ false → is_between (behind place byte) ≡ false
-      → prefix word (words_from place left) ≡ prefix word (words_from (behind place byte) rest)
+  pub passed : keeps state byte ≡ false → is_between (behind state byte) ≡ false
+      → prefix word (words_from state left) ≡ prefix word (words_from (behind state byte) rest)
   passed out inside = rw (front, out, inside) refl
 
-  pub spaced : keeps place byte ≡ false → is_between (behind place byte) ≡ true
-      → is_between place ≡ true
-      → prefix word (words_from place left) ≡ prefix word (words_from (behind place byte) rest)
+  pub spaced : keeps state byte ≡ false → is_between (behind state byte) ≡ true
+      → is_between state ≡ true
+      → prefix word (words_from state left) ≡ prefix word (words_from (behind state byte) rest)
   spaced out ends was = rw (front, out, ends, was) refl
 
-between : (place : Place) → is_between place ≡ true → place ≡ Between
+between : (state : LexerState) → is_between state ≡ true → state ≡ Between
 between Between is = refl
 between (Inside quote) is = absurd (false≢true is)
 between (Escaped quote) is = absurd (false≢true is)
 
 -- behind a word the others begin
-pub anew : (place : Place) (rest : List ℕ) → is_between place ≡ true
-    → words_from place rest ≡ words_of rest
+pub anew : (state : LexerState) (rest : List ℕ) → is_between state ≡ true
+    → words_from state rest ≡ words_of rest
 unfolding words_of
-anew place rest is = rw (between place is) refl
+anew state rest is = rw (between state is) refl
 
 -- at the end: between words, and in the last one
-module _ (word : List ℕ) (place : Place) (left : List ℕ) (end : left ≡ []) where
-  pub none_left : is_between place ≡ true → prefix word (words_from place left) ≡ []
+module _ (word : List ℕ) (state : LexerState) (left : List ℕ) (end : left ≡ []) where
+  pub none_left : is_between state ≡ true → prefix word (words_from state left) ≡ []
   none_left is = rw (end, is) refl
 
-  pub last_left : (rest : List ℕ) → rest ≡ [] → is_between place ≡ false
-      → prefix word (words_from place left) ≡ word ∷ words_of rest
+  pub last_left : (rest : List ℕ) → rest ≡ [] → is_between state ≡ false
+      → prefix word (words_from state left) ≡ word ∷ words_of rest
   unfolding words_of
   last_left rest none is = rw (end, none, is, append-nil) refl

@@ -1,7 +1,7 @@
 -- What words stand for, while they are read one after another.
-use Rattle.std.proofs.Common.{◌≡◌, ◌⊎◌, ℕ, List, [], ◌∷◌, ◌++◌, map, length, take, Option, Some}
+use Rattle.std.proofs.Common.{◌≡◌, ℕ, List, [], ◌∷◌, ◌++◌, map, length, take, Option, Some}
 use Rattle.std.proofs.Common.{Ok, Err, Vec, String, string_bytes, refl, sym, append_assoc, false}
-use Rattle.std.proofs.Common.{◌<◌, ◌≤◌, ◌+◌, get_or, drop, append-nil, Global, inl, inr}
+use Rattle.std.proofs.Common.{◌<◌, ◌≤◌, ◌+◌, get_or, drop, append-nil, Global}
 use Rattle.std.proofs.Common.{arith}
 use Rattle.std.proofs.Common.{subst, IsUtf8}
 use Rattle.std.proofs.Math.Seq.{take-append_seam}
@@ -9,7 +9,7 @@ use Rattle.std.proofs.lemmas.List.{map-append, take-map, length-map, drop_more}
 use Rattle.thorin_words.specs.Responses.{Outcome, after, is_among, IsPlain, Stands, End, Plain}
 use Rattle.thorin_words.specs.Responses.{File, Inner, Itself, Deep, words_in, most_deep, Leaves}
 use Rattle.thorin_words.specs.Responses.{Refuses, Stops, Here, Later, Within}
-use Rattle.thorin_words.specs.Responses.{Costs, Nothing, Word, Named, IsOfReading}
+use Rattle.thorin_words.specs.Responses.{Costs, Nothing, Word, Named}
 use Rattle.thorin_words.specs.Words.{words_of}
 use Rattle.thorin_words.specs.declared.responses.Left.{Left}
 use Rattle.thorin_words.specs.declared.responses.ResponseError.{ResponseError}
@@ -82,11 +82,10 @@ module _ (offer : List ℕ → Option (List ℕ) → Type 0) (fails : List ℕ �
 
     -- one for which there is no room
     pub unread : (left : Left) → IsPlain offer word → (e : ResponseError)
-        → ((e ≡ errors.TooLong) × (left.bytes < 32)) ⊎ (e ≡ errors.Memory)
-        → (rest : List (List ℕ)) → Refuses offer fails names left.files left.bytes (word ∷ rest) e
-    unread left is e (inl (long, few)) rest =
+        → (e ≡ errors.TooLong) × (left.bytes < 32) → (rest : List (List ℕ))
+        → Refuses offer fails names left.files left.bytes (word ∷ rest) e
+    unread left is e (long, few) rest =
         rw long (0, 32 + 0, Word word rest 0 0 is (Nothing rest), omega (arith, few))
-    unread left is e (inr memory) rest = rw memory tt
 
     -- one whose file isn't read
     pub refused : (left : Left) (e : ResponseError) → Stops offer fails names word left e
@@ -109,16 +108,6 @@ module _ (offer : List ℕ → Option (List ℕ) → Type 0) (fails : List ℕ �
       omega (arith, few),
     )
     refused left errors.Unreadable k rest = Here word rest k
-
-    -- an error of a read
-    pub of_reading : (left : Left) (name : List ℕ) → word ≡ 64 ∷ name → (e : ResponseError)
-        → fails name e → (e ≡ errors.TooLong
-        → (text : List ℕ) × offer name (Some text) × (left.bytes < length text))
-        → IsOfReading e → Stops offer fails names word left e
-    of_reading left name is errors.Unreadable f long h = (name, is, f)
-    of_reading left name is errors.TooLong f long h = (name, is, long refl)
-    of_reading left name is errors.Memory f long h = tt
-    of_reading left name is _ f long h = absurd h
 
   -- one that names a file
   module _ (names : List (List ℕ)) (word name text : List ℕ) (before opened : Left)
@@ -246,9 +235,9 @@ module _ {offer : List ℕ → Option (List ℕ) → Type 0} {fails : List ℕ �
     stopped_at e k = stopped e (rw (split, ← same) (k rest))
 
     -- the next word isn't UTF-8
-    pub spoilt : (e : ResponseError) → (e ≡ errors.NotUtf8) × ¬ (IsUtf8 word)
-        → Refuses offer fails names before.files before.bytes all e
-    spoilt e (is, bad) = rw is (so_far.meets errors.NotUtf8 (rw split (Here word rest bad)))
+    pub spoilt : ¬ (IsUtf8 word)
+        → Refuses offer fails names before.files before.bytes all errors.NotUtf8
+    spoilt bad = so_far.meets errors.NotUtf8 (rw split (Here word rest bad))
 
 -- ---- the words of a line
 

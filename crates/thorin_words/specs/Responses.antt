@@ -1,7 +1,7 @@
 -- The words of a command line in which `@NAME` stands for the words of the file NAME, as the
 -- manuals of the GNU programs have it. Those of a file may name files again.
 use Rattle.std.specs.Prelude.{◌≡◌, ℕ, ◌+◌, ◌<◌, ◌≤◌, Bool, true, false, ◌==◌, List, [], ◌∷◌, ◌++◌}
-use Rattle.std.specs.Prelude.{◌^◌, ◌⊎◌, Option, Some, None, IfSome, Result, Ok, Err, map, length}
+use Rattle.std.specs.Prelude.{◌^◌, Option, Some, None, IfSome, Result, Ok, Err, map, length}
 use Rattle.std.specs.Prelude.{if◌then◌else◌, IsUtf8, string_bytes, String, Vec}
 use Rattle.std.specs.declared.alloc.Global.{Global}
 use Rattle.std.specs.Str.{bytes_eq}
@@ -10,8 +10,6 @@ use Rattle.thorin_words.specs.Words.{words_of}
 use Rattle.thorin_words.specs.declared.responses.ResponseError.{ResponseError}
 use Rattle.thorin_words.specs.declared.responses.ResponseError.TheVariants as errors
 use Rattle.thorin_words.specs.declared.responses.Left.{Left}
-use Rattle.thorin_words.specs.declared.responses.Opened.{Opened}
-use Rattle.thorin_words.specs.declared.responses.Opened.TheVariants as opened
 
 -- why words are refused: a file of that name is inside itself, or inside as many others as may be
 pub data Refusal : Type 0 where
@@ -205,12 +203,12 @@ Stops offer fails names word left errors.TooLong = (name : List ℕ) × (word �
     × ((text : List ℕ) × offer name (Some text) × (left.bytes < length text))
 Stops offer fails names word left errors.Unreadable = Spoils fails errors.Unreadable word
 
--- what a word was found to be inside the files of these names
+-- what a word was found to name inside the files of these names
 abbrev pub Opens : (List ℕ → Option (List ℕ) → Type 0) → (List ℕ → ResponseError → Type 0)
-    → (names : List (List ℕ)) (word : List ℕ) → Left → Result Opened ResponseError → Type 0
-Opens offer fails names word left (Ok (opened.Word text)) =
-    (text.now ≡ word) × IsPlain offer word
-Opens offer fails names word left (Ok (opened.File name text now)) =
+    → (names : List (List ℕ)) (word : List ℕ) → Left
+    → Result (Option (String Global × Vec ℕ Global × Left)) ResponseError → Type 0
+Opens offer fails names word left (Ok None) = IsPlain offer word
+Opens offer fails names word left (Ok (Some (name, text, now))) =
     (word ≡ 64 ∷ string_bytes name) × (is_among names (string_bytes name) ≡ false)
     × offer (string_bytes name) (Some text.items) × (now.files + 1 ≡ left.files)
     × (now.bytes + length text.items ≡ left.bytes) × (length names < most_deep)

@@ -3,8 +3,8 @@
 -- backslash takes the byte behind it, whatever it is.
 use Rattle.std.specs.Prelude.{ℕ, Bool, true, false, ◌==◌, ◌&&◌, ◌||◌, not, nat_le, List, [], ◌∷◌}
 use Rattle.std.specs.Prelude.{◌≡◌, ◌<◌, ◌≤◌, ◌++◌, length, drop, Option, Some, None, if◌then◌else◌}
-use Rattle.thorin_words.specs.declared.words.Place.{Place}
-use Rattle.thorin_words.specs.declared.words.Place.TheVariants.{Between, Inside, Escaped}
+use Rattle.thorin_words.specs.declared.words.LexerState.{LexerState}
+use Rattle.thorin_words.specs.declared.words.LexerState.TheVariants.{Between, Inside, Escaped}
 
 abbrev pub backslash : ℕ
 backslash = 92
@@ -16,12 +16,12 @@ is_space byte = (byte == 32) || (nat_le 9 byte && nat_le byte 13)
 abbrev pub is_mark : ℕ → Bool
 is_mark byte = (byte == 39) || (byte == 34)
 
-abbrev pub is_between : Place → Bool
+abbrev pub is_between : LexerState → Bool
 is_between Between = true
 is_between _ = false
 
--- the place behind a byte that no backslash takes
-abbrev pub behind_in : Option ℕ → ℕ → Place
+-- the state behind a byte that no backslash takes
+abbrev pub behind_in : Option ℕ → ℕ → LexerState
 behind_in (Some mark) byte =
     if byte == backslash then Escaped (Some mark)
     else (if byte == mark then Inside None else Inside (Some mark))
@@ -30,8 +30,8 @@ behind_in None byte =
     else (if is_space byte then Between
     else (if is_mark byte then Inside (Some byte) else Inside None))
 
--- the place behind a byte
-abbrev pub behind : Place → ℕ → Place
+-- the state behind a byte
+abbrev pub behind : LexerState → ℕ → LexerState
 behind Between byte = behind_in None byte
 behind (Inside quote) byte = behind_in quote byte
 behind (Escaped quote) byte = Inside quote
@@ -42,7 +42,7 @@ abbrev pub keeps_in : Option ℕ → ℕ → Bool
 keeps_in (Some mark) byte = not (byte == backslash) && not (byte == mark)
 keeps_in None byte = (not (byte == backslash) && not (is_mark byte)) && not (is_space byte)
 
-abbrev pub keeps : Place → ℕ → Bool
+abbrev pub keeps : LexerState → ℕ → Bool
 keeps Between byte = keeps_in None byte
 keeps (Inside quote) byte = keeps_in quote byte
 keeps (Escaped quote) byte = true
@@ -53,13 +53,13 @@ put byte [] = []
 put byte (word ∷ words) = (byte ∷ word) ∷ words
 
 -- the words that a text still has; inside of a word the first is what is left of it
-abbrev pub words_from : Place → List ℕ → List (List ℕ)
-words_from place [] = if is_between place then [] else ([] ∷ [])
-words_from place (byte ∷ rest) =
-    if keeps place byte then put byte (words_from (behind place byte) rest)
-    else (if is_between (behind place byte) && not (is_between place)
-    then [] ∷ words_from (behind place byte) rest
-    else words_from (behind place byte) rest)
+abbrev pub words_from : LexerState → List ℕ → List (List ℕ)
+words_from state [] = if is_between state then [] else ([] ∷ [])
+words_from state (byte ∷ rest) =
+    if keeps state byte then put byte (words_from (behind state byte) rest)
+    else (if is_between (behind state byte) && not (is_between state)
+    then [] ∷ words_from (behind state byte) rest
+    else words_from (behind state byte) rest)
 
 -- the words of a text
 unfoldable pub words_of : List ℕ → List (List ℕ)

@@ -3,8 +3,7 @@
 ghost use Rattle.std.specs.Prelude.{◌≡◌, ◌++◌, ◌∷◌, [], ◌<◌, IsTrue, string_bytes};
 ghost use Rattle.std.specs.Prelude.{IfOk, OnOk};
 ghost use Rattle.thorin_words.specs.Printed as spec;
-ghost use Rattle.thorin_words.specs.Printed.{hex_digit, two_digits, printed_character};
-ghost use Rattle.thorin_words.specs.Printed.{is_short_control, is_long_control, control};
+ghost use Rattle.thorin_words.specs.Printed.{control, hex_digit, is_short_control, two_digits};
 
 use std::alloc::{AllocError, Global};
 
@@ -19,20 +18,13 @@ pub fn printed(alloc: Global, text: &str) -> Result<String, AllocError>
 {
     let mut shown = String::new(alloc);
     for c in text.chars() {
-        push_printed(&mut shown, c)?;
+        if is_control(c) {
+            push_control(&mut shown, "\\x", c)?;
+        } else {
+            shown.push(c)?;
+        }
     }
     Ok(shown)
-}
-
-/// Adds a character as it is printed.
-fn push_printed(printed: &mut String, c: char) -> Result<(), AllocError>
-    ensures { OnOk result (string_bytes printed.new ≡ string_bytes printed.old
-        ++ printed_character c) }
-{
-    if is_control(c) {
-        return push_control(printed, "\\x", c);
-    }
-    printed.push(c)
 }
 
 /// Whether a character is a control, a separator of lines or a mark that turns the direction of a
@@ -41,7 +33,12 @@ pub fn is_control(c: char) -> bool
     ensures { result ≡ spec.is_control c }
 {
     let number = u32::from(c);
-    is_short_control(number) || is_long_control(number)
+    is_short_control(number)
+        || number == 0x61c
+        || number == 0x200e
+        || number == 0x200f
+        || (0x2027 < number && number < 0x202f)
+        || (0x2065 < number && number < 0x206a)
 }
 
 /// Adds such a character by its number: the two digits of a short one behind `short`, or `\u` and
@@ -69,17 +66,6 @@ fn is_short_control(number: u32) -> bool
     ensures { result ≡ is_short_control number }
 {
     number < 32 || (126 < number && number < 160)
-}
-
-/// Whether it separates lines, or turns the direction of a text.
-fn is_long_control(number: u32) -> bool
-    ensures { result ≡ is_long_control number }
-{
-    number == 0x61c
-        || number == 0x200e
-        || number == 0x200f
-        || (0x2027 < number && number < 0x202f)
-        || (0x2065 < number && number < 0x206a)
 }
 
 /// Adds the two digits of a number.

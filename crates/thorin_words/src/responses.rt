@@ -1,12 +1,10 @@
 //! `@FILE` among the words of a command line: a response file, as linkers have it.
 
-ghost use Rattle.std.specs.Prelude.{◌≡◌, ◌≤◌, ◌<◌, ◌+◌, ◌++◌, ◌∷◌, [], ℕ, List, Option, None, map};
-ghost use Rattle.std.specs.Prelude.{length, IfOk, IfErr, OnOk, IfSome, MatchOption, option_map};
-ghost use Rattle.std.specs.Prelude.{◌⊎◌, IsUtf8, Some, string_bytes};
+ghost use Rattle.std.specs.Prelude.{◌≡◌, ◌≤◌, ◌<◌, ◌+◌, [], ℕ, List, Option, map};
+ghost use Rattle.std.specs.Prelude.{length, IfOk, IfErr, OnOk, IfSome, option_map};
+ghost use Rattle.std.specs.Prelude.{Some, string_bytes};
 ghost use Rattle.thorin_words.specs.Responses.{is_among, Answers, AreRead, IsOfReading, IsRead};
-ghost use Rattle.thorin_words.specs.Responses.{Opens, words_in, name_in};
-ghost use Rattle.std.specs.List.{list_any};
-ghost use Rattle.std.specs.Str.{bytes_eq};
+ghost use Rattle.thorin_words.specs.Responses.{Opens, words_in};
 ghost use Rattle.thorin_words.specs.Words.{words_of};
 ghost use Rattle.thorin_words.specs.declared.responses.ResponseError.TheVariants as errors;
 
@@ -94,15 +92,6 @@ struct Left {
     bytes: u32,
 }
 
-/// What a word is.
-#[derive(Drop)]
-enum Opened<'w> {
-    /// One that stands for itself.
-    Word(&'w str),
-    /// The name of a file, its text, and what is left after it.
-    File(String, Vec<u8>, Left),
-}
-
 /// A program's name, and the words of its command line with the words of response files in place of
 /// each `@FILE`. Those of a file may name files again. A name for which there is no file stays a
 /// word.
@@ -121,24 +110,14 @@ pub fn expanded<S: AsStr, F: ResponseFiles>(
     ensures { Answers (F.offer files.now) (F.fails files.now) program.now (map S.text line.now)
         result }
 {
-    let mut all = begun(alloc, program)?;
+    let mut all = Vec::new(alloc);
+    all.push(String::from_str(alloc, program)?)?;
     let mut names = Vec::new(alloc);
     let left = Left {
         files: MOST_FILES,
         bytes: MOST_BYTES,
     };
     add_line(files, line, &mut names, left, &mut all)?;
-    Ok(all)
-}
-
-/// The program's name alone.
-#[tactic(auto, using(crate::proofs::Standing::alone))]
-fn begun(alloc: Global, program: &str) -> Result<Vec<String>, ResponseError>
-    ensures words { IfOk result (λ all. words_in all ≡ program.now ∷ []) }
-    ensures memory { IfErr result (λ e. e ≡ errors.Memory) }
-{
-    let mut all = Vec::new(alloc);
-    all.push(String::from_str(alloc, program)?)?;
     Ok(all)
 }
 
@@ -174,40 +153,21 @@ fn add_word<F: ResponseFiles>(
     ensures names { OnOk result (words_in names.new ≡ words_in names.old) }
     ensures files { IfOk result (λ now. now.files ≤ left.files) }
 {
-    match open_word(files, *all.allocator(), word, names.as_slice(), left)? {
-        Opened::Word(word) => {
-            let left = add_plain(word, left, all)?;
+    let alloc = *all.allocator();
+    match open_word(files, alloc, word, names.as_slice(), left)? {
+        None => {
+            let left = left_after(left, BYTES_OF_A_WORD)?;
+            all.push(String::from_str(alloc, word)?)?;
             Ok(left)
         }
-        Opened::File(name, text, left) => {
-            let left = add_file(files, name, text, names, left, all)?;
+        Some((name, text, inside)) => {
+            let before = names.len();
+            names.push(name)?;
+            let left = add_text(files, text.as_slice(), names, inside, all)?;
+            names.truncate(before);
             Ok(left)
         }
     }
-}
-
-/// Adds the words of a file, whose name is among the others meanwhile. Answers what is left.
-#[cycle(responses)]
-#[tactic(auto, using(crate::proofs::Standing::restored))]
-fn add_file<F: ResponseFiles>(
-    files: &F,
-    name: String,
-    text: Vec<u8>,
-    names: &mut Vec<String>,
-    left: Left,
-    all: &mut Vec<String>,
-) -> Result<Left, ResponseError>
-    ensures read { AreRead (F.offer files.now) (F.fails files.now)
-        (words_in names.old ++ string_bytes name ∷ []) (words_of text.items) [] (words_in all.old)
-        (words_in all.new) left result }
-    ensures names { OnOk result (words_in names.new ≡ words_in names.old) }
-    ensures files { IfOk result (λ now. now.files ≤ left.files) }
-{
-    let before = names.as_slice().len();
-    push_name(names, name)?;
-    let left = add_text(files, text.as_slice(), names, left, all)?;
-    names.truncate(before);
-    Ok(left)
 }
 
 /// Adds the words of a text, with those of files in place of each `@FILE`. Answers what is left.
@@ -229,99 +189,56 @@ fn add_text<F: ResponseFiles>(
     let mut word = Vec::new(*all.allocator());
     while let Some(end) = next_word(text, at, &mut word)? {
         at = end;
-        let word = text_of(word.as_slice())?;
+        let word = match str::from_utf8(word.as_slice()) {
+            Ok(word) => word,
+            Err(_error) => return Err(ResponseError::NotUtf8),
+        };
         left = add_word(files, word, names, left, all)?;
     }
     Ok(left)
 }
 
-/// Adds the name of a file.
-#[tactic(auto, using(crate::proofs::Standing::named))]
-fn push_name(names: &mut Vec<String>, name: String) -> Result<(), ResponseError>
-    ensures names { OnOk result (words_in names.new
-        ≡ words_in names.old ++ string_bytes name ∷ []) }
-    ensures memory { IfErr result (λ e. e ≡ errors.Memory) }
-{
-    names.push(name)?;
-    Ok(())
-}
-
-/// Adds a word that stands for itself. Answers what is left.
-#[tactic(auto, using(crate::proofs::Standing::pushed))]
-fn add_plain(word: &str, left: Left, all: &mut Vec<String>) -> Result<Left, ResponseError>
-    ensures added { OnOk result (words_in all.new ≡ words_in all.old ++ word.now ∷ []) }
-    ensures files { IfOk result (λ now. now.files ≡ left.files) }
-    ensures bytes { IfOk result (λ now. now.bytes + 32 ≡ left.bytes) }
-    ensures cause { IfErr result (λ e. ((e ≡ errors.TooLong) × (left.bytes < 32))
-        ⊎ (e ≡ errors.Memory)) }
-{
-    let left = left_after(left, BYTES_OF_A_WORD)?;
-    all.push(String::from_str(*all.allocator(), word)?)?;
-    Ok(left)
-}
-
-/// A word is UTF-8.
-fn text_of(word: &[u8]) -> Result<&str, ResponseError>
-    ensures text { IfOk result (λ text. text.now ≡ word.now) }
-    ensures cause { IfErr result (λ e. (e ≡ errors.NotUtf8) × ¬ (IsUtf8 word.now)) }
-{
-    match str::from_utf8(word) {
-        Ok(text) => Ok(text),
-        Err(_) => Err(ResponseError::NotUtf8),
-    }
-}
-
-/// What a word is inside the files of these names.
+/// The file that a word names inside the files of these names: its name, its text, and what is left
+/// after it. None where the word stands for itself.
 #[tactic(auto, using(crate::proofs::Standing::flat_texts, crate::proofs::Standing::deep_texts))]
-fn open_word<'w, F: ResponseFiles>(
+fn open_word<F: ResponseFiles>(
     files: &F,
     alloc: Global,
-    word: &'w str,
+    word: &str,
     names: &[String],
     left: Left,
-) -> Result<Opened<'w>, ResponseError>
-    ensures { Opens (F.offer files.now) (F.fails files.now) (map string_bytes names.now)
-        word.entry.now left result }
+) -> Result<Option<(String, Vec<u8>, Left)>, ResponseError>
+    ensures { Opens (F.offer files.now) (F.fails files.now) (map string_bytes names.now) word.now
+        left result }
 {
-    let Some(name) = file_name(word) else {
-        return Ok(Opened::Word(word));
+    let Some(name) = word.strip_prefix("@") else {
+        return Ok(None);
     };
     if has_name(names, name) {
         return Err(ResponseError::Inside(String::from_str(alloc, name)?));
     }
-    match files.text(name, left.bytes)? {
-        None => Ok(Opened::Word(word)),
-        Some(text) => {
-            if MOST_DEEP <= names.len() {
-                return Err(ResponseError::TooDeep(String::from_str(alloc, name)?));
-            }
-            let left = left_after(with_file_less(left)?, text.len())?;
-            Ok(Opened::File(String::from_str(alloc, name)?, text, left))
-        }
+    let Some(text) = files.text(name, left.bytes)? else {
+        return Ok(None);
+    };
+    if MOST_DEEP <= names.len() {
+        return Err(ResponseError::TooDeep(String::from_str(alloc, name)?));
     }
-}
-
-/// The name that a word `@NAME` has.
-fn file_name(word: &str) -> Option<&str>
-    ensures { MatchOption result (name_in word.entry.now ≡ None) (λ name.
-        word.entry.now ≡ 64 ∷ name.now) }
-{
-    word.strip_prefix("@")
-}
-
-/// What is left where one file more is named.
-fn with_file_less(left: Left) -> Result<Left, ResponseError>
-    ensures files { IfOk result (λ now. now.files + 1 ≡ left.files) }
-    ensures bytes { IfOk result (λ now. now.bytes ≡ left.bytes) }
-    ensures cause { IfErr result (λ e. (e ≡ errors.TooMany) × (left.files ≡ 0)) }
-{
     if left.files == 0 {
         return Err(ResponseError::TooMany);
     }
-    Ok(Left {
+    let fewer = Left {
         files: left.files - 1,
         bytes: left.bytes,
-    })
+    };
+    let inside = left_after(fewer, text.len())?;
+    Ok(Some((String::from_str(alloc, name)?, text, inside)))
+}
+
+/// Whether a name is among those of files.
+fn has_name(names: &[String], name: &str) -> bool
+    ensures { result ≡ is_among (map string_bytes names.now) name.now }
+{
+    names.iter().any(|outer| outer.as_str() == name)
 }
 
 /// What is left after so many bytes.
@@ -337,30 +254,4 @@ fn left_after(left: Left, count: usize) -> Result<Left, ResponseError>
         files: left.files,
         bytes: left.bytes - count as u32,
     })
-}
-
-/// Whether a name is among those of files.
-#[tactic(auto, using(crate::proofs::Naming::any_mapped))]
-fn has_name(names: &[String], name: &str) -> bool
-    ensures { result ≡ is_among (map string_bytes names.now) name.now }
-{
-    is_any(names, name)
-}
-
-/// Whether some text is this one.
-fn is_any(texts: &[String], text: &str) -> bool
-    ensures { result ≡ list_any (λ outer. bytes_eq (string_bytes outer) text.now) texts.now }
-{
-    for outer in texts {
-        if is_text(outer, text) {
-            return true;
-        }
-    }
-    false
-}
-
-fn is_text(outer: &String, text: &str) -> bool
-    ensures { result ≡ bytes_eq (string_bytes outer.now) text.now }
-{
-    outer.as_str() == text
 }

@@ -5,9 +5,9 @@ ghost use Rattle.thorin_words.specs.Words.{behind, keeps, is_between, is_space, 
 
 use std::alloc::AllocError;
 
-/// Where a byte of the text stands.
+/// What is known where a byte of the text stands.
 #[derive(Clone, Copy)]
-pub(crate) enum Place {
+pub(crate) enum LexerState {
     /// Between two words.
     Between,
     /// In a word, behind this quotation mark where there is one.
@@ -16,33 +16,33 @@ pub(crate) enum Place {
     Escaped(Option<u8>),
 }
 
-impl Place {
-    /// The place behind a byte.
-    pub(crate) fn behind(self, byte: u8) -> Place
+impl LexerState {
+    /// The state behind a byte.
+    pub(crate) fn behind(self, byte: u8) -> LexerState
         ensures { result ≡ behind self byte }
     {
         let quote = match self {
-            Place::Between => None,
-            Place::Inside(quote) => quote,
-            Place::Escaped(quote) => return Place::Inside(quote),
+            LexerState::Between => None,
+            LexerState::Inside(quote) => quote,
+            LexerState::Escaped(quote) => return LexerState::Inside(quote),
         };
         match quote {
-            _ if byte == b'\\' => Place::Escaped(quote),
-            Some(mark) if byte == mark => Place::Inside(None),
-            Some(_) => Place::Inside(quote),
-            None if is_space(byte) => Place::Between,
-            None if is_mark(byte) => Place::Inside(Some(byte)),
-            None => Place::Inside(None),
+            _ if byte == b'\\' => LexerState::Escaped(quote),
+            Some(mark) if byte == mark => LexerState::Inside(None),
+            Some(_) => LexerState::Inside(quote),
+            None if is_space(byte) => LexerState::Between,
+            None if is_mark(byte) => LexerState::Inside(Some(byte)),
+            None => LexerState::Inside(None),
         }
     }
 
-    /// Whether a byte at this place belongs to the word.
+    /// Whether a byte in this state belongs to the word.
     pub(crate) fn keeps(self, byte: u8) -> bool
         ensures { result ≡ keeps self byte }
     {
         match self {
-            Place::Escaped(_) => true,
-            Place::Inside(Some(mark)) => byte != b'\\' && byte != mark,
+            LexerState::Escaped(_) => true,
+            LexerState::Inside(Some(mark)) => byte != b'\\' && byte != mark,
             _ => byte != b'\\' && !is_mark(byte) && !is_space(byte),
         }
     }
@@ -50,7 +50,7 @@ impl Place {
     pub(crate) fn is_between(self) -> bool
         ensures { result ≡ is_between self }
     {
-        matches!(self, Place::Between)
+        matches!(self, LexerState::Between)
     }
 }
 
@@ -84,18 +84,18 @@ pub(crate) fn next_word(
     ensures { IfOk result (IsNext text.now start word.new.items) }
 {
     word.clear();
-    let mut place = Place::Between;
+    let mut state = LexerState::Between;
     for i in start..text.len() {
         let byte = text[i];
-        let was = place;
-        place = was.behind(byte);
+        let was = state;
+        state = was.behind(byte);
         if was.keeps(byte) {
             word.push(byte)?;
-        } else if place.is_between() && !was.is_between() {
+        } else if state.is_between() && !was.is_between() {
             return Ok(Some(i + 1));
         }
     }
-    if place.is_between() {
+    if state.is_between() {
         Ok(None)
     } else {
         Ok(Some(text.len()))

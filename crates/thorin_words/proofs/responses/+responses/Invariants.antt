@@ -3,14 +3,11 @@ use Rattle.thorin_words.specs.Responses.{words_in, Leaves}
 use Rattle.thorin_words.specs.Words.{words_of}
 use Rattle.thorin_words.proofs.responses.+responses.Given as goal
 
-abbrev pub decreases-add_file : goal.decreases-add_file
-decreases-add_file g l = 3 * l.left.files + 2
-
 abbrev pub decreases-add_text : goal.decreases-add_text
-decreases-add_text g l = 3 * l.left.files + 1
+decreases-add_text g l = 2 * l.left.files + 1
 
 abbrev pub decreases-add_word : goal.decreases-add_word
-decreases-add_word g l = 3 * l.left.files
+decreases-add_word g l = 2 * l.left.files
 
 -- what the words stand for that were read, in front of what the rest does
 abbrev pub invariant-add_text-loop-word : goal.invariant-add_text-loop-word

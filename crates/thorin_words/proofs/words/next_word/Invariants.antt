@@ -7,6 +7,6 @@ use Rattle.thorin_words.proofs.words.next_word.Given as goal
 abbrev pub invariant-loop-i : goal.invariant-loop-i
 invariant-loop-i l = record {
   words : words_of (drop l.start l.text) ≡ prefix l.word.items
-      (words_from l.place (drop l.i l.text));
-  begun : is_between l.place ≡ false → l.start < l.i;
+      (words_from l.state (drop l.i l.text));
+  begun : is_between l.state ≡ false → l.start < l.i;
 }
