@@ -1,21 +1,16 @@
 -- What is read of a peer's line: its name, and its words with whole names.
-use Rattle.std.proofs.Common.{◌≡◌, ◌∙◌, ◌++◌, ◌==◌, ◌||◌, ◌&&◌, ap, sym, refl, Bool, true, false, ℕ}
-use Rattle.std.proofs.Common.{List, [], ◌∷◌, Option, Some, None, MatchOption, is_some, not, arith}
+use Rattle.std.proofs.Common.{◌≡◌, ◌∙◌, ◌++◌, ◌==◌, ◌||◌, ap, sym, refl, Bool, true, false, ℕ}
+use Rattle.std.proofs.Common.{[], ◌∷◌, Option, Some, None, MatchOption, is_some, arith}
 use Rattle.std.proofs.Common.{◌+◌, ◌<◌, ◌≤◌, ◌≢◌, ap₂, drop, get_or, length, take, take-append-drop}
 use Rattle.std.specs.Borrow.{Bor}
 use Rattle.std.specs.Str.Pattern.{RFindsChar}
 use Rattle.std.proofs.lemmas.Str.Pattern.{NoCharPasses-char, drop_at_char}
 use Rattle.clap.proofs.CutLemmas.{list_any-Lacks}
-use Rattle.std.specs.Prelude.{String, codes, if◌then◌else◌, option_map, string_bytes}
+use Rattle.std.specs.Prelude.{if◌then◌else◌, option_map}
 use Rattle.std.specs.List.{list_any}
-use Rattle.std.specs.Str.{bytes_eq}
-use Rattle.std.specs.declared.alloc.Global.{Global}
 use Rattle.std.proofs.lemmas.Bool.Decides.{nat_tests}
-use Rattle.std.proofs.lemmas.List.{append_assoc, map-append}
 use Rattle.clap.specs.Walk.{Text}
-use Rattle.thorin_arguments.specs.Asked.{words_in}
 use Rattle.thorin_arguments.specs.Peers.{last_part, last_part_in}
-use Rattle.thorin_arguments.specs.Whole.{completed, whole_word}
 
 pub kept : {X Y : Type 0} (f : X → Y) (o : Option X) → is_some o ≡ is_some (option_map f o)
 kept f (Some x) = refl
@@ -61,35 +56,3 @@ last_part-cut mark text (Some (front, rest)) low h =
           ∙ last_part-none mark rest.now rest.now (list_any-Lacks mark rest.now lacks),
       parts,
     )
-
--- ---- the words of a line
-
-abbrev pub rest_of : (of_llvm takes : Bool) → (names rest : List Text) → List Text
-rest_of of_llvm takes names rest = if takes then completed of_llvm names rest else rest
-
-pushed : (done : List (String Global)) (text : String Global) (rest : List Text)
-    → words_in (done ++ text ∷ []) ++ rest ≡ words_in done ++ string_bytes text ∷ rest
-pushed done text rest = ap (λ l. l ++ rest) (map-append string_bytes done (text ∷ []))
-    ∙ append_assoc (words_in done) (string_bytes text ∷ []) rest
-
-step : (of_llvm takes is_end : Bool) (names : List Text) (word : Text) (rest : List Text)
-    → bytes_eq word (codes "--") ≡ is_end
-    → (if takes && not is_end then whole_word of_llvm names word else word)
-    ∷ rest_of of_llvm (takes && not is_end) names rest
-    ≡ rest_of of_llvm takes names (word ∷ rest)
-step of_llvm false is_end names word rest e = refl
-step of_llvm true true names word rest e = sym (ap (λ b. if b then word ∷ rest
-    else whole_word of_llvm names word ∷ completed of_llvm names rest) e)
-step of_llvm true false names word rest e = sym (ap (λ b. if b then word ∷ rest
-    else whole_word of_llvm names word ∷ completed of_llvm names rest) e)
-
-pub one_word : (of_llvm takes is_end : Bool) (names : List Text) (done : List (String Global))
-    (text : String Global) (word : Text) (rest all : List Text)
-    → words_in done ++ rest_of of_llvm takes names (word ∷ rest) ≡ all
-    → bytes_eq word (codes "--") ≡ is_end
-    → string_bytes text ≡ (if takes && not is_end then whole_word of_llvm names word else word)
-    → words_in (done ++ text ∷ []) ++ rest_of of_llvm (takes && not is_end) names rest ≡ all
-one_word of_llvm takes is_end names done text word rest all h e is =
-    pushed done text (rest_of of_llvm (takes && not is_end) names rest)
-    ∙ (ap (λ t. words_in done ++ t ∷ rest_of of_llvm (takes && not is_end) names rest) is
-    ∙ (ap (λ l. words_in done ++ l) (step of_llvm takes is_end names word rest e) ∙ h))

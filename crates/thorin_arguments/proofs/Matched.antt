@@ -138,10 +138,6 @@ module _ {S : Type 0} (does : S → Call → ℕ → S → Type 0) (named : Opti
       → Does does (IsCallOf line) old status new
   by_name is d = subst (λ n. Does does (IsCallBy n line) old status new) is d
 
-  pub does_lack : IsStatusOf calls.LacksMemory status → does old calls.LacksMemory status new
-      → Does does (IsCallBy named line) old status new
-  does_lack s d = (calls.LacksMemory, inl tt, s, d)
-
   module _ (e : Error) (h : IsUnread named line e) (other : kind_of e ≢ kinds.OutOfMemory) where
     pub does_refuse : ¬ IsText (kind_of e) → IsStatusOf calls.Refuses status
         → does old calls.Refuses status new → Does does (IsCallBy named line) old status new

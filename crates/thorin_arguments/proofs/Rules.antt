@@ -124,7 +124,7 @@ two_more names one two a b e f = ap texts (f ∙ ap (λ l. l ++ b ∷ []) e)
     ∙ (ap (λ l. l ++ b.now ∷ []) (map-append (λ s. s.now) names (a ∷ []))
     ∙ append_assoc (texts names) (a.now ∷ []) (b.now ∷ [])))
 
-abbrev longs : List Rule → List Text
+abbrev pub longs : List Rule → List Text
 longs rules = filter_map (λ rule. rule.long) rules
 
 -- the names that a peer's grammar has: those of its words, whatever the values of these are

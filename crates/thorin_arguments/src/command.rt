@@ -12,7 +12,7 @@ use crate::texts::{
     CHECK_EXAMPLES, EXAMPLES, FIND_EXAMPLES, LIST_EXAMPLES, PACK_EXAMPLES, PEER_NOTES,
 };
 use crate::whole::is_of_llvm;
-use crate::words::{Word, args_of, is_named, names_of};
+use crate::words::{Word, args_of, is_named, long_name};
 use clap::Command;
 use std::alloc::{AllocError, Global};
 
@@ -285,7 +285,13 @@ pub(crate) fn takers_of(alloc: Global, option: &str) -> Result<String, AllocErro
 pub(crate) fn long_names(alloc: Global, peer: &str) -> Result<Vec<&'static str>, AllocError>
     ensures { IfOk result (λ names. AreLongNames peer.now (texts names.items)) }
 {
-    let mut names = names_of(alloc, peer_words(is_of_llvm(peer)))?;
+    let words = peer_words(is_of_llvm(peer));
+    let mut names = Vec::new(alloc);
+    for word in words {
+        if let Some(name) = long_name(*word) {
+            names.push(name)?;
+        }
+    }
     names.push("help")?;
     names.push("version")?;
     Ok(names)
@@ -311,13 +317,6 @@ pub(crate) fn peer<'a>(
     .args_override_self(true)
     .args(args)?
     .bin_name(name)
-}
-
-/// A peer's command line as errors show it: the value of LLVM's option may be left out.
-pub(crate) fn shown<'a>(command: Command<'a>) -> Result<Command<'a>, AllocError> {
-    command.mut_arg("continue-on-cu-index-overflow", |arg| {
-        Ok(arg.num_args(0..=1).require_equals(true))
-    })
 }
 
 /// A command with its texts: what it does, and what stands below its options.

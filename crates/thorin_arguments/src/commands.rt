@@ -18,17 +18,9 @@ pub fn dispatch<C: Commands>(matches: &ArgMatches<'_>, is_peer: bool, commands: 
     if is_peer {
         return commands.pack(arguments_of(matches, true));
     }
-    match matches.subcommand() {
-        Some((name, matches)) => dispatch_to(name, matches, commands),
-        None => commands.refuse_words(),
-    }
-}
-
-/// Does what the words behind a command's name ask for, and answers the status.
-fn dispatch_to<C: Commands>(name: &str, matches: &ArgMatches<'_>, commands: &mut C) -> u8
-    ensures { Does C.does (AsksBy name.now (rows_of (found_of matches.now))) commands.old result
-        commands.new }
-{
+    let Some((name, matches)) = matches.subcommand() else {
+        return commands.refuse_words();
+    };
     match name {
         "pack" => commands.pack(arguments_of(matches, false)),
         "find" => find(matches, commands),
@@ -38,10 +30,26 @@ fn dispatch_to<C: Commands>(name: &str, matches: &ArgMatches<'_>, commands: &mut
     }
 }
 
+/// Looks up the unit that the words name.
+fn find<C: Commands>(matches: &ArgMatches<'_>, commands: &mut C) -> u8
+    ensures { Does C.does (AsksBy (codes "find") (rows_of (found_of matches.now))) commands.old
+        result commands.new }
+{
+    commands.find(FindArguments {
+        file: word_of(matches, "file"),
+        kind: word_of(matches, "kind"),
+        id: word_of(matches, "id"),
+        string: value_of(matches, "string"),
+        section: value_of(matches, "section"),
+        decompresses: has_flag(matches, "decompress"),
+        json: has_flag(matches, "json"),
+    })
+}
+
 /// Lists the package that the words name.
 fn list<C: Commands>(matches: &ArgMatches<'_>, commands: &mut C) -> u8
-    ensures { Does C.does (AsksBy (codes "list") (rows_of (found_of matches.now))) commands.old result
-        commands.new }
+    ensures { Does C.does (AsksBy (codes "list") (rows_of (found_of matches.now))) commands.old
+        result commands.new }
 {
     let arguments = ListArguments {
         sizes: has_flag(matches, "sizes"),
@@ -55,29 +63,13 @@ fn list<C: Commands>(matches: &ArgMatches<'_>, commands: &mut C) -> u8
 
 /// Checks the package that the words name, for the executables that they name.
 fn check<C: Commands>(matches: &ArgMatches<'_>, commands: &mut C) -> u8
-    ensures { Does C.does (AsksBy (codes "check") (rows_of (found_of matches.now))) commands.old result
-        commands.new }
+    ensures { Does C.does (AsksBy (codes "check") (rows_of (found_of matches.now))) commands.old
+        result commands.new }
 {
     commands.check(CheckArguments {
         file: word_of(matches, "file"),
         executables: values_of(matches, "exec").unwrap_or(&[]),
         skips_nameless: has_flag(matches, "skip-nameless"),
-        decompresses: has_flag(matches, "decompress"),
-        json: has_flag(matches, "json"),
-    })
-}
-
-/// Looks up the unit that the words name.
-fn find<C: Commands>(matches: &ArgMatches<'_>, commands: &mut C) -> u8
-    ensures { Does C.does (AsksBy (codes "find") (rows_of (found_of matches.now))) commands.old result
-        commands.new }
-{
-    commands.find(FindArguments {
-        file: word_of(matches, "file"),
-        kind: word_of(matches, "kind"),
-        id: word_of(matches, "id"),
-        string: value_of(matches, "string"),
-        section: value_of(matches, "section"),
         decompresses: has_flag(matches, "decompress"),
         json: has_flag(matches, "json"),
     })

@@ -31,16 +31,10 @@ const EXEC_TIP: &'static str = "an executable is named behind '-e'";
 pub fn run<C: Commands>(alloc: Global, words: &[String], commit: &str, commands: &mut C) -> u8
     ensures called { Does C.does (IsCallOf (words_in words.now)) commands.old result commands.new }
 {
-    match command::version_with(alloc, command::VERSION, commit) {
-        Ok(version) => run_version(alloc, words, version.as_str(), commands),
-        Err(AllocError) => commands.lack_memory(),
-    }
-}
-
-/// Does what a command line asks for, in a program of this version.
-fn run_version<C: Commands>(alloc: Global, words: &[String], version: &str, commands: &mut C) -> u8
-    ensures { Does C.does (IsCallOf (words_in words.now)) commands.old result commands.new }
-{
+    let Ok(version) = command::version_with(alloc, command::VERSION, commit) else {
+        return commands.lack_memory();
+    };
+    let version = version.as_str();
     match peer_name(words) {
         Some(name) => match completed(alloc, name, words) {
             Ok(whole) => run_as(alloc, Some(name), version, whole.as_slice(), commands),
@@ -87,7 +81,11 @@ fn refusal(
         shown.push(printed(alloc, word.as_str())?)?;
     }
     let peer = peer_name(shown.as_slice());
-    let mut command = command::shown(command_line(alloc, peer, version)?)?;
+    // As errors show it, the value of LLVM's option may be left out.
+    let mut command = command_line(alloc, peer, version)?.mut_arg(
+        "continue-on-cu-index-overflow",
+        |arg| { Ok(arg.num_args(0..=1).require_equals(true)) },
+    )?;
     let again = read_by(alloc, &mut command, peer.is_some(), shown.as_slice());
     drop(command);
     match again {

@@ -12,7 +12,8 @@ use std::alloc::{AllocError, Global};
 
 const OVERFLOW: &'static str = "-continue-on-cu-index-overflow";
 
-/// The words of a line of the peer of this name, as its grammar has them.
+/// The words of a line of the peer of this name, as its grammar has them: long options, up to a
+/// word `--`, have whole names.
 pub(crate) fn completed(
     alloc: Global,
     name: &str,
@@ -21,26 +22,14 @@ pub(crate) fn completed(
     ensures { IfOk result (λ whole.
         AreReadAs (Some name.now) (words_in words.now) (words_in whole.items)) }
 {
+    let of_llvm = is_of_llvm(name);
     let names = command::long_names(alloc, name)?;
-    completed_by(alloc, is_of_llvm(name), names.as_slice(), words)
-}
-
-/// The words of a line whose long options have these names, up to a word `--`.
-fn completed_by(
-    alloc: Global,
-    of_llvm: bool,
-    names: &[&str],
-    words: &[String],
-) -> Result<Vec<String>, AllocError>
-    ensures { IfOk result (λ whole. words_in whole.items
-        ≡ spec.completed of_llvm (texts names.now) (words_in words.now)) }
-{
     let mut whole = Vec::with_capacity(alloc, words.len())?;
     let mut takes_options = true;
     for word in words {
         takes_options = takes_options && word.as_str() != "--";
         if takes_options {
-            whole.push(whole_word(alloc, of_llvm, names, word.as_str())?)?;
+            whole.push(whole_word(alloc, of_llvm, names.as_slice(), word.as_str())?)?;
         } else {
             whole.push(String::from_str(alloc, word.as_str())?)?;
         }

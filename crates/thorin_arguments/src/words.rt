@@ -1,7 +1,6 @@
 //! The words that a command line may have, and what clap makes of them.
 
-ghost use Rattle.std.specs.Prelude.{◌≡◌, IfOk, Some, filter_map, map, option_map};
-ghost use Rattle.clap.specs.Walk.{texts};
+ghost use Rattle.std.specs.Prelude.{◌≡◌, IfOk, Some, map, option_map};
 ghost use Rattle.clap.specs.Words.{new_rule, rule_of};
 ghost use Rattle.thorin_arguments.specs.Grammar as grammar;
 ghost use Rattle.thorin_arguments.specs.Rules.{rule_in};
@@ -52,7 +51,7 @@ pub(crate) fn is_named(word: Word, option: &str) -> bool {
 }
 
 /// The long name of an option.
-fn long_name(word: Word) -> Option<&'static str>
+pub(crate) fn long_name(word: Word) -> Option<&'static str>
     ensures { option_map (λ s. s.now) result ≡ (rule_in word).long }
 {
     match word {
@@ -67,20 +66,6 @@ fn long_name(word: Word) -> Option<&'static str>
     }
 }
 
-/// The names of the long options among words.
-pub(crate) fn names_of(alloc: Global, words: &[Word]) -> Result<Vec<&'static str>, AllocError>
-    ensures { IfOk result (λ names. texts names.items
-        ≡ filter_map (λ rule. rule.long) (map rule_in words.now)) }
-{
-    let mut names = Vec::new(alloc);
-    for word in words {
-        if let Some(name) = long_name(*word) {
-            names.push(name)?;
-        }
-    }
-    Ok(names)
-}
-
 /// Words in clap's terms.
 pub(crate) fn args_of<'a>(alloc: Global, words: &[Word]) -> Result<Vec<Arg<'a>>, AllocError>
     ensures { IfOk result (λ args. map rule_of args.items ≡ map rule_in words.now) }
@@ -93,7 +78,7 @@ pub(crate) fn args_of<'a>(alloc: Global, words: &[Word]) -> Result<Vec<Arg<'a>>,
 }
 
 /// A word in clap's terms.
-pub(crate) fn arg_of<'a>(alloc: Global, word: Word) -> Arg<'a>
+fn arg_of<'a>(alloc: Global, word: Word) -> Arg<'a>
     ensures { rule_of result ≡ rule_in word }
 {
     match word {

@@ -1,10 +1,19 @@
+use Rattle.std.proofs.Common.{◌≡◌, ◌∙◌, ◌++◌, ap, append-nil, arith, map, sym}
+use Rattle.std.proofs.lemmas.List.{drop_all}
 use Rattle.clap.specs.Walk.{texts}
-use Rattle.thorin_arguments.proofs.Rules.{are_long_names, two_more}
+use Rattle.thorin_arguments.specs.Rules.{rule_in}
+use Rattle.thorin_arguments.proofs.Rules.{are_long_names, longs, two_more}
 use Rattle.thorin_arguments.proofs.command.long_names.Goals as goal
 
 pub returns : goal.returns
-returns c = are_long_names c.args.peer.now c.peer_words.result.now
-    (texts c.in_ok-names.names.items) (texts c.push-2.new.self.items)
-    (rw c.is_of_llvm.ensures at c.peer_words.ensures) c.in_ok-names.ensures
-    (two_more c.in_ok-names.names.items c.push.new.self.items c.push-2.new.self.items _ _
-    c.in_ok-push.ensures.items c.in_ok-push-2.ensures.items)
+returns c =
+    let words = c.peer_words-words.result.now in
+    let own : texts c.loop-word.names.items ≡ longs (map rule_in words) =
+    sym (append-nil (texts c.loop-word.names.items))
+    ∙ ap (λ rest. texts c.loop-word.names.items ++ longs (map rule_in rest))
+    (sym (drop_all c.loop-word.word-index words (omega arith)))
+    ∙ c.loop-word.invariant in
+    are_long_names c.args.peer.now words (texts c.loop-word.names.items)
+    (texts c.push-3.new.self.items) (rw c.is_of_llvm.ensures at c.peer_words-words.ensures) own
+    (two_more c.loop-word.names.items c.push-2.new.self.items c.push-3.new.self.items _ _
+    c.in_ok-push-2.ensures.items c.in_ok-push-3.ensures.items)

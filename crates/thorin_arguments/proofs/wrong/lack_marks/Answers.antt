@@ -1,24 +1,20 @@
-use Rattle.std.proofs.Common.{◌≡◌, ◌∙◌, ◌||◌, ap, sym, refl, List, [], ◌∷◌, Bool, map, rules}
+use Rattle.std.proofs.Common.{◌≡◌, ◌∙◌, ap, refl, List, [], map, rules}
 use Rattle.std.proofs.Common.{tests}
 use Rattle.std.specs.Prelude.{Option, None, Some, option_map, unwrap_or}
 use Rattle.std.specs.Borrow.{Bor}
 use Rattle.std.specs.List.{list_any}
 use Rattle.std.proofs.lemmas.Iterator.{YieldsList-from_slice}
 use Rattle.std.proofs.lemmas.Iterator.Search.{any_from_yields_List}
+use Rattle.clap.proofs.WalkLemmas.{list_any-map}
 use Rattle.clap.specs.Walk.{Text}
 use Rattle.thorin_arguments.specs.Wrong.{lacks_mark}
 use Rattle.thorin_arguments.proofs.wrong.lack_marks.Goals as goal
-
-any_mapped : {X Y : Type 0} (p : Y → Bool) (f : X → Y) (xs : List X)
-    → list_any p (map f xs) ≡ list_any (λ x. p (f x)) xs
-any_mapped p f [] = refl
-any_mapped p f (x ∷ xs) = ap (λ b. p (f x) || b) (any_mapped p f xs)
 
 in_values : (o : Option (Bor (List (Bor Text)))) (none : Bor (List (Bor Text)))
     (all : Option (List Text)) → option_map (λ s. map (λ v. v.now) s.now) o ≡ all → none.now ≡ []
     → list_any (λ v. lacks_mark v.now) (unwrap_or o none).now
     ≡ list_any lacks_mark (unwrap_or all [])
-in_values (Some s) none all e f = sym (any_mapped lacks_mark (λ (v : Bor Text). v.now) s.now)
+in_values (Some s) none all e f = list_any-map lacks_mark (λ (v : Bor Text). v.now) s.now
     ∙ ap (λ a. list_any lacks_mark (unwrap_or a [])) e
 in_values None none all e f = ap (λ (l : List (Bor Text)). list_any (λ v. lacks_mark v.now) l) f
     ∙ ap (λ a. list_any lacks_mark (unwrap_or a [])) e

@@ -2,7 +2,7 @@ use Rattle.std.proofs.Common.{◌≡◌, ◌++◌, drop, map}
 use Rattle.std.specs.Prelude.{filter_map}
 use Rattle.clap.specs.Walk.{texts}
 use Rattle.thorin_arguments.specs.Rules.{rule_in}
-use Rattle.thorin_arguments.proofs.words.names_of.Given as goal
+use Rattle.thorin_arguments.proofs.command.long_names.Given as goal
 
 -- the names so far, and those of the words that are left
 abbrev pub invariant-loop-word : goal.invariant-loop-word
