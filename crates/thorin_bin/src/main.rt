@@ -9,7 +9,8 @@ use std::io::IsTerminal;
 use std::process::ExitCode;
 use std::{env, io};
 use thorin_cli::{
-    Console, CountedFiles, Facts, HostReader, HostResponses, Lines, Readers, Watched, WatchedLines,
+    Console, Facts, HostFiles, HostReader, HostResponses, Lines, Readers, WatchedLines,
+    WatchedWriter,
 };
 
 /// The variable of the environment that says how many milliseconds packing takes before a terminal
@@ -22,7 +23,7 @@ const MOST_BYTES: usize = 0x2_0000;
 /// Hands the words, what is known of where the program runs, the system's files and the standard
 /// streams to `thorin_cli::run`, and ends with its status.
 fn main(rt: HostRuntime) -> ExitCode {
-    let mut out = Watched::new(rt.stdout());
+    let mut out = WatchedWriter::new(rt.stdout());
     let mut stderr = rt.stderr();
     let facts = Facts {
         commit: COMMIT,
@@ -33,7 +34,7 @@ fn main(rt: HostRuntime) -> ExitCode {
     let host = &rt;
     let console = Console::new(host, &mut stderr);
     let lent = &console;
-    let mut files = CountedFiles::new(host, lent);
+    let mut files = HostFiles::new(host, lent);
     let hosts = (HostReader::new(host), HostResponses::new(host));
     let hosts = &hosts;
     let mut err = WatchedLines::new(Lines(lent));
@@ -58,10 +59,7 @@ fn main(rt: HostRuntime) -> ExitCode {
 
 /// The milliseconds that the environment says, or a second's.
 fn patience(rt: &HostRuntime) -> u64 {
-    match env::var(rt, PATIENCE) {
-        Ok(text) => text.parse::<u64>().unwrap_or(1000),
-        Err(_error) => 1000,
-    }
+    env::var(rt, PATIENCE).map_or(1000, |text| text.parse::<u64>().unwrap_or(1000))
 }
 
 /// The words of the command line, the program's name among them. Each is read into `word`, which

@@ -7,12 +7,12 @@ use Rattle.thorin_words.specs.declared.responses.ResponseError.{ResponseError}
 use Rattle.thorin_arguments.specs.Asked.{Call, IsCallOf, IsStatusOf}
 use Rattle.thorin_arguments.specs.Peers.{is_peer}
 use Rattle.thorin_cli.specs.Doing.{DoesCall, Runs, State, System}
-use Rattle.thorin_cli.specs.declared.manner.Manner.{Manner}
+use Rattle.thorin_cli.specs.declared.manner.ProgramManner.{ProgramManner}
 
 module _ {F O E : Type 0} (system : System F O E) (text : Text → Option Text → Type 0)
     (fails : Text → ResponseError → Type 0) (on_terminal : Bool) (program : Text)
     (line own words : List Text) (whole : Text × List Text)
-    (old new : State F O E) (status : ℕ) (manner : Manner) (files : F) (out : O) (err : E)
+    (old new : State F O E) (status : ℕ) (manner : ProgramManner) (files : F) (out : O) (err : E)
     (Files Out Error : Type 0) where
   -- one call was made, and the files and streams that it left are those that are there now
   pub ran : (program, line) ≡ whole → words ≡ program ∷ own → Stands text [] line (Ok own)

@@ -30,7 +30,7 @@ use Rattle.thorin_arguments.specs.Asked.{Call, Does, IsCallOf}
 use Rattle.thorin_arguments.specs.Peers.{is_peer}
 use Rattle.thorin_cli.specs.Settings.{list_form, packing_for, reading_for, words_for}
 use Rattle.thorin_cli.specs.Telling.{response_text}
-use Rattle.thorin_cli.specs.declared.manner.Manner.{Manner}
+use Rattle.thorin_cli.specs.declared.manner.ProgramManner.{ProgramManner}
 
 -- what is known of a system: what a read of a file that is packed may answer, by what it may be
 -- known, and which were begun; what standard output has, and that a write to it failed; what
@@ -127,7 +127,7 @@ abbrev pub HasRefused : {F O E : Type 0} → System F O E → (new : State F O E
 HasRefused system new status = (status ≡ 2) ⊎ ((status ≡ 1) × system.untold new.err)
 
 -- what a call does, and its status
-abbrev pub DoesCall : {F O E : Type 0} → System F O E → Manner → (old : State F O E) → Call
+abbrev pub DoesCall : {F O E : Type 0} → System F O E → ProgramManner → (old : State F O E) → Call
     → (status : ℕ) → (new : State F O E) → Type 0
 DoesCall system manner old (calls.Packs a) status new =
     Answers system new

@@ -6,14 +6,14 @@ use Rattle.thorin_commands.specs.Taken.{Offer}
 use Rattle.thorin_print.specs.Watching.{LacksLine}
 use Rattle.thorin_print.specs.declared.line_output.WatchedLines.{WatchedLines}
 use Rattle.thorin_terminal.specs.Watching.{failure_of}
-use Rattle.thorin_terminal.specs.declared.pipes.Watched.{Watched}
+use Rattle.thorin_terminal.specs.declared.pipes.WatchedWriter.{WatchedWriter}
 use Rattle.thorin_cli.specs.Doing.{State, System}
 use Rattle.thorin_cli.specs.declared.program.Program.{Program}
 
 -- a system whose standard output and standard error are watched
 abbrev pub system : {F O E : Type 0} → (F → Offer) → (F → List ℕ → Identity → Type 0)
     → (F → Option (List Begun)) → (O → Option (List ℕ)) → (E → Option (List ℕ)) → Offer
-    → System F (Watched O) (WatchedLines E)
+    → System F (WatchedWriter O) (WatchedLines E)
 system offer known begun contents told read = record {
   offer = offer;
   known = known;
@@ -26,7 +26,7 @@ system offer known begun contents told read = record {
 }
 
 module _ {F R O E : Type 0} where
-  abbrev pub state_of : Program F R O E → State F (Watched O) (WatchedLines E)
+  abbrev pub state_of : Program F R O E → State F (WatchedWriter O) (WatchedLines E)
   state_of program =
       record { files = program.files.now; out = program.out.now; err = program.err.now }
 

@@ -21,7 +21,7 @@ use Rattle.thorin_arguments.specs.declared.asking.PackArguments.{PackArguments}
 use Rattle.thorin_arguments.specs.declared.asking.FindArguments.{FindArguments}
 use Rattle.thorin_arguments.specs.declared.asking.ListArguments.{ListArguments}
 use Rattle.thorin_arguments.specs.declared.asking.CheckArguments.{CheckArguments}
-use Rattle.thorin_cli.specs.declared.manner.Manner.{Manner}
+use Rattle.thorin_cli.specs.declared.manner.ProgramManner.{ProgramManner}
 
 abbrev pub nameless_units : (are_skipped : Bool) → NamelessUnits
 nameless_units are_skipped = if are_skipped then PassedOver else Refused
@@ -33,15 +33,15 @@ form_of as_json = if as_json then Json else Lines
 
 -- where no word says which warnings are printed: a peer prints none, a terminal is told once, and
 -- else each is told, as where the words ask for more lines
-abbrev pub usual_warnings : Manner → (verbose : Bool) → Warnings
+abbrev pub usual_warnings : ProgramManner → (verbose : Bool) → Warnings
 usual_warnings manner verbose = if manner.of_peer then Never
     else if manner.on_terminal && not verbose then Once else Each
 
-abbrev pub warnings_for : Manner → PackArguments → Warnings
+abbrev pub warnings_for : ProgramManner → PackArguments → Warnings
 warnings_for manner a = unwrap_or (option_and_then (λ word. warnings_of word.now) a.warnings)
     (usual_warnings manner a.verbose)
 
-abbrev pub macros_for : Manner → PackArguments → KeptMacros
+abbrev pub macros_for : ProgramManner → PackArguments → KeptMacros
 macros_for manner a = if a.drops_macros then macros.None
     else if a.keeps_last_macros || manner.of_peer then macros.Last else macros.All
 
@@ -53,7 +53,7 @@ warns kept warnings = false
 
 -- a peer keeps an object's last macros, opens archives, passes over units that name no object, and
 -- makes an empty package where nothing is split
-abbrev pub packing_for : Manner → PackArguments → Packing
+abbrev pub packing_for : ProgramManner → PackArguments → Packing
 packing_for manner a = record {
   output = a.output;
   inputs = a.inputs;

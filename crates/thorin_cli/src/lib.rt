@@ -18,8 +18,8 @@ mod program;
 mod settings;
 mod system;
 
-pub use crate::manner::{Facts, Manner};
-use crate::notes::{note_not_text, note_unread, put_note};
+pub use crate::manner::{Facts, ProgramManner};
+use crate::notes::{note_response, put_note};
 use crate::program::Program;
 pub use crate::system::{NotedReader, Readers};
 use std::alloc::{AllocError, Global};
@@ -29,7 +29,7 @@ use thorin_arguments::is_peer;
 pub use thorin_find::HostReader;
 pub use thorin_print::{Failure, WatchedLines};
 use thorin_print::{Form, put_spelled};
-pub use thorin_terminal::{Console, CountedFiles, HostResponses, Lines, Watched};
+pub use thorin_terminal::{Console, HostFiles, HostResponses, Lines, WatchedWriter};
 use thorin_terminal::{NotedFiles, NotedResponses};
 use thorin_words::{ResponseError, expanded, printed};
 
@@ -45,7 +45,7 @@ pub fn run<F: NotedFiles, R: NotedReader, P: NotedResponses, S: AsStr, O: Write,
     facts: Facts<'_>,
     files: &mut F,
     readers: Readers<'_, R, P>,
-    out: &mut Watched<O>,
+    out: &mut WatchedWriter<O>,
     err: &mut WatchedLines<E>,
 ) -> u8
     ensures did { Runs (record {
@@ -65,11 +65,10 @@ pub fn run<F: NotedFiles, R: NotedReader, P: NotedResponses, S: AsStr, O: Write,
     let (program, line) = named_program(words);
     match expanded(alloc, readers.responses, program, line) {
         Ok(words) => {
-            let manner = Manner {
+            let manner = ProgramManner {
                 of_peer: is_peer(program),
                 on_terminal: facts.on_terminal,
             };
-            files.seek(manner.of_peer);
             let mut program = Program {
                 alloc,
                 manner,
@@ -82,9 +81,9 @@ pub fn run<F: NotedFiles, R: NotedReader, P: NotedResponses, S: AsStr, O: Write,
             thorin_arguments::run(alloc, words.as_slice(), facts.commit, &mut program)
         }
         Err(error) => {
-            let status = refuse_response(alloc, err, &error);
+            refuse_response(alloc, err, &error);
             note_response(alloc, readers.responses, &error, &mut err.writer);
-            status
+            1
         }
     }
 }
@@ -112,10 +111,9 @@ fn is_peer_name(word: &str) -> bool
     !word.as_bytes().contains(&b'/') && is_peer(word)
 }
 
-/// Prints why the words of a command line can't be told, and answers the status.
-fn refuse_response<E: Write>(alloc: Global, err: &mut WatchedLines<E>, error: &ResponseError) -> u8
-    ensures status { result ≡ 1 }
-    ensures told { HasTriedOr no_memory (E.contents err.old.writer) err.new
+/// Prints why the words of a command line can't be told.
+fn refuse_response<E: Write>(alloc: Global, err: &mut WatchedLines<E>, error: &ResponseError)
+    ensures { HasTriedOr no_memory (E.contents err.old.writer) err.new
         (E.contents err.new.writer) (response_text error.now) }
 {
     match error {
@@ -129,47 +127,9 @@ fn refuse_response<E: Write>(alloc: Global, err: &mut WatchedLines<E>, error: &R
     }
 }
 
-/// Prints the note on a response file that can't be read, or isn't text.
-#[tactic(auto, using(thorin_print::proofs::Printed::grown))]
-fn note_response<P: NotedResponses, E: Write>(
-    alloc: Global,
-    files: &P,
-    error: &ResponseError,
-    err: &mut E,
-)
-    ensures { Grows (E.contents err.old) (E.contents err.new) }
-{
-    note_unread_response(alloc, files, err);
-    note_bad_text(alloc, files, error, err);
-}
-
-#[tactic(auto, using(thorin_print::proofs::Printed::none_grown))]
-fn note_unread_response<P: NotedResponses, E: Write>(alloc: Global, files: &P, err: &mut E)
-    ensures { Grows (E.contents err.old) (E.contents err.new) }
-{
-    if let Some((name, cause)) = files.unread() {
-        note_unread(alloc, name.as_str(), &cause, err);
-    }
-}
-
-#[tactic(auto, using(thorin_print::proofs::Printed::none_grown))]
-fn note_bad_text<P: NotedResponses, E: Write>(
-    alloc: Global,
-    files: &P,
-    error: &ResponseError,
-    err: &mut E,
-)
-    ensures { Grows (E.contents err.old) (E.contents err.new) }
-{
-    if matches!(error, ResponseError::NotUtf8) {
-        note_not_text(alloc, &files.not_text(), err);
-    }
-}
-
-/// Prints that a response file is inside others, and answers the status.
-fn refuse_file<E: Write>(alloc: Global, err: &mut WatchedLines<E>, name: &str, others: &str) -> u8
-    ensures status { result ≡ 1 }
-    ensures told { HasTriedOr no_memory (E.contents err.old.writer) err.new
+/// Prints that a response file is inside others.
+fn refuse_file<E: Write>(alloc: Global, err: &mut WatchedLines<E>, name: &str, others: &str)
+    ensures { HasTriedOr no_memory (E.contents err.old.writer) err.new
         (E.contents err.new.writer) (inside_text name.now others.now) }
 {
     match inside(alloc, name, others) {
@@ -186,14 +146,11 @@ fn inside(alloc: Global, name: &str, others: &str) -> Result<String, AllocError>
     format!(in alloc; "Response file {name} is inside {others}")
 }
 
-/// Prints an error of a text, and answers the status.
-fn tell<E: Write>(err: &mut WatchedLines<E>, text: &str) -> u8
-    ensures status { result ≡ 1 }
-    ensures told { HasTried (E.contents err.old.writer) err.new (E.contents err.new.writer)
-        text.now }
+/// Prints an error of a text.
+fn tell<E: Write>(err: &mut WatchedLines<E>, text: &str)
+    ensures { HasTried (E.contents err.old.writer) err.new (E.contents err.new.writer) text.now }
 {
     let _told = err.tell(&text);
-    1
 }
 
 /// What the program answers where its command line can't be taken: this word of it isn't UTF-8, or

@@ -14,7 +14,7 @@ pub struct Facts<'a> {
 
 /// How the program does what words ask for.
 #[derive(Clone, Copy)]
-pub struct Manner {
+pub struct ProgramManner {
     /// Whether it does what a peer does without being told.
     pub of_peer: bool,
     /// Whether a terminal is told more: how far packing is, while it lasts, and of a file that is

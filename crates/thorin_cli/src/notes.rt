@@ -9,12 +9,12 @@ use dwp_table::CONTRIBUTION_KINDS;
 use std::alloc::{AllocError, Global};
 use std::io::{self, Write};
 use thorin_commands::{Packing, reason};
-use thorin_find::{FileKind, Unread};
+use thorin_find::FileKind;
 use thorin_inputs::{Compression, cut_hint};
 use thorin_print::{Failure, print};
 use thorin_reading::PlainReader;
-use thorin_terminal::{NamedFile, Peculiarity};
-use thorin_words::printed;
+use thorin_terminal::{NamedFile, NotedResponses, Peculiarity, RefusedResponse};
+use thorin_words::{ResponseError, printed};
 
 /// What helps where an executable names an object that isn't there.
 const MISSING: &'static str =
@@ -44,60 +44,36 @@ impl<'a> Given<'a> {
     }
 }
 
-/// What is known of the files that a command read.
-#[derive(Drop)]
-pub(crate) struct Read {
-    /// The one that couldn't be read.
-    unread: Option<Unread>,
-    /// Whether the last is compressed, and what it is.
-    compression: Compression,
-    kind: FileKind,
-}
-
-impl Read {
-    /// What these readers know.
-    pub(crate) fn by<R: NotedReader>(reader: &R, files: &PlainReader<'_, R>) -> Read {
-        Read {
-            unread: reader.unread(),
-            compression: files.compression(),
-            kind: files.kind(),
-        }
-    }
-}
-
 /// Prints the note on a failure of a command that reads: which of the files it is about, or the
 /// word.
 #[tactic(auto, using(thorin_print::proofs::Printed::none_grown))]
-pub(crate) fn note_reading<E: Write>(
+pub(crate) fn note_reading<R: NotedReader, E: Write>(
     alloc: Global,
     failure: &Failure,
     given: Given<'_>,
-    read: Read,
+    files: &PlainReader<'_, R>,
     err: &mut E,
 )
     ensures { Grows (E.contents err.old) (E.contents err.new) }
 {
     match failure {
         Failure::Input => {
-            if let Some(unread) = &read.unread {
+            if let Some(unread) = files.files.unread() {
                 note_unread(alloc, unread.path.as_str(), &unread.cause, err);
             }
         }
         Failure::Malformed => {
-            let why = why_malformed(alloc, read).ok();
-            note(alloc, given.file, text_of(&why), err);
+            let why = why_malformed(alloc, files.compression(), files.kind());
+            note_why(alloc, given.file, why, err);
         }
         Failure::NoIndex | Failure::NoUnit(_) => {
-            note(alloc, given.file, object_note(read.kind), err);
+            note(alloc, given.file, object_note(files.kind()), err);
         }
         Failure::NoString(_) | Failure::NoRange(_) => note(alloc, given.file, "", err),
         Failure::BadKind => note(alloc, given.kind, "neither cu nor tu", err),
         Failure::BadIdentifier => note(alloc, given.id, "not 1 to 16 hexadecimal digits", err),
         Failure::BadNumber => note(alloc, given.wanted, "not a decimal number", err),
-        Failure::BadSection => {
-            let why = section_names(alloc).ok();
-            note(alloc, given.wanted, text_of(&why), err);
-        }
+        Failure::BadSection => note_why(alloc, given.wanted, section_names(alloc), err),
         _ => {}
     }
 }
@@ -113,11 +89,15 @@ fn section_names(alloc: Global) -> Result<String, AllocError> {
 }
 
 /// Why a package can't be read, and what can be done about that.
-fn why_malformed(alloc: Global, read: Read) -> Result<String, AllocError> {
-    match (read.compression, read.kind) {
+fn why_malformed(
+    alloc: Global,
+    compression: Compression,
+    kind: FileKind,
+) -> Result<String, AllocError> {
+    match (compression, kind) {
         (Compression::Left, _) => String::from_str(alloc, "compressed: --decompress reads it"),
         (Compression::Overlaps | Compression::Unread(_), _) => {
-            format!(in alloc; "compressed: {}", read.compression)
+            format!(in alloc; "compressed: {compression}")
         }
         (_, FileKind::Malformed(PackageError::Elf(cause))) => {
             format!(in alloc; "{cause}{}", cut_hint(&cause))
@@ -151,13 +131,10 @@ pub(crate) fn note_packing<E: Write>(
         return;
     };
     match failure {
-        Failure::Output => {
-            let why = match &cause {
-                Some(cause) => reason(alloc, cause).ok(),
-                None => None,
-            };
-            note(alloc, output.as_str(), text_of(&why), err);
-        }
+        Failure::Output => match &cause {
+            Some(cause) => note_why(alloc, output.as_str(), reason(alloc, cause), err),
+            None => note(alloc, output.as_str(), "", err),
+        },
         Failure::Overwrites => note(alloc, output.as_str(), "", err),
         _ => {}
     }
@@ -165,7 +142,7 @@ pub(crate) fn note_packing<E: Write>(
 
 /// Prints the notes on a packing that was refused for what it was given: nothing, or a file that is
 /// no input as it is.
-#[tactic(auto, using(thorin_print::proofs::Printed::grown))]
+#[tactic(auto, using(thorin_print::proofs::Printed::none_grown))]
 pub(crate) fn note_refused<E: Write>(
     alloc: Global,
     packing: &Packing<'_, '_>,
@@ -174,53 +151,31 @@ pub(crate) fn note_refused<E: Write>(
 )
     ensures { Grows (E.contents err.old) (E.contents err.new) }
 {
-    note_nothing(packing, err);
-    note_named(alloc, packing, named, err);
-}
-
-/// Prints the note that nothing was named.
-#[tactic(auto, using(thorin_print::proofs::Printed::none_grown))]
-fn note_nothing<E: Write>(packing: &Packing<'_, '_>, err: &mut E)
-    ensures { Grows (E.contents err.old) (E.contents err.new) }
-{
-    if packing.inputs.is_none() && packing.executables.is_none() {
-        put_note("note: neither INPUT nor EXEC is named\n", err);
+    match named {
+        Some(named) => note_named(alloc, packing, named, err),
+        None if packing.inputs.is_none() && packing.executables.is_none() => {
+            put_note("note: neither INPUT nor EXEC is named\n", err);
+        }
+        None => {}
     }
 }
 
 /// Prints the note on a file that is no input as it is.
 #[tactic(auto, using(thorin_print::proofs::Printed::none_grown))]
-fn note_named<E: Write>(
-    alloc: Global,
-    packing: &Packing<'_, '_>,
-    named: &Option<NamedFile>,
-    err: &mut E,
-)
+fn note_named<E: Write>(alloc: Global, packing: &Packing<'_, '_>, named: &NamedFile, err: &mut E)
     ensures { Grows (E.contents err.old) (E.contents err.new) }
 {
-    let Some(named) = named else {
-        return;
-    };
     let path = named.path.as_str();
+    let executables = packing.executables.unwrap_or(&[]);
     match named.peculiarity {
         Some(Peculiarity::NamesMissing) => note(alloc, path, MISSING, err),
-        Some(Peculiarity::RelocatableFor(machine)) if has_path(packing.executables, path) => {
-            let why = machine_note(alloc, machine).ok();
-            note(alloc, path, text_of(&why), err);
+        Some(Peculiarity::RelocatableFor(machine)) if executables.iter().any(|it| *it == path) => {
+            let name = machine_name(machine);
+            let why = format!(in alloc; "relocatable, for machine {machine}{name}");
+            note_why(alloc, path, why, err);
         }
         _ => {}
     }
-}
-
-/// Whether a path is one of those that are named.
-fn has_path(named: Option<&[&str]>, path: &str) -> bool {
-    named.unwrap_or(&[]).iter().any(|it| *it == path)
-}
-
-/// What is said of a relocatable file for a machine.
-fn machine_note(alloc: Global, machine: u16) -> Result<String, AllocError> {
-    let name = machine_name(machine);
-    format!(in alloc; "relocatable, for machine {machine}{name}")
 }
 
 /// The name of a machine, in brackets (ELF gABI, `e_machine`).
@@ -261,18 +216,42 @@ pub(crate) fn note_listed<E: Write>(
     }
 }
 
-/// Prints the note on a response file that isn't text: its name, where there was memory to keep it.
-pub(crate) fn note_not_text<E: Write>(alloc: Global, name: &Option<String>, err: &mut E)
+/// Prints the note on a response file that can't be read, or isn't text: that also where there was
+/// no memory to keep its name.
+#[tactic(auto, using(thorin_print::proofs::Printed::none_grown))]
+pub(crate) fn note_response<P: NotedResponses, E: Write>(
+    alloc: Global,
+    files: &P,
+    error: &ResponseError,
+    err: &mut E,
+)
     ensures { Grows (E.contents err.old) (E.contents err.new) }
 {
-    match name {
-        Some(name) => note(
-            alloc,
-            name.as_str(),
-            "a response file that isn't UTF-8",
-            err,
-        ),
-        None => put_note("note: a response file isn't UTF-8\n", err),
+    let refused = files.refused();
+    match (&refused, error) {
+        (
+            Some(
+                RefusedResponse {
+                    name,
+                    cause: Some(cause),
+                },
+            ),
+            _,
+        ) => {
+            note_unread(alloc, name.as_str(), cause, err);
+        }
+        (Some(file), ResponseError::NotUtf8) => {
+            note(
+                alloc,
+                file.name.as_str(),
+                "a response file that isn't UTF-8",
+                err,
+            );
+        }
+        (None, ResponseError::NotUtf8) => {
+            put_note("note: a response file isn't UTF-8\n", err);
+        }
+        _ => {}
     }
 }
 
@@ -280,16 +259,27 @@ pub(crate) fn note_not_text<E: Write>(alloc: Global, name: &Option<String>, err:
 pub(crate) fn note_output<E: Write>(alloc: Global, cause: &io::Error, err: &mut E)
     ensures { Grows (E.contents err.old) (E.contents err.new) }
 {
-    let why = reason(alloc, cause).ok();
-    note(alloc, "standard output", text_of(&why), err);
+    note_why(alloc, "standard output", reason(alloc, cause), err);
 }
 
 /// Prints the note on a file that couldn't be read.
 pub(crate) fn note_unread<E: Write>(alloc: Global, name: &str, cause: &io::Error, err: &mut E)
     ensures { Grows (E.contents err.old) (E.contents err.new) }
 {
-    let why = why_unread(alloc, cause).ok();
-    note(alloc, name, text_of(&why), err);
+    match cause.kind() {
+        io::ErrorKind::IsADirectory => note(alloc, name, "not a regular file", err),
+        _ => note_why(alloc, name, reason(alloc, cause), err),
+    }
+}
+
+/// Prints a note with a text that had to be made; without it where there was no memory for it.
+fn note_why<E: Write>(alloc: Global, about: &str, why: Result<String, AllocError>, err: &mut E)
+    ensures { Grows (E.contents err.old) (E.contents err.new) }
+{
+    match &why {
+        Ok(why) => note(alloc, about, why.as_str(), err),
+        Err(AllocError) => note(alloc, about, "", err),
+    }
 }
 
 /// Prints a note: what it is about, and what is the matter with it.
@@ -317,21 +307,5 @@ fn note_line(alloc: Global, about: &str, why: &str) -> Result<String, AllocError
         format!(in alloc; "note: {about}\n")
     } else {
         format!(in alloc; "note: {about}: {why}\n")
-    }
-}
-
-/// A text, empty where there is none.
-fn text_of(text: &Option<String>) -> &str {
-    match text {
-        Some(text) => text.as_str(),
-        None => "",
-    }
-}
-
-/// Why a file couldn't be read.
-fn why_unread(alloc: Global, cause: &io::Error) -> Result<String, AllocError> {
-    match cause.kind() {
-        io::ErrorKind::IsADirectory => String::from_str(alloc, "not a regular file"),
-        _ => reason(alloc, cause),
     }
 }

@@ -8,10 +8,8 @@ ghost use Rattle.thorin_cli.specs.Doing.{Answers, DoesCall, DoesPacking, HasStat
 ghost use Rattle.thorin_cli.specs.Doing.{Verifies};
 ghost use Rattle.thorin_cli.specs.Programs.{KeepsPlaces, state_of, system};
 
-use crate::manner::Manner;
-use crate::notes::{
-    Given, Read, note_listed, note_output, note_packing, note_reading, note_refused,
-};
+use crate::manner::ProgramManner;
+use crate::notes::{Given, note_listed, note_output, note_packing, note_reading, note_refused};
 use crate::settings::{file_count, find_words, form_of, list_form, nameless_units, packing_of};
 use crate::system::NotedReader;
 use std::alloc::Global;
@@ -23,23 +21,28 @@ use thorin_commands::{Packing, list_missing, pack};
 use thorin_find::{find_by, list_by};
 use thorin_print::{Failure, Form, WatchedLines, show};
 use thorin_reading::PlainReader;
-use thorin_terminal::{NotedFiles, Telling, Watched};
+use thorin_terminal::{NotedFiles, ReadingSettings, WatchedWriter};
 
 /// The program: what it uses of the system, and where it prints.
 #[derive(Drop)]
 pub(crate) struct Program<'s, 'o, 'e, F, R, O, E> {
     pub(crate) alloc: Global,
-    pub(crate) manner: Manner,
+    pub(crate) manner: ProgramManner,
     pub(crate) patience: u64,
     pub(crate) files: &'s mut F,
     pub(crate) reader: &'s R,
-    pub(crate) out: &'o mut Watched<O>,
+    pub(crate) out: &'o mut WatchedWriter<O>,
     pub(crate) err: &'e mut WatchedLines<E>,
 }
 
 impl<F: NotedFiles, R: NotedReader, O: Write, E: Write> Program<'_, '_, '_, F, R, O, E> {
     /// The status of a command that read these files. Where it was refused, that is printed.
-    fn status(&mut self, answer: Result<u8, Failure>, given: Given<'_>, read: Read) -> u8
+    fn status(
+        &mut self,
+        answer: Result<u8, Failure>,
+        given: Given<'_>,
+        files: &PlainReader<'_, R>,
+    ) -> u8
         ensures has { HasStatus (system F.offer F.known F.begun O.contents E.contents
             (R.offer self.old.reader.now)) (state_of self.new) answer result }
         ensures kept { (self.new.files ≡ self.old.files) × (self.new.out ≡ self.old.out) }
@@ -49,7 +52,7 @@ impl<F: NotedFiles, R: NotedReader, O: Write, E: Write> Program<'_, '_, '_, F, R
             Ok(status) => status,
             Err(failure) => {
                 let status = self.report(&failure);
-                note_reading(self.alloc, &failure, given, read, &mut self.err.writer);
+                note_reading(self.alloc, &failure, given, files, &mut self.err.writer);
                 status
             }
         }
@@ -80,72 +83,45 @@ impl<F: NotedFiles, R: NotedReader, O: Write, E: Write> Program<'_, '_, '_, F, R
     /// Packs.
     fn pack_as(&mut self, packing: &Packing<'_, '_>) -> u8
         ensures done { Answers (system F.offer F.known F.begun O.contents E.contents
-            (R.offer self.old.reader.now)) (state_of self.new) (DoesPacking (system F.offer F.known F.begun O.contents E.contents
+            (R.offer self.old.reader.now)) (state_of self.new)
+            (DoesPacking (system F.offer F.known F.begun O.contents E.contents
             (R.offer self.old.reader.now)) packing.now (state_of self.old)
             (state_of self.new)) result }
         ensures places { KeepsPlaces self.old self.new }
     {
-        match self.pack_told(packing) {
+        let answer = pack(self.alloc, self.files, packing, self.out, self.err);
+        self.files.end();
+        match answer {
             Ok(0) => 0,
             Ok(status) => {
-                note_refused(
-                    self.alloc,
-                    packing,
-                    &self.files.last_named(),
-                    &mut self.err.writer,
-                );
+                let named = self.files.last_named();
+                note_refused(self.alloc, packing, &named, &mut self.err.writer);
                 status
             }
             Err(failure) => {
                 let status = self.report(&failure);
-                note_packing(
-                    self.alloc,
-                    &failure,
-                    packing,
-                    self.files.unwritten(),
-                    &mut self.err.writer,
-                );
+                let cause = self.files.unwritten();
+                note_packing(self.alloc, &failure, packing, cause, &mut self.err.writer);
                 status
             }
         }
     }
 
-    /// Packs, and tells a terminal meanwhile how far that is.
-    fn pack_told(&mut self, packing: &Packing<'_, '_>) -> Result<u8, Failure>
-        ensures done { DoesPacking (system F.offer F.known F.begun O.contents E.contents
-            (R.offer self.old.reader.now)) packing.now (state_of self.old)
-            (state_of self.new) result }
-        ensures places { KeepsPlaces self.old self.new }
-    {
-        let patience = if self.manner.on_terminal && !packing.verbose {
-            Some(self.patience)
-        } else {
-            None
-        };
-        let telling = Telling {
-            patience,
-            all: file_count(packing),
-            names_objects: packing.verbose,
-        };
-        self.files.begin(telling);
-        let answer = pack(self.alloc, self.files, packing, self.out, self.err);
-        self.files.end();
-        answer
-    }
-
     /// Lists the objects that are missing.
     fn list_as(&mut self, packing: &Packing<'_, '_>) -> u8
         ensures done { Answers (system F.offer F.known F.begun O.contents E.contents
-            (R.offer self.old.reader.now)) (state_of self.new) (ListsMissing (state_of self.old) (state_of self.new)) result }
+            (R.offer self.old.reader.now)) (state_of self.new)
+            (ListsMissing (state_of self.old) (state_of self.new)) result }
         ensures places { KeepsPlaces self.old self.new }
     {
-        match list_missing(
+        let answer = list_missing(
             self.alloc,
             self.files,
             packing,
             self.out,
             &mut self.err.writer,
-        ) {
+        );
+        match answer {
             Ok(status) => status,
             Err(failure) => self.report(&failure),
         }
@@ -154,7 +130,8 @@ impl<F: NotedFiles, R: NotedReader, O: Write, E: Write> Program<'_, '_, '_, F, R
     /// Checks the package that would be made.
     fn verify_as(&mut self, packing: &Packing<'_, '_>) -> u8
         ensures done { Answers (system F.offer F.known F.begun O.contents E.contents
-            (R.offer self.old.reader.now)) (state_of self.new) (Verifies (system F.offer F.known F.begun O.contents E.contents
+            (R.offer self.old.reader.now)) (state_of self.new)
+            (Verifies (system F.offer F.known F.begun O.contents E.contents
             (R.offer self.old.reader.now)) packing.now (state_of self.old)
             (state_of self.new)) result }
         ensures places { KeepsPlaces self.old self.new }
@@ -182,7 +159,8 @@ impl<F: NotedFiles, R: NotedReader, O: Write, E: Write> Program<'_, '_, '_, F, R
         reading: Reading,
     ) -> u8
         ensures done { Answers (system F.offer F.known F.begun O.contents E.contents
-            (R.offer self.old.reader.now)) (state_of self.new) (Checks (Takes decompresses (R.offer self.old.reader.now)) file.now
+            (R.offer self.old.reader.now)) (state_of self.new)
+            (Checks (Takes decompresses (R.offer self.old.reader.now)) file.now
             (record { paths = executables.now; reading = reading })
             (O.contents self.old.out.now.out) (O.contents self.new.out.now.out)) result }
         ensures files { self.new.files ≡ self.old.files }
@@ -191,7 +169,7 @@ impl<F: NotedFiles, R: NotedReader, O: Write, E: Write> Program<'_, '_, '_, F, R
     {
         let files = PlainReader::new(self.alloc, self.reader, decompresses);
         let answer = check_by(self.alloc, &files, file, executables, reading, self.out);
-        self.status(answer, Given::file(file), Read::by(self.reader, &files))
+        self.status(answer, Given::file(file), &files)
     }
 }
 
@@ -205,11 +183,20 @@ impl<F: NotedFiles, R: NotedReader, O: Write, E: Write> Commands
     fn pack(&mut self, arguments: PackArguments<'_, '_>) -> u8 {
         let packing = packing_of(arguments, self.manner);
         if arguments.verifies_only {
-            self.verify_as(&packing)
-        } else if arguments.lists_missing {
-            self.list_as(&packing)
-        } else {
+            return self.verify_as(&packing);
+        }
+        let packs = !arguments.lists_missing;
+        let is_shown = packs && self.manner.on_terminal && !packing.verbose;
+        self.files.begin(ReadingSettings {
+            seeks: self.manner.of_peer,
+            patience: is_shown.then_some(self.patience),
+            all: file_count(&packing),
+            names_objects: packs && packing.verbose,
+        });
+        if packs {
             self.pack_as(&packing)
+        } else {
+            self.list_as(&packing)
         }
     }
 
@@ -224,7 +211,7 @@ impl<F: NotedFiles, R: NotedReader, O: Write, E: Write> Commands
             wanted: arguments.string.or(arguments.section).unwrap_or(""),
             ..Given::file(file)
         };
-        self.status(answer, given, Read::by(self.reader, &files))
+        self.status(answer, given, &files)
     }
 
     fn list(&mut self, file: &str, arguments: ListArguments) -> u8 {
@@ -240,7 +227,7 @@ impl<F: NotedFiles, R: NotedReader, O: Write, E: Write> Commands
                 &mut self.err.writer,
             );
         }
-        self.status(answer, Given::file(file), Read::by(self.reader, &files))
+        self.status(answer, Given::file(file), &files)
     }
 
     fn check(&mut self, arguments: CheckArguments<'_, '_>) -> u8 {

@@ -6,7 +6,7 @@ ghost use Rattle.thorin_cli.specs.Settings as spec;
 ghost use Rattle.thorin_cli.specs.Settings.{form_of, nameless_units};
 ghost use Rattle.thorin_find.specs.Finding.{words_of};
 
-use crate::manner::Manner;
+use crate::manner::ProgramManner;
 use thorin_arguments::{FindArguments, ListArguments, PackArguments};
 use thorin_commands::{KeptMacros, NamelessUnits, Packing, Warnings};
 use thorin_errors::MissingReferencedObjectBehaviour;
@@ -16,7 +16,7 @@ use thorin_print::Form;
 /// What is to be packed, in the packer's terms.
 pub(crate) fn packing_of<'m, 'a>(
     arguments: PackArguments<'m, 'a>,
-    manner: Manner,
+    manner: ProgramManner,
 ) -> Packing<'m, 'a>
     ensures { result ≡ spec.packing_for manner arguments.entry }
 {
@@ -48,7 +48,7 @@ pub(crate) fn packing_of<'m, 'a>(
 }
 
 /// Which macros count: those that the words keep, or the last where the program is a peer.
-fn macros_of(arguments: PackArguments<'_, '_>, manner: Manner) -> KeptMacros
+fn macros_of(arguments: PackArguments<'_, '_>, manner: ProgramManner) -> KeptMacros
     ensures { result ≡ spec.macros_for manner arguments.entry }
 {
     if arguments.drops_macros {
@@ -91,7 +91,7 @@ pub(crate) fn form_of(as_json: bool) -> Form
 }
 
 /// The warnings that a word asks for, where there is one.
-fn warnings_of(arguments: PackArguments<'_, '_>, manner: Manner) -> Warnings
+fn warnings_of(arguments: PackArguments<'_, '_>, manner: ProgramManner) -> Warnings
     ensures { result ≡ spec.warnings_for manner arguments.entry }
 {
     let usual = usual_warnings(manner, arguments.verbose);
@@ -103,7 +103,7 @@ fn warnings_of(arguments: PackArguments<'_, '_>, manner: Manner) -> Warnings
 
 /// The warnings where no word asks for any. Who asks for more than the errors has each, also on a
 /// terminal.
-fn usual_warnings(manner: Manner, verbose: bool) -> Warnings
+fn usual_warnings(manner: ProgramManner, verbose: bool) -> Warnings
     ensures { result ≡ spec.usual_warnings manner verbose }
 {
     if manner.of_peer {

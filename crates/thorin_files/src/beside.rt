@@ -4,7 +4,7 @@
 
 use crate::reading::is_there;
 use std::alloc::AllocError;
-use std::fs::{self, DirEntry, File, Metadata, TryLockError};
+use std::fs::{self, DirEntry, File, TryLockError};
 use std::os::unix::fs::{MetadataExt, OpenOptionsExt};
 use std::process;
 
@@ -16,62 +16,38 @@ const MOST_NAMES: u32 = 1000;
 pub(crate) struct Beside {
     pub(crate) name: String,
     pub(crate) file: File,
-    /// The same file, by which the lock is held until this is dropped.
+    /// That file, by which the lock is held until this is dropped.
     pub(crate) lock: Option<File>,
 }
 
-/// What came of making a file under a name.
-enum Made {
-    /// A new file, which this run alone holds.
-    File(File),
-    /// Another run has the name.
-    Taken,
-    /// There can't be a file of that name.
-    Refused,
-}
-
-/// Makes a new file beside OUT; a private one is for its owner alone. None where there can't be one.
+/// Makes a new file beside OUT; a private one is for its owner alone. None where there can't be
+/// one. Its name has the number of the process, so that one which an interrupted run left is told
+/// from one that is being written. Processes of one number can be several, as in containers: then
+/// names are counted.
 pub(crate) fn create(
     rt: &HostRuntime,
     output: &str,
     is_private: bool,
 ) -> Result<Option<Beside>, AllocError> {
-    for number in 0..MOST_NAMES {
-        let name = name(rt, output, number)?;
-        match make(rt, name.as_str(), is_private) {
-            Made::File(file) => {
-                let lock = file.try_clone().ok();
-                return Ok(Some(Beside { name, file, lock }));
-            }
-            Made::Taken => {}
-            Made::Refused => return Ok(None),
-        }
-    }
-    Ok(None)
-}
-
-/// A name beside OUT: it has the number of the process, so that one which an interrupted run left
-/// is told from one that is being written. Processes of one number can be several, as in containers:
-/// then names are counted.
-fn name(rt: &HostRuntime, output: &str, number: u32) -> Result<String, AllocError> {
     let process = process::id(rt.process());
-    match number {
-        0 => format!(in rt.alloc(); "{output}.{process}.tmp"),
-        _ => format!(in rt.alloc(); "{output}.{process}.{number}.tmp"),
-    }
-}
-
-/// Makes a new file under a name, and takes its lock.
-fn make(rt: &HostRuntime, name: &str, is_private: bool) -> Made {
     let mode = if is_private { 0o600 } else { 0o666 };
     let mut options = File::options();
     options.write(true).create_new(true).mode(mode);
-    match options.open(rt, name) {
-        Ok(file) if is_held(rt, name, &file) => Made::File(file),
-        Ok(_) => Made::Taken,
-        Err(_) if fs::symlink_metadata(rt, name).is_ok() => Made::Taken,
-        Err(_) => Made::Refused,
+    for number in 0..MOST_NAMES {
+        let name = match number {
+            0 => format!(in rt.alloc(); "{output}.{process}.tmp")?,
+            _ => format!(in rt.alloc(); "{output}.{process}.{number}.tmp")?,
+        };
+        match options.open(rt, name.as_str()) {
+            Ok(file) if is_held(rt, name.as_str(), &file) => {
+                let lock = file.try_clone().ok();
+                return Ok(Some(Beside { name, file, lock }));
+            }
+            Err(_) if fs::symlink_metadata(rt, name.as_str()).is_err() => return Ok(None),
+            _ => {}
+        }
     }
+    Ok(None)
 }
 
 /// Whether this run holds a new file: another may take it for one that was left, and remove it,
@@ -87,14 +63,9 @@ fn is_held(rt: &HostRuntime, name: &str, file: &File) -> bool {
 /// Whether a name is that of an open file.
 fn is_named(rt: &HostRuntime, name: &str, file: &File) -> bool {
     match (fs::symlink_metadata(rt, name), file.metadata()) {
-        (Ok(named), Ok(opened)) => is_same(&named, &opened),
+        (Ok(named), Ok(opened)) => named.dev() == opened.dev() && named.ino() == opened.ino(),
         _ => false,
     }
-}
-
-/// Whether both are of one file.
-fn is_same(one: &Metadata, other: &Metadata) -> bool {
-    one.dev() == other.dev() && one.ino() == other.ino()
 }
 
 /// Removes the files beside OUT that runs left which were interrupted.
@@ -118,22 +89,25 @@ pub(crate) fn remove_left(rt: &HostRuntime, output: &str) {
     }
 }
 
-/// Removes a file of a folder where it is left of an interrupted run.
+/// Removes a file of a folder where it is left of an interrupted run: its process is gone, and no
+/// run holds it, not even one whose process can't be seen from here.
 fn remove_if_left(rt: &HostRuntime, entry: &DirEntry, own: &str) {
-    if let Some(process) = process_of(entry.file_name(), own) {
-        if !is_running(rt, process) && is_file(entry) {
-            remove_unheld(rt, entry.path().as_str());
-        }
-    }
-}
-
-/// Removes a file that no run holds, not even one whose process can't be seen from here.
-fn remove_unheld(rt: &HostRuntime, name: &str) {
-    let Ok(file) = File::options().write(true).open(rt, name) else {
+    let Some(process) = process_of(entry.file_name(), own) else {
         return;
     };
-    if file.try_lock().is_ok() && is_named(rt, name, &file) {
-        let _ = fs::remove_file(rt, name);
+    let is_gone = format!(in rt.alloc(); "/proc/{process}").is_ok_and(|running| !is_there(
+        rt,
+        running.as_str(),
+    ));
+    if !is_gone || !entry.metadata().is_ok_and(|metadata| metadata.is_file()) {
+        return;
+    }
+    let path = entry.path();
+    let Ok(file) = File::options().write(true).open(rt, path.as_str()) else {
+        return;
+    };
+    if file.try_lock().is_ok() && is_named(rt, path.as_str(), &file) {
+        let _ = fs::remove_file(rt, path.as_str());
     }
 }
 
@@ -149,21 +123,5 @@ fn process_of(name: &str, own: &str) -> Option<u32> {
             process.parse::<u32>().ok()
         }
         None => numbers.parse::<u32>().ok(),
-    }
-}
-
-/// Whether a process runs, true where that can't be told.
-fn is_running(rt: &HostRuntime, process: u32) -> bool {
-    match format!(in rt.alloc(); "/proc/{process}") {
-        Ok(path) => is_there(rt, path.as_str()),
-        Err(_) => true,
-    }
-}
-
-/// Whether an entry of a folder is a regular file.
-fn is_file(entry: &DirEntry) -> bool {
-    match entry.metadata() {
-        Ok(metadata) => metadata.is_file(),
-        Err(_) => false,
     }
 }

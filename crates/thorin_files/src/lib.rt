@@ -8,4 +8,4 @@ mod writing;
 pub use reading::{
     identity, is_file, is_there, read, read_over, read_regular_over, read_within, try_regular,
 };
-pub use writing::{Contents, WriteError, write};
+pub use writing::{FileContents, FileError, write};

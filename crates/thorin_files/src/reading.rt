@@ -1,10 +1,9 @@
 //! Reading files.
 
-ghost use Rattle.std.specs.Prelude.{◌≡◌, ◌≤◌, ◌+◌, ◌↔◌, length, take, IfOk, OnOk, IfSome, IsTrue};
+ghost use Rattle.std.specs.Prelude.{◌≡◌, ◌≤◌, length, take, IfOk, OnOk, IfSome};
 ghost use Rattle.std.specs.Io.KnownBytes.{Consumes};
 
-use std::alloc::AllocError;
-use std::fs::{self, File, FileType};
+use std::fs::{self, File};
 use std::io::{self, ErrorKind, Read};
 use std::os::unix::fs::{FileTypeExt, MetadataExt};
 use std::path::{AsPath, Path};
@@ -32,18 +31,18 @@ pub fn read(rt: &HostRuntime, path: &str) -> io::Result<Vec<u8>> {
 /// # Errors
 /// As those of `read`.
 pub fn read_over(rt: &HostRuntime, path: Path<'_>, room: &mut Vec<u8>) -> io::Result<()> {
-    let len = length_told(rt, path)?;
+    let len = length_told(rt, path, false)?;
     let mut file = File::open(rt, path)?;
     read_whole(&mut file, len, room)
 }
 
-/// The same of a regular file. One whose length is told as 0 has no bytes and isn't read: a read of
-/// it may wait for ever, as that of a file of `/proc`.
+/// Reads a regular file into such room. One whose length is told as 0 has no bytes and isn't read:
+/// a read of it may wait for ever, as that of a file of `/proc`.
 ///
 /// # Errors
 /// As those of `read`; `Unsupported` also for a pipe, a socket and a directory.
 pub fn read_regular_over(rt: &HostRuntime, path: Path<'_>, room: &mut Vec<u8>) -> io::Result<()> {
-    let len = regular_length(rt, path)?;
+    let len = length_told(rt, path, true)?;
     let mut file = File::open(rt, path)?;
     room.truncate(0);
     if len > 0 {
@@ -57,7 +56,7 @@ pub fn read_regular_over(rt: &HostRuntime, path: Path<'_>, room: &mut Vec<u8>) -
 /// # Errors
 /// As those of `read_regular_over`.
 pub fn try_regular(rt: &HostRuntime, path: Path<'_>) -> io::Result<()> {
-    let len = regular_length(rt, path)?;
+    let len = length_told(rt, path, true)?;
     let mut file = File::open(rt, path)?;
     if len > 0 {
         let mut byte = [0];
@@ -74,10 +73,12 @@ pub fn try_regular(rt: &HostRuntime, path: Path<'_>) -> io::Result<()> {
 pub fn read_within(rt: &HostRuntime, path: &str, limit: u32) -> io::Result<Option<Vec<u8>>>
     ensures { IfOk result (λ read. IfSome read (λ bytes. length bytes.items ≤ limit)) }
 {
+    let most = u64::from(limit);
     let mut bytes = Vec::new(rt.alloc());
-    let len = length_told(rt, Path::new(path))?;
-    let file = File::open(rt, path)?;
-    if is_read_within(file, len, limit, &mut bytes)? {
+    let len = length_told(rt, Path::new(path), false)?;
+    let mut front = File::open(rt, path)?.take(most + 1);
+    read_whole(&mut front, len.min(most), &mut bytes)?;
+    if bytes.len() as u64 <= most {
         Ok(Some(bytes))
     } else {
         Ok(None)
@@ -86,10 +87,7 @@ pub fn read_within(rt: &HostRuntime, path: &str, limit: u32) -> io::Result<Optio
 
 /// Whether there is a regular file at a path.
 pub fn is_file(rt: &HostRuntime, path: &str) -> bool {
-    match fs::metadata(rt, path) {
-        Ok(metadata) => metadata.is_file(),
-        Err(_) => false,
-    }
+    fs::metadata(rt, path).is_ok_and(|metadata| metadata.is_file())
 }
 
 /// Whether there is anything at a path.
@@ -100,61 +98,23 @@ pub fn is_there(rt: &HostRuntime, path: &str) -> bool {
 /// The device and the number of the file at a path, by which two names of one file are known. None
 /// where there is no file.
 pub fn identity(rt: &HostRuntime, path: &str) -> Option<(u64, u64)> {
-    match fs::metadata(rt, path) {
-        Ok(metadata) => Some((metadata.dev(), metadata.ino())),
-        Err(_) => None,
-    }
-}
-
-fn is_kind_of_device(kind: FileType) -> bool {
-    kind.is_char_device() || kind.is_block_device()
+    let metadata = fs::metadata(rt, path).ok()?;
+    Some((metadata.dev(), metadata.ino()))
 }
 
 /// How long the file at a path is said to be, 0 where nothing is there: that is left to the system
-/// to refuse. A device is refused before it is opened.
-fn length_told(rt: &HostRuntime, path: Path<'_>) -> io::Result<u64> {
-    match fs::metadata(rt, path) {
-        Ok(metadata) => {
-            if is_kind_of_device(metadata.file_type()) {
-                return Err(io::Error::from(ErrorKind::Unsupported));
-            }
-            Ok(metadata.len())
-        }
-        Err(_) => Ok(0),
+/// to refuse. A device is refused before it is opened, and all but a regular file where one is
+/// asked for.
+fn length_told(rt: &HostRuntime, path: Path<'_>, only_regular: bool) -> io::Result<u64> {
+    let Ok(metadata) = fs::metadata(rt, path) else {
+        return Ok(0);
+    };
+    let kind = metadata.file_type();
+    let is_refused = only_regular && !kind.is_file();
+    if is_refused || kind.is_char_device() || kind.is_block_device() {
+        return Err(io::Error::from(ErrorKind::Unsupported));
     }
-}
-
-/// The same of a regular file: all else is refused.
-fn regular_length(rt: &HostRuntime, path: Path<'_>) -> io::Result<u64> {
-    match fs::metadata(rt, path) {
-        Ok(metadata) => {
-            if !metadata.is_file() {
-                return Err(io::Error::from(ErrorKind::Unsupported));
-            }
-            Ok(metadata.len())
-        }
-        Err(_) => Ok(0),
-    }
-}
-
-/// Reads all that a file has, which is about `len` bytes, into a new vector, but no more than one
-/// byte past the limit. Answers whether the file has at most `limit` bytes.
-fn is_read_within<F: Read + Drop>(
-    file: F,
-    len: u64,
-    limit: u32,
-    bytes: &mut Vec<u8>,
-) -> io::Result<bool>
-    ensures within { IfOk result (λ fits. IsTrue fits → length bytes.new.items ≤ limit) }
-    ensures fits { IfOk result (λ fits. IfSome (F.remaining file) (λ all.
-        IsTrue fits ↔ length all ≤ limit)) }
-    ensures bytes { OnOk result (IfSome (F.remaining file) (λ all.
-        bytes.new.items ≡ take (limit + 1) all)) }
-{
-    let limit = u64::from(limit);
-    let mut front = file.take(limit + 1);
-    read_whole(&mut front, len.min(limit), bytes)?;
-    Ok(bytes.len() as u64 <= limit)
+    Ok(metadata.len())
 }
 
 /// Reads all that is left, which is about `len` bytes, into room that is made once: a byte more
@@ -172,23 +132,15 @@ fn read_whole<F: Read>(file: &mut F, len: u64, room: &mut Vec<u8>) -> io::Result
             room.reserve_exact(needed)?;
         }
     }
-    lengthen(room, needed)?;
+    // More zeros at a time are set byte by byte on some processors.
+    let zeros = [0; PIECE];
+    while room.len() < needed {
+        let count = PIECE.min(needed - room.len());
+        room.extend_from_slice(&zeros[..count])?;
+    }
     let front = read_once(file, room)?;
     room.truncate(front);
     file.read_to_end(room)?;
-    Ok(())
-}
-
-/// Lengthens room that has fewer than `len` bytes by zeros, some at a time: more are set byte by byte
-/// on some processors.
-fn lengthen(room: &mut Vec<u8>, len: usize) -> Result<(), AllocError>
-    ensures { OnOk result (len ≤ length room.new.items) }
-{
-    let zeros = [0; PIECE];
-    while room.len() < len {
-        let count = PIECE.min(len - room.len());
-        room.extend_from_slice(&zeros[..count])?;
-    }
     Ok(())
 }
 
@@ -199,12 +151,7 @@ fn read_once<F: Read>(file: &mut F, buffer: &mut [u8]) -> io::Result<usize>
         (take n buffer.new)) }
 {
     match file.read(buffer) {
-        Ok(count) => Ok(count),
-        Err(e) => {
-            if e.kind() == ErrorKind::Interrupted {
-                return Ok(0);
-            }
-            Err(e)
-        }
+        Err(e) if e.kind() == ErrorKind::Interrupted => Ok(0),
+        answer => answer,
     }
 }

@@ -2,13 +2,13 @@
 
 use crate::beside::{self, Beside};
 use std::alloc::{AllocError, Global};
-use std::fs::{self, File, Metadata, Permissions};
+use std::fs::{self, File, Permissions};
 use std::io::{self, BufWriter, Write};
 use std::os::unix::fs::{MetadataExt, PermissionsExt, fchown};
 use std::path::PathBuf;
 
 /// What a file is to hold.
-pub trait Contents {
+pub trait FileContents {
     /// Writes all of it.
     ///
     /// # Errors
@@ -18,22 +18,22 @@ pub trait Contents {
 
 /// Why a file was not written.
 #[derive(Debug, Drop)]
-pub enum WriteError {
+pub enum FileError {
     /// The system refused it, or it wasn't written to its end.
-    Output(io::Error),
+    Io(io::Error),
     /// Memory ran out.
     Memory,
 }
 
-impl From<io::Error> for WriteError {
-    fn from(cause: io::Error) -> WriteError {
-        WriteError::Output(cause)
+impl From<io::Error> for FileError {
+    fn from(cause: io::Error) -> FileError {
+        FileError::Io(cause)
     }
 }
 
-impl From<AllocError> for WriteError {
-    fn from(_e: AllocError) -> WriteError {
-        WriteError::Memory
+impl From<AllocError> for FileError {
+    fn from(_e: AllocError) -> FileError {
+        FileError::Memory
     }
 }
 
@@ -47,11 +47,9 @@ struct Access {
 /// What stands at OUT.
 #[derive(Clone, Copy)]
 enum Standing {
-    /// Nothing.
-    Free,
-    /// A regular file that may be written.
-    File(Access),
-    /// A symbolic link to one.
+    /// A regular file that may be written, or nothing.
+    File(Option<Access>),
+    /// A symbolic link to such a file.
     Link(Access),
     /// What no other file may take the place of.
     Other,
@@ -63,63 +61,56 @@ enum Standing {
 /// as it stands, and so is OUT where no file can be made beside it, or where that can't become OUT.
 ///
 /// # Errors
-/// `Output` where OUT can't be written, `Memory`.
-pub fn write<C: Contents>(rt: &HostRuntime, contents: &C, output: &str) -> Result<(), WriteError> {
-    let is_done = match place_of(rt, output)? {
-        Standing::Free => is_replaced(rt, contents, output, None)?,
-        Standing::File(access) => is_replaced(rt, contents, output, Some(access))?,
-        Standing::Link(access) => is_target_replaced(rt, contents, output, access)?,
+/// `Io` where OUT can't be written, `Memory`.
+pub fn write<C: FileContents>(
+    rt: &HostRuntime,
+    contents: &C,
+    output: &str,
+) -> Result<(), FileError> {
+    let is_done = match standing_of(rt, output)? {
+        Standing::File(access) => is_replaced(rt, contents, output, access)?,
+        Standing::Link(access) => match target_of(rt, output) {
+            Some(path) => is_replaced(rt, contents, path.as_str(), Some(access))?,
+            None => false,
+        },
         Standing::Other => false,
     };
-    if is_done {
-        Ok(())
-    } else {
-        write_in_place(rt, contents, output)
+    if !is_done {
+        let file = File::options().write(true).create(true).open(rt, output)?;
+        fill(rt.alloc(), contents, file)?;
     }
+    Ok(())
 }
 
 /// What stands at OUT; a regular file there, or behind a link, must be one that may be written.
-fn place_of(rt: &HostRuntime, output: &str) -> Result<Standing, WriteError> {
-    let Ok(metadata) = fs::symlink_metadata(rt, output) else {
-        return Ok(Standing::Free);
+fn standing_of(rt: &HostRuntime, output: &str) -> Result<Standing, FileError> {
+    let Ok(own) = fs::symlink_metadata(rt, output) else {
+        return Ok(Standing::File(None));
     };
-    if metadata.is_file() {
-        let access = access_to(rt, output, &metadata)?;
-        return Ok(Standing::File(access));
-    }
-    match fs::metadata(rt, output) {
-        Ok(target) if metadata.is_symlink() && target.is_file() => {
-            let access = access_to(rt, output, &target)?;
-            Ok(Standing::Link(access))
+    let is_link = own.is_symlink();
+    let found = if is_link {
+        fs::metadata(rt, output)
+    } else {
+        Ok(own)
+    };
+    match found {
+        Ok(metadata) if metadata.is_file() => {
+            File::options().write(true).open(rt, output)?;
+            let access = Access {
+                mode: metadata.mode() & 0o777,
+                group: metadata.gid(),
+            };
+            Ok(if is_link {
+                Standing::Link(access)
+            } else {
+                Standing::File(Some(access))
+            })
         }
         _ => Ok(Standing::Other),
     }
 }
 
-/// Who may read and write a regular file, which must be one that may be written.
-fn access_to(rt: &HostRuntime, path: &str, metadata: &Metadata) -> Result<Access, WriteError> {
-    File::options().write(true).open(rt, path)?;
-    Ok(Access {
-        mode: metadata.mode() & 0o777,
-        group: metadata.gid(),
-    })
-}
-
-/// Writes the contents in place of the file that a link leads to. False where that can't be, as for
-/// a link that the system made of an open file.
-fn is_target_replaced<C: Contents>(
-    rt: &HostRuntime,
-    contents: &C,
-    link: &str,
-    access: Access,
-) -> Result<bool, WriteError> {
-    match target_of(rt, link) {
-        Some(path) => is_replaced(rt, contents, path.as_str(), Some(access)),
-        None => Ok(false),
-    }
-}
-
-/// The path of the file that a symbolic link leads to; none where it is of the system, as
+/// The path of the file that a symbolic link leads to; none where the link is of the system, as
 /// /dev/stdout is, which stands for an open file and not for a name.
 fn target_of(rt: &HostRuntime, link: &str) -> Option<PathBuf> {
     let next = fs::read_link(rt, link).ok()?;
@@ -136,12 +127,12 @@ fn is_of_system(path: &str) -> bool {
 
 /// Writes the contents to a file beside OUT, which then becomes OUT. False where that can't be, and
 /// then OUT is as it was.
-fn is_replaced<C: Contents>(
+fn is_replaced<C: FileContents>(
     rt: &HostRuntime,
     contents: &C,
     output: &str,
     access: Option<Access>,
-) -> Result<bool, WriteError> {
+) -> Result<bool, FileError> {
     beside::remove_left(rt, output);
     let Some(made) = beside::create(rt, output, access.is_some())? else {
         return Ok(false);
@@ -152,27 +143,17 @@ fn is_replaced<C: Contents>(
         file,
         lock: _lock,
     } = made;
-    let outcome = write_beside(rt.alloc(), contents, file, access);
+    // Before the contents: who may not read OUT may not read them under the other name.
+    if let Some(access) = access {
+        give(&file, access);
+    }
+    let outcome = fill(rt.alloc(), contents, file);
     if outcome.is_ok() && fs::rename(rt, name.as_str(), output).is_ok() {
         return Ok(true);
     }
     let _ = fs::remove_file(rt, name.as_str());
     outcome?;
     Ok(false)
-}
-
-/// Writes the contents to a new file, which those may read and write who may do so with OUT.
-fn write_beside<C: Contents>(
-    alloc: Global,
-    contents: &C,
-    file: File,
-    access: Option<Access>,
-) -> Result<(), WriteError> {
-    // Before the contents: who may not read OUT may not read them under the other name.
-    if let Some(access) = access {
-        give(&file, access);
-    }
-    fill(alloc, contents, file)
 }
 
 /// Gives a file to a group, with its permissions. Where it can't be given to the group, the group
@@ -186,34 +167,17 @@ fn give(file: &File, access: Access) {
     let _ = file.set_permissions(Permissions::from_mode(mode));
 }
 
-/// Writes the contents to OUT as it stands.
-fn write_in_place<C: Contents>(
-    rt: &HostRuntime,
-    contents: &C,
-    output: &str,
-) -> Result<(), WriteError> {
-    let file = File::options().write(true).create(true).open(rt, output)?;
-    fill(rt.alloc(), contents, file)
-}
-
-/// Writes the contents to a file in place of what it held, small pieces of them in one write.
-fn fill<C: Contents>(alloc: Global, contents: &C, file: File) -> Result<(), WriteError> {
-    empty(&file)?;
-    match BufWriter::new(alloc, file) {
-        Ok(mut pieces) => {
-            contents.write(&mut pieces)?;
-            pieces.flush()?;
-            Ok(())
-        }
-        Err(_) => Err(WriteError::Memory),
-    }
-}
-
-/// Takes away what a regular file holds. What isn't one has nothing to be taken away.
-fn empty(file: &File) -> io::Result<()> {
+/// Writes the contents to a file in place of what it held, small pieces of them in one write. What
+/// isn't a regular file has nothing to be taken away.
+fn fill<C: FileContents>(alloc: Global, contents: &C, file: File) -> Result<(), FileError> {
     let metadata = file.metadata()?;
     if metadata.is_file() && metadata.len() != 0 {
         file.set_len(0)?;
     }
+    let Ok(mut pieces) = BufWriter::new(alloc, file) else {
+        return Err(FileError::Memory);
+    };
+    contents.write(&mut pieces)?;
+    pieces.flush()?;
     Ok(())
 }

@@ -32,11 +32,6 @@ pub whole : (old new : Option (List ℕ)) (bytes : List ℕ) → Appends old new
 unfolding HasBeginning
 whole old new bytes h = (length bytes, rw (take_all (length bytes) bytes (omega arith)) h)
 
--- the same after bytes that were flushed
-pub stay : (old middle new : Option (List ℕ)) (bytes : List ℕ) → Appends old middle bytes
-    → Keeps middle new → Appends old new bytes
-stay = Appends-kept
-
 module _ {F O : Type 0} (begins : F → Option (List Begun)) (contents : O → Option (List ℕ))
     (files files' : F) (out out' : O) (name text : List ℕ) where
   -- in the stream, and in a file
@@ -90,6 +85,18 @@ module _ {F O : Type 0} (begins : F → Option (List Begun)) (contents : O → O
   why_file e added same failures.Memory h = tt
   why_file e added same _ h = absurd h
 
+pub ruleset puts = (
+  put_stream,
+  put_file,
+  begins_stream,
+  begins_file,
+  why_stream,
+  why_file,
+  begun,
+  whole,
+  Appends-kept,
+)
+
 -- why lines behind a package weren't printed, or it wasn't written
 pub why_package : (U C X : Type 0) (failure : Failure) → IsWhyUnwritten U C ⊥ failure
     → IsWhyUnwritten U C X failure
@@ -104,6 +111,8 @@ pub why_line : (U C X : Type 0) (failure : Failure) → FailsBy X failure
 why_line U C X failures.Line h = inr h
 why_line U C X failures.Memory h = tt
 why_line U C X _ h = absurd h
+
+pub ruleset warned = (put_begins, why_package, why_line)
 
 -- the warnings that were printed, and handed over
 pub printed : {warned : Warned} (old middle new : Option (List ℕ)) (text : List ℕ)

@@ -1,4 +1,4 @@
-//! The files that `pack` reads, and the one that it writes, as a trait; and those of the system.
+//! The files that `pack` reads, and the one that it writes, as a trait.
 
 ghost use Rattle.std.specs.Prelude.{ℕ, List, Result, Option, Some, None, OnOk, OnErr, IfErr};
 ghost use Rattle.std.specs.Path.{path_bytes};
@@ -6,13 +6,11 @@ ghost use Rattle.std.specs.declared.io.Error.{Error as IoError};
 ghost use Rattle.dwp_elf.specs.FileText.{file_text};
 ghost use Rattle.thorin_sessions.specs.Sessions.{IsNoWantOfMemory};
 ghost use Rattle.thorin_output.specs.Files.{Begun, Adds, IsOfFile};
-ghost use Rattle.thorin_output.specs.Reads.{Identity, any_identity, anything, IsReadOver};
+ghost use Rattle.thorin_output.specs.Reads.{Identity, IsReadOver};
 
-use dwp_elf::{WritableObject, WriteError as ObjectError};
-use std::io::{self, Write};
+use dwp_elf::WritableObject;
 use std::path::Path;
 use thorin_errors::InputError;
-use thorin_files::{Contents, WriteError};
 use thorin_print::Failure;
 
 /// The files that `pack` reads and writes. It has no other way to a file.
@@ -36,7 +34,7 @@ pub trait FileSystem {
             result }
         ensures memory { IfErr result IsNoWantOfMemory };
 
-    /// The same of a regular file; all else, as a pipe, is refused before it is opened.
+    /// Reads a regular file into such room; all else, as a pipe, is refused before it is opened.
     ///
     /// # Errors
     /// As those of `read_over`.
@@ -56,7 +54,7 @@ pub trait FileSystem {
     fn identity(&self, name: &str) -> Option<(u64, u64)>
         ensures { known self.now name.now result };
 
-    /// The same of the file that `read_regular_over` reads for a path.
+    /// By what the file is known that `read_regular_over` reads for a path.
     fn object_identity(&self, name: &str) -> Option<(u64, u64)> {
         self.identity(name)
     }
@@ -73,82 +71,4 @@ pub trait FileSystem {
             (Adds (begun self.old) (begun self.new) (name.now, Some (file_text object.now))) }
         ensures part { OnErr result (Adds (begun self.old) (begun self.new) (name.now, None)) }
         ensures cause { IfErr result IsOfFile };
-
-    /// Why the last file couldn't be written; none where that isn't known. Asked for once.
-    fn write_failure(&mut self) -> Option<io::Error> {
-        None
-    }
-}
-
-/// The files of the system. What has no end, as a device, isn't read.
-#[derive(Drop)]
-pub struct HostFiles<'a> {
-    rt: &'a HostRuntime,
-    /// Why the last file couldn't be written.
-    failure: Option<io::Error>,
-}
-
-impl<'a> HostFiles<'a> {
-    /// The files of this runtime.
-    pub fn new(rt: &'a HostRuntime) -> HostFiles<'a> {
-        HostFiles { rt, failure: None }
-    }
-}
-
-impl FileSystem for HostFiles<'_> {
-    ghost offer = { λ _. anything };
-
-    ghost known = { λ _. any_identity };
-
-    fn read_over(&self, path: Path<'_>, room: &mut Vec<u8>) -> Result<(), InputError> {
-        thorin_files::read_over(self.rt, path, room)?;
-        Ok(())
-    }
-
-    fn read_regular_over(&self, path: Path<'_>, room: &mut Vec<u8>) -> Result<(), InputError> {
-        thorin_files::read_regular_over(self.rt, path, room)?;
-        Ok(())
-    }
-
-    fn try_regular(&self, path: Path<'_>) -> Result<(), InputError> {
-        thorin_files::try_regular(self.rt, path)?;
-        Ok(())
-    }
-
-    fn identity(&self, name: &str) -> Option<(u64, u64)> {
-        thorin_files::identity(self.rt, name)
-    }
-
-    fn is_regular(&self, name: &str) -> bool {
-        thorin_files::is_file(self.rt, name)
-    }
-
-    fn write_object(&mut self, object: &WritableObject, name: &str) -> Result<(), Failure> {
-        match thorin_files::write(self.rt, &PackageFile(object), name) {
-            Ok(()) => Ok(()),
-            Err(WriteError::Output(cause)) => {
-                self.failure = Some(cause);
-                Err(Failure::Output)
-            }
-            Err(WriteError::Memory) => Err(Failure::Memory),
-        }
-    }
-
-    fn write_failure(&mut self) -> Option<io::Error> {
-        self.failure.take()
-    }
-}
-
-/// A package, as what its file is to hold.
-#[derive(Drop)]
-struct PackageFile<'o>(&'o WritableObject);
-
-impl Contents for PackageFile<'_> {
-    fn write<W: Write>(&self, file: &mut W) -> Result<(), io::Error> {
-        match self.0.write_to(file) {
-            Ok(()) => Ok(()),
-            Err(ObjectError::Io(cause)) => Err(cause),
-            Err(_) => Err(io::Error::from(io::ErrorKind::Other)),
-        }
-    }
 }

@@ -5,5 +5,5 @@ mod files;
 mod output;
 mod warnings;
 
-pub use files::{FileSystem, HostFiles};
+pub use files::FileSystem;
 pub use warnings::{Warned, Warnings, write_then_warn};

@@ -1,14 +1,12 @@
 //! Warnings, printed once the package is written.
 
-ghost use Rattle.std.specs.Prelude.{◌≡◌, ℕ, List, ◌++◌, flat_map, OnOk, OnErr, IfOk, IfErr};
-ghost use Rattle.std.specs.Prelude.{string_bytes};
+ghost use Rattle.std.specs.Prelude.{◌≡◌, ◌++◌, flat_map, string_bytes, OnOk, OnErr, IfOk, IfErr};
 ghost use Rattle.dwp_elf.specs.FileText.{file_text};
 ghost use Rattle.thorin_errors.specs.Text.{hex8};
 ghost use Rattle.thorin_print.specs.Answers.{FailsBy};
 ghost use Rattle.thorin_output.specs.Files.{IsCutShort, IsUnwritten, IsWhyUnwritten, Put, Begins};
 ghost use Rattle.thorin_output.specs.Warnings as spec;
-ghost use Rattle.thorin_output.specs.Warnings.{AreLines, IsPrinted, IsWarning, count_line};
-ghost use Rattle.thorin_output.specs.Warnings.{differing_line};
+ghost use Rattle.thorin_output.specs.Warnings.{IsPrinted, IsWarning, count_line, differing_line};
 
 use crate::files::FileSystem;
 use crate::output::write_package;
@@ -35,14 +33,11 @@ impl Warnings {
     pub fn of(word: &str) -> Option<Warnings>
         ensures { result ≡ spec.warnings_of word.now }
     {
-        if word == "each" {
-            Some(Warnings::Each)
-        } else if word == "once" {
-            Some(Warnings::Once)
-        } else if word == "none" {
-            Some(Warnings::Never)
-        } else {
-            None
+        match word {
+            "each" => Some(Warnings::Each),
+            "once" => Some(Warnings::Once),
+            "none" => Some(Warnings::Never),
+            _ => None,
         }
     }
 }
@@ -65,7 +60,7 @@ pub struct Warned<'d> {
 ///
 /// # Errors
 /// `Output`, `Line` or `Memory`.
-#[tactic(auto, using(crate::proofs::Puts::put_begins, crate::proofs::Puts::why_package, crate::proofs::Puts::why_line))]
+#[tactic(auto, using(crate::proofs::Puts::warned))]
 pub fn write_then_warn<F: FileSystem, O: Write, E: LineOutput>(
     files: &mut F,
     object: &WritableObject,
@@ -107,24 +102,15 @@ fn warnings_text(warned: Warned<'_>) -> Result<String, AllocError>
     ensures { IfOk result (λ text. IsWarning warned.entry (string_bytes text)) }
 {
     let mut text = String::from_str(warned.alloc, warned.lines)?;
-    put_lines(warned, &mut text)?;
-    Ok(text)
-}
-
-/// Adds the lines of type units that are asked for.
-fn put_lines(warned: Warned<'_>, text: &mut String) -> Result<(), AllocError>
-    ensures { OnOk result ((lines : List ℕ)
-        × AreLines warned.entry.warnings warned.entry.differing.now lines
-        × (string_bytes text.new ≡ string_bytes text.old ++ lines)) }
-{
     match warned.warnings {
-        Warnings::Each => put_each(warned.differing, text),
+        Warnings::Each => put_each(warned.differing, &mut text)?,
         Warnings::Once if !warned.differing.is_empty() => {
             let units = count_distinct(warned.alloc, warned.differing)?;
-            put_count(units, warned.differing.len(), text)
+            put_count(units, warned.differing.len(), &mut text)?;
         }
-        _ => Ok(()),
+        _ => {}
     }
+    Ok(text)
 }
 
 /// Adds a line for each type unit that differs from the one kept.
@@ -132,23 +118,12 @@ fn put_each(differing: &[DebugTypeSignature], text: &mut String) -> Result<(), A
     ensures { OnOk result (string_bytes text.new ≡ string_bytes text.old
         ++ flat_map differing_line differing.now) }
 {
+    let before = "warning: type unit 0x";
+    let after = " differs from the one kept\n";
     for signature in differing {
-        put_one(*signature, text)?;
+        put_between(before, signature.0, after, text)?;
     }
     Ok(())
-}
-
-/// Adds the line of one.
-fn put_one(signature: DebugTypeSignature, text: &mut String) -> Result<(), AllocError>
-    ensures { OnOk result (string_bytes text.new ≡ string_bytes text.old
-        ++ differing_line signature) }
-{
-    put_between(
-        "warning: type unit 0x",
-        signature.0,
-        " differs from the one kept\n",
-        text,
-    )
 }
 
 /// Adds an identifier between two texts.

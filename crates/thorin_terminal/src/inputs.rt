@@ -1,16 +1,17 @@
-//! The files of the system that `pack` reads: what is known of the last that was named, and objects
-//! that are sought in the working folder.
+//! The files of the system that `pack` reads and writes, and what is known and told of them.
 
 ghost use Rattle.thorin_output.specs.Reads.{any_identity, anything};
 
-use dwp_elf::{ElfFile, WritableObject};
+use crate::progress::{Console, Lines};
+use dwp_elf::{ElfFile, WritableObject, WriteError};
 use std::alloc::Global;
 use std::cell::Cell;
-use std::io::{self, ErrorKind};
+use std::io::{self, ErrorKind, Write};
 use std::path::{AsPath, Path};
 use thorin_errors::InputError;
-use thorin_inputs::place_of;
-use thorin_output::{FileSystem, HostFiles};
+use thorin_files::{FileContents, FileError};
+use thorin_inputs::{count_units, place_of};
+use thorin_output::FileSystem;
 use thorin_print::Failure;
 
 /// The machines whose relocations are read, by their numbers (ELF gABI, `e_machine`).
@@ -41,57 +42,73 @@ pub struct NamedFile {
     pub peculiarity: Option<Peculiarity>,
 }
 
-/// The files of the system. Where that is asked for, a regular file that isn't at its path is
-/// sought in the working folder by the ends of the path, the longest first: so an object that was
-/// moved with its folders is found by the name that the compiler was given for it.
-#[derive(Drop)]
-pub(crate) struct HostInputs<'r> {
-    rt: &'r HostRuntime,
-    files: HostFiles<'r>,
-    seeks: Cell<bool>,
-    /// The last file that the command line names and that was read; whether an object that it names
-    /// isn't there.
-    named: Cell<Option<NamedFile>>,
-    misses: Cell<bool>,
+/// How files are read, and what is told meanwhile.
+#[derive(Clone, Copy)]
+pub struct ReadingSettings {
+    /// Whether regular files that aren't at their paths are sought elsewhere.
+    pub seeks: bool,
+    /// After how many milliseconds it is told how far packing is, if at all.
+    pub patience: Option<u64>,
+    /// How many files are to be read, where that is known.
+    pub all: Option<u64>,
+    /// Whether a line tells of each object that a file names.
+    pub names_objects: bool,
 }
 
-impl<'r> HostInputs<'r> {
-    /// The files of the runtime.
-    pub(crate) fn new(rt: &'r HostRuntime) -> HostInputs<'r> {
-        HostInputs {
-            rt,
-            files: HostFiles::new(rt),
-            seeks: Cell::new(false),
-            named: Cell::new(None),
-            misses: Cell::new(false),
-        }
-    }
+/// Files that are packed, of which is known what notes say.
+pub trait NotedFiles: FileSystem {
+    /// Reads files by these settings, and tells what is told, up to `end`.
+    fn begin(&self, settings: ReadingSettings);
 
-    /// Seeks files that aren't at their paths, or doesn't.
-    pub(crate) fn seek(&self, seeks: bool) {
-        self.seeks.set(seeks);
-    }
+    /// Nothing is told any more.
+    fn end(&self);
 
     /// The last file that the command line names and that was read, as far as there was memory to
     /// keep it. Asked for once.
-    pub(crate) fn last_named(&self) -> Option<NamedFile> {
-        let mut named = self.named.replace(None)?;
-        if self.misses.get() {
-            named.peculiarity = Some(Peculiarity::NamesMissing);
+    fn last_named(&self) -> Option<NamedFile>;
+
+    /// Why the package's file couldn't be written, if it couldn't. Asked for once.
+    fn unwritten(&self) -> Option<io::Error>;
+}
+
+/// The files of the system, of which is counted what is read. What has no end, as a device, isn't
+/// read. Where that is asked for, a regular file that isn't at its path is sought in the working
+/// folder by the ends of the path, the longest first: so an object that was moved with its folders
+/// is found by the name that the compiler was given for it.
+#[derive(Drop)]
+pub struct HostFiles<'c, 'r, 'e, E> {
+    rt: &'r HostRuntime,
+    console: &'c Console<'r, 'e, E>,
+    settings: Cell<ReadingSettings>,
+    /// The last file that the command line names and that was read.
+    named: Cell<Option<NamedFile>>,
+    /// Why the last file couldn't be written.
+    unwritten: Cell<Option<io::Error>>,
+}
+
+impl<'c, 'r, 'e, E: Write> HostFiles<'c, 'r, 'e, E> {
+    /// Those of the runtime, told of on a console.
+    pub fn new(rt: &'r HostRuntime, console: &'c Console<'r, 'e, E>) -> HostFiles<'c, 'r, 'e, E> {
+        HostFiles {
+            rt,
+            console,
+            settings: Cell::new(ReadingSettings {
+                seeks: false,
+                patience: None,
+                all: None,
+                names_objects: false,
+            }),
+            named: Cell::new(None),
+            unwritten: Cell::new(None),
         }
-        Some(named)
     }
 
-    /// An object that was read, and the file that names it, as they are printed.
-    pub(crate) fn place(&self, object: &str) -> Option<String> {
-        let named = self.named.replace(None)?;
-        let place = place_of(self.rt.alloc(), named.path.as_str(), Some(object)).ok();
-        self.named.set(Some(named));
-        place
-    }
-
-    /// The longest end of a path, behind one of its first slashes, at which there is a regular file.
+    /// The longest end of a path, behind one of its first slashes, at which there is a regular
+    /// file; none where files aren't sought.
     fn end_of<'p>(&self, path: &'p str) -> Option<&'p str> {
+        if !self.settings.get().seeks {
+            return None;
+        }
         let mut rest = path;
         for _ in 0..MOST_ENDS {
             let (_front, end) = rest.split_once('/')?;
@@ -102,102 +119,156 @@ impl<'r> HostInputs<'r> {
         }
         None
     }
+
+    /// Reads a regular file at its path, or else at an end of it. Where it is at none, the file
+    /// that names it names a missing one.
+    fn read_sought(&self, path: Path<'_>, room: &mut Vec<u8>) -> io::Result<()> {
+        let answer = thorin_files::read_regular_over(self.rt, path, room);
+        if !is_not_found(&answer) {
+            return answer;
+        }
+        if let Some(end) = self.end_of(path.path_text()) {
+            return thorin_files::read_regular_over(self.rt, Path::new(end), room);
+        }
+        if let Some(mut named) = self.named.replace(None) {
+            named.peculiarity = Some(Peculiarity::NamesMissing);
+            self.named.set(Some(named));
+        }
+        answer
+    }
+
+    /// Tells of an object that a file names.
+    fn tell_object(&self, path: &str, object: &[u8]) {
+        let Some(named) = self.named.replace(None) else {
+            return;
+        };
+        let place = place_of(self.rt.alloc(), named.path.as_str(), Some(path));
+        self.named.set(Some(named));
+        if let Ok(place) = place {
+            let mut err = Lines(self.console);
+            let _ = match count_units(object) {
+                Some(1) => writeln!(err, "{place}: 1 unit"),
+                Some(units) => writeln!(err, "{place}: {units} units"),
+                None => writeln!(err, "{place}"),
+            };
+        }
+    }
 }
 
 /// Whether nothing was there to be read.
-fn is_not_found(answer: &Result<(), InputError>) -> bool {
+fn is_not_found(answer: &io::Result<()>) -> bool {
     match answer {
-        Err(InputError::Io(cause)) => cause.kind() == ErrorKind::NotFound,
-        _ => false,
+        Err(cause) => cause.kind() == ErrorKind::NotFound,
+        Ok(()) => false,
     }
 }
 
-/// A file that the command line names; none where there is no memory to keep it.
-fn named_file(alloc: Global, path: &str, bytes: &[u8]) -> Option<NamedFile> {
-    let peculiarity = peculiarity_of(bytes);
-    match String::from_str(alloc, path) {
-        Ok(path) => Some(NamedFile { path, peculiarity }),
-        Err(_) => None,
-    }
-}
-
-/// What a file is, by its first bytes (ELF gABI, "ELF Header").
+/// What a file is, by its first bytes (ELF gABI, "ELF Header"): a relocatable one has type 1, in
+/// either byte order.
 fn peculiarity_of(bytes: &[u8]) -> Option<Peculiarity> {
     let machine = ElfFile::parse(bytes).ok()?.machine();
-    match machine {
-        EM_386 | EM_X86_64 | EM_AARCH64 => None,
-        _ if is_relocatable(bytes) => Some(Peculiarity::RelocatableFor(machine)),
+    match (machine, bytes.get(16), bytes.get(17)) {
+        (EM_386 | EM_X86_64 | EM_AARCH64, _, _) => None,
+        (_, Some(1), Some(0)) | (_, Some(0), Some(1)) => Some(Peculiarity::RelocatableFor(machine)),
         _ => None,
     }
 }
 
-/// Whether an ELF file is relocatable: its type is 1, in either byte order.
-fn is_relocatable(bytes: &[u8]) -> bool {
-    matches!(
-        (bytes.get(16), bytes.get(17)),
-        (Some(1), Some(0)) | (Some(0), Some(1))
-    )
-}
-
-impl FileSystem for HostInputs<'_> {
+impl<E: Write> FileSystem for HostFiles<'_, '_, '_, E> {
     ghost offer = { λ _. anything };
 
     ghost known = { λ _. any_identity };
 
     fn read_over(&self, path: Path<'_>, room: &mut Vec<u8>) -> Result<(), InputError> {
         self.named.set(None);
-        self.misses.set(false);
-        self.files.read_over(path, room)?;
-        self.named
-            .set(named_file(self.rt.alloc(), path.path_text(), room));
+        thorin_files::read_over(self.rt, path, room)?;
+        let peculiarity = peculiarity_of(room);
+        if let Ok(path) = String::from_str(self.rt.alloc(), path.path_text()) {
+            self.named.set(Some(NamedFile { path, peculiarity }));
+        }
+        self.console.count(room.len());
         Ok(())
     }
 
     fn read_regular_over(&self, path: Path<'_>, room: &mut Vec<u8>) -> Result<(), InputError> {
-        let answer = self.files.read_regular_over(path, room);
-        if !is_not_found(&answer) {
-            return answer;
+        self.read_sought(path, room)?;
+        self.console.count(room.len());
+        if self.settings.get().names_objects {
+            self.tell_object(path.path_text(), room);
         }
-        if self.seeks.get() {
-            if let Some(end) = self.end_of(path.path_text()) {
-                return self.files.read_regular_over(Path::new(end), room);
-            }
-        }
-        self.misses.set(true);
-        answer
+        Ok(())
     }
 
     fn try_regular(&self, path: Path<'_>) -> Result<(), InputError> {
-        let answer = self.files.try_regular(path);
-        if !self.seeks.get() || !is_not_found(&answer) {
-            return answer;
+        let answer = thorin_files::try_regular(self.rt, path);
+        if is_not_found(&answer) {
+            if let Some(end) = self.end_of(path.path_text()) {
+                thorin_files::try_regular(self.rt, Path::new(end))?;
+                return Ok(());
+            }
         }
-        match self.end_of(path.path_text()) {
-            Some(end) => self.files.try_regular(Path::new(end)),
-            None => answer,
-        }
+        answer?;
+        Ok(())
     }
 
     fn identity(&self, name: &str) -> Option<(u64, u64)> {
-        self.files.identity(name)
+        thorin_files::identity(self.rt, name)
     }
 
     fn object_identity(&self, name: &str) -> Option<(u64, u64)> {
-        match self.files.identity(name) {
-            None if self.seeks.get() => self.files.identity(self.end_of(name)?),
+        match self.identity(name) {
+            None => self.identity(self.end_of(name)?),
             identity => identity,
         }
     }
 
     fn is_regular(&self, name: &str) -> bool {
-        self.files.is_regular(name)
+        thorin_files::is_file(self.rt, name)
     }
 
     fn write_object(&mut self, object: &WritableObject, name: &str) -> Result<(), Failure> {
-        self.files.write_object(object, name)
+        match thorin_files::write(self.rt, &WholeObject(object), name) {
+            Ok(()) => Ok(()),
+            Err(FileError::Io(cause)) => {
+                self.unwritten.set(Some(cause));
+                Err(Failure::Output)
+            }
+            Err(FileError::Memory) => Err(Failure::Memory),
+        }
+    }
+}
+
+impl<E: Write> NotedFiles for HostFiles<'_, '_, '_, E> {
+    fn begin(&self, settings: ReadingSettings) {
+        self.settings.set(settings);
+        if let Some(patience) = settings.patience {
+            self.console.begin(patience, settings.all);
+        }
     }
 
-    fn write_failure(&mut self) -> Option<io::Error> {
-        self.files.write_failure()
+    fn end(&self) {
+        self.console.clear();
+    }
+
+    fn last_named(&self) -> Option<NamedFile> {
+        self.named.replace(None)
+    }
+
+    fn unwritten(&self) -> Option<io::Error> {
+        self.unwritten.replace(None)
+    }
+}
+
+/// An object, as what its file is to hold.
+#[derive(Drop)]
+struct WholeObject<'o>(&'o WritableObject);
+
+impl FileContents for WholeObject<'_> {
+    fn write<W: Write>(&self, file: &mut W) -> Result<(), io::Error> {
+        match self.0.write_to(file) {
+            Ok(()) => Ok(()),
+            Err(WriteError::Io(cause)) => Err(cause),
+            Err(_) => Err(io::Error::from(io::ErrorKind::Other)),
+        }
     }
 }

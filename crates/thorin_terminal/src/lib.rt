@@ -1,5 +1,4 @@
-//! How the program shows things on a terminal and reads files of the system: how far packing is,
-//! why standard output takes nothing, response files, and inputs.
+//! The system's files, as the program reads and writes them, its terminal, and standard output.
 #![tactic(auto)]
 
 mod inputs;
@@ -7,7 +6,7 @@ mod pipes;
 mod progress;
 mod responses;
 
-pub use inputs::{NamedFile, Peculiarity};
-pub use pipes::Watched;
-pub use progress::{Console, CountedFiles, Lines, NotedFiles, Telling};
-pub use responses::{HostResponses, NotedResponses};
+pub use inputs::{HostFiles, NamedFile, NotedFiles, Peculiarity, ReadingSettings};
+pub use pipes::WatchedWriter;
+pub use progress::{Console, Lines};
+pub use responses::{HostResponses, NotedResponses, RefusedResponse};

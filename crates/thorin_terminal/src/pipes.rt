@@ -7,32 +7,32 @@ use std::io::{self, Write};
 
 /// A writer, and why a write failed.
 #[derive(Drop)]
-pub struct Watched<O> {
+pub struct WatchedWriter<O> {
     /// The writer.
     pub out: O,
     /// Why the last write that failed did, if one did.
     failure: Option<io::Error>,
 }
 
-impl<O: Write> Watched<O> {
+impl<O: Write> WatchedWriter<O> {
     /// A writer that took nothing yet.
-    pub fn new(out: O) -> Watched<O>
+    pub fn new(out: O) -> WatchedWriter<O>
         ensures out { result.out ≡ out }
         ensures whole { failure_of result ≡ None }
     {
-        Watched { out, failure: None }
+        WatchedWriter { out, failure: None }
     }
 
     /// Why the last write that failed did, if one did.
     pub fn failure(&self) -> Option<io::Error>
         ensures { result ≡ failure_of self.now }
     {
-        let Watched { failure, .. } = self;
+        let WatchedWriter { failure, .. } = self;
         *failure
     }
 }
 
-impl<O: Write> Write for Watched<O> {
+impl<O: Write> Write for WatchedWriter<O> {
     ghost contents = { λ watched. O.contents watched.out };
 
     fn write(&mut self, bytes: &[u8]) -> io::Result<usize> {

@@ -6,24 +6,27 @@ use std::cell::Cell;
 use std::{io, str};
 use thorin_words::{ResponseError, ResponseFiles};
 
+/// A response file whose words can't be told.
+#[derive(Drop)]
+pub struct RefusedResponse {
+    /// Its name.
+    pub name: String,
+    /// Why it couldn't be read; none where it isn't UTF-8.
+    pub cause: Option<io::Error>,
+}
+
 /// Response files, of which is known what notes say.
 pub trait NotedResponses: ResponseFiles {
-    /// The name of the file that couldn't be read, and why. Asked for once.
-    fn unread(&self) -> Option<(String, io::Error)>;
-
-    /// The name of the last file that was read and isn't UTF-8, as far as there was memory to keep
-    /// it. Asked for once.
-    fn not_text(&self) -> Option<String>;
+    /// The file that couldn't be read, or the last that was read and isn't UTF-8, as far as there
+    /// was memory to keep its name. Asked for once.
+    fn refused(&self) -> Option<RefusedResponse>;
 }
 
 /// The files of the system. What has no end, as a device, isn't read.
 #[derive(Drop)]
 pub struct HostResponses<'r> {
     rt: &'r HostRuntime,
-    /// The name of the file that couldn't be read, and why.
-    unread: Cell<Option<(String, io::Error)>>,
-    /// The name of the last file that was read and isn't UTF-8.
-    not_text: Cell<Option<String>>,
+    refused: Cell<Option<RefusedResponse>>,
 }
 
 impl<'r> HostResponses<'r> {
@@ -31,8 +34,14 @@ impl<'r> HostResponses<'r> {
     pub fn new(rt: &'r HostRuntime) -> HostResponses<'r> {
         HostResponses {
             rt,
-            unread: Cell::new(None),
-            not_text: Cell::new(None),
+            refused: Cell::new(None),
+        }
+    }
+
+    /// Keeps what is known of a file.
+    fn keep(&self, name: &str, cause: Option<io::Error>) {
+        if let Ok(name) = String::from_str(self.rt.alloc(), name) {
+            self.refused.set(Some(RefusedResponse { name, cause }));
         }
     }
 }
@@ -50,16 +59,14 @@ impl ResponseFiles for HostResponses<'_> {
         match thorin_files::read_within(rt, name, most) {
             Ok(Some(bytes)) => {
                 if str::from_utf8(bytes.as_slice()).is_err() {
-                    self.not_text.set(String::from_str(rt.alloc(), name).ok());
+                    self.keep(name, None);
                 }
                 Ok(Some(bytes))
             }
             Ok(None) => Err(ResponseError::TooLong),
             Err(cause) => {
                 let error = read_error(&cause);
-                if let Ok(name) = String::from_str(rt.alloc(), name) {
-                    self.unread.set(Some((name, cause)));
-                }
+                self.keep(name, Some(cause));
                 Err(error)
             }
         }
@@ -67,12 +74,8 @@ impl ResponseFiles for HostResponses<'_> {
 }
 
 impl NotedResponses for HostResponses<'_> {
-    fn unread(&self) -> Option<(String, io::Error)> {
-        self.unread.replace(None)
-    }
-
-    fn not_text(&self) -> Option<String> {
-        self.not_text.replace(None)
+    fn refused(&self) -> Option<RefusedResponse> {
+        self.refused.replace(None)
     }
 }
 

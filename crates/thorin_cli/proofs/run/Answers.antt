@@ -25,7 +25,7 @@ returns-in-Ok g c = record {
 pub returns-in-Err : goal.returns-in-Err
 returns-in-Err g c = record {
   did = inr (
-    c.refuse_response-status.ensures.status,
+    refl,
     (refl, refl),
     unread (record {
       offer = g.F.FileSystem.offer;
@@ -36,11 +36,11 @@ returns-in-Err g c = record {
       told = λ err. g.E.Write.contents err.writer;
       untold = λ err. LacksLine err;
       read = g.R.FileReader.offer c.args.readers.files.now;
-    }) c.args.files.now c.args.out.now c.args.err.now _ c.refuse_response-status.new.err
+    }) c.args.files.now c.args.out.now c.args.err.now _ c.refuse_response.new.err
         c.note_response.ensures (λ h. h)
         (g.P.ResponseFiles.offer c.args.readers.responses.now)
         (g.P.ResponseFiles.fails c.args.readers.responses.now)
         (map g.S.AsStr.text c.named_program.result.1.now) _ c.in-Err.error c.in-Err.ensures
-        (ap (λ line. line.1) c.named_program.ensures) c.refuse_response-status.ensures.told,
+        (ap (λ line. line.1) c.named_program.ensures) c.refuse_response.ensures,
   );
 }

@@ -4,5 +4,5 @@ use Rattle.thorin_terminal.proofs.responses.HostResponsesResponseFiles.text.Goal
 pub returns-in-Ok-None-clause-long : goal.returns-in-Ok-None-clause-long
 returns-in-Ok-None-clause-long c = λ is. longer c.args.most
 
-pub returns-after-from_str-clause-long : goal.returns-after-from_str-clause-long
-returns-after-from_str-clause-long c = λ is. longer c.args.most
+pub returns-in-Err-clause-long : goal.returns-in-Err-clause-long
+returns-in-Err-clause-long c = λ is. longer c.args.most
