@@ -1,7 +1,7 @@
 -- Names that are cut.
-use Rattle.std.proofs.Common.{◌≡◌, ℕ, zero, suc, ◌+◌, ◌*◌, ◌-◌, ◌<◌, ◌≤◌, List, [], ◌++◌, codes}
+use Rattle.std.proofs.Common.{◌≡◌, ℕ, zero, suc, ◌+◌, ◌*◌, ◌-◌, ◌<◌, ◌≤◌, List, ◌++◌, codes}
 use Rattle.std.proofs.Common.{length, drop}
-use Rattle.std.proofs.Common.{slice_range, IsCharBoundary, arith, append-nil}
+use Rattle.std.proofs.Common.{slice_range, IsCharBoundary, arith}
 use Rattle.std.proofs.lemmas.Bool.Decides.{nat_tests}
 use Rattle.std.proofs.Math.Nat.{sub-zero}
 use Rattle.std.specs.Fmt.Cut.{floor_char_boundary}
@@ -15,10 +15,9 @@ floor_is bs zero kept within low boundary nearest = omega arith
 floor_is bs (suc i) kept within low boundary nearest =
     grind (arith, nat_tests, nearest (suc i), floor_is bs i kept)
 
-pub is_whole : (end : ℕ) (name text : List ℕ) → length name ≤ 2 * end + 2
-    → text ≡ name ++ ([] ++ []) → text ≡ cut end name
+pub is_whole : (end : ℕ) (name : List ℕ) → length name ≤ 2 * end + 2 → name ≡ cut end name
 unfolding cut
-is_whole end name text h e = grind (arith, nat_tests, append-nil)
+is_whole end name h = grind (arith, nat_tests)
 
 module _ (end : ℕ) (some : 0 < end) (name front back : List ℕ) (first last : ℕ)
     (long : 2 * end + 2 < length name)

@@ -1,5 +1,5 @@
 -- What was printed, or begun.
-use Rattle.std.proofs.Common.{◌≡◌, ℕ, List, [], length, take, Option, Result, Ok, Err, arith}
+use Rattle.std.proofs.Common.{◌≡◌, ℕ, List, [], length, take, Option, Result, arith}
 use Rattle.std.proofs.Common.{take_all, ◌++◌, append-nil, Some, None, append_assoc, sym}
 use Rattle.std.specs.Io.KnownBytes.{Appends, Keeps}
 pub use Rattle.std.proofs.KnownBytes.{Appends-kept as flushed}
@@ -7,7 +7,6 @@ use Rattle.std.proofs.KnownBytes.{Appends-kept, Appends-nil, Appends-trans}
 use Rattle.std.proofs.Math.Seq.{take-append_seam}
 use Rattle.thorin_print.specs.Answers.{HasBeginning, Comes, Grows}
 use Rattle.thorin_print.specs.declared.output.Failure.{Failure}
-use Rattle.thorin_print.specs.declared.output.Failure.TheVariants as failures
 
 -- all of it is a beginning
 pub whole : (old new : Option (List ℕ)) (bytes : List ℕ) → Appends old new bytes
@@ -20,12 +19,6 @@ pub came : (given : Result ℕ Failure) (text : List ℕ) (old new : Option (Lis
     → Appends old new text
     → Comes given (record { printed = text; answer = given }) old new
 came given text old new h = grind (arith, whole old new text h)
-
--- a write failed
-pub stopped : (given : Result ℕ Failure) (text : List ℕ) (old new : Option (List ℕ))
-    → HasBeginning old new text
-    → Comes (Err failures.Line) (record { printed = text; answer = given }) old new
-stopped given text old new h = h
 
 -- nothing was handed over
 pub nothing : (a : Option (List ℕ)) (bytes : List ℕ) → HasBeginning a a bytes
@@ -48,6 +41,15 @@ so_far_more {a = a} {b = b} c rest piece rest' s e p = record {
   appended = Appends-trans a b c s.done piece s.appended p;
 }
 
+-- and nothing more
+pub so_far_kept : {a b : Option (List ℕ)} {all rest : List ℕ} (c : Option (List ℕ))
+    → SoFar a b all rest → Keeps b c → SoFar a c all rest
+so_far_kept {a = a} {b = b} c s k = record {
+  done = s.done;
+  split = s.split;
+  appended = Appends-kept a b c s.done s.appended k;
+}
+
 -- what was handed over so far is a beginning, where nothing more was
 pub part : (old middle new : Option (List ℕ)) (all rest : List ℕ) → SoFar old middle all rest
     → Keeps middle new → HasBeginning old new all
@@ -56,16 +58,12 @@ part old middle new all rest s k =
     let kept = Appends-kept old middle new s.done s.appended k in
     (length s.done, rw (s.split, take-append_seam s.done rest) kept)
 
--- a write that took no bytes, and one that was interrupted
+-- a write that took no bytes
 pub none_taken : (old new : Option (List ℕ)) (bytes : List ℕ)
     → Appends old new (take 0 bytes) → Keeps old new
 none_taken None new bytes h = tt
 none_taken (Some x) None bytes h = absurd h
 none_taken (Some x) (Some y) bytes h = rw append-nil at h
-
-pub none_added : (old new : Option (List ℕ)) (bytes : List ℕ) → Keeps old new
-    → Appends old new (take 0 bytes)
-none_added old new bytes h = Appends-kept old old new [] (Appends-nil old) h
 
 -- ---- something was printed
 

@@ -70,17 +70,13 @@ impl<W: Write> LineOutput for WatchedLines<W> {
 
     fn print_text(&mut self, text: &str) -> Result<(), Failure> {
         let printed = print(text, &mut self.writer);
-        if printed.is_err() {
-            self.has_failed = true;
-        }
+        self.has_failed |= printed.is_err();
         printed
     }
 
     fn flush_text(&mut self) -> Result<(), Failure> {
         let flushed = flush(&mut self.writer);
-        if flushed.is_err() {
-            self.has_failed = true;
-        }
+        self.has_failed |= flushed.is_err();
         flushed
     }
 }
@@ -104,11 +100,9 @@ impl<W: Write> WatchedLines<W> {
         ensures failed { result ≡ false → LacksLine self.new }
         ensures once { LacksLine self.old → LacksLine self.new }
     {
-        if write!(self.writer, "{text}").is_ok() {
-            return true;
-        }
-        self.has_failed = true;
-        false
+        let is_shown = write!(self.writer, "{text}").is_ok();
+        self.has_failed |= !is_shown;
+        is_shown
     }
 
     /// Prints the line of an error, and answers whether it could.
@@ -118,11 +112,9 @@ impl<W: Write> WatchedLines<W> {
         ensures failed { result ≡ false → LacksLine self.new }
         ensures once { LacksLine self.old → LacksLine self.new }
     {
-        if writeln!(self.writer, "error: {error}").is_ok() {
-            return true;
-        }
-        self.has_failed = true;
-        false
+        let is_told = writeln!(self.writer, "error: {error}").is_ok();
+        self.has_failed |= !is_told;
+        is_told
     }
 
     /// Tells a failure, and answers its status; 1 where it can't be printed.

@@ -1,12 +1,11 @@
 //! What the program prints of failures, and how it prints a text.
 
-ghost use Rattle.std.specs.Prelude.{◌≡◌, ◌≤◌, length, take, IfOk, IfErr, OnOk, OnErr, Some};
-ghost use Rattle.std.specs.Fmt.{DisplaysOnOk};
+ghost use Rattle.std.specs.Prelude.{◌≡◌, IfErr, OnOk, Some};
 ghost use Rattle.std.specs.Io.KnownBytes.{Appends, Keeps};
 ghost use Rattle.thorin_print.specs.Answers.{HasBeginning, Comes, exit_status};
 ghost use Rattle.thorin_print.specs.Answers.{IsOfPrinting, Prints};
 ghost use Rattle.thorin_print.specs.Failures.{failure_text};
-ghost use Rattle.thorin_print.specs.declared.output.Failure.TheVariants.{Memory, NoRange, NoUnit};
+ghost use Rattle.thorin_print.specs.declared.output.Failure.TheVariants.{Line, Memory};
 
 use dwp_base::SectionKind;
 use std::alloc::{AllocError, AllocFailed, Global};
@@ -69,6 +68,7 @@ impl Failure {
 impl fmt::Display for Failure {
     ghost output = { λ failure. Some (failure_text failure) };
 
+    #[tactic(auto, using(crate::proofs::Hex::hex8_written))]
     fn fmt<W: fmt::Write>(&self, f: &mut fmt::Formatter<W>) -> fmt::Result {
         match self {
             Failure::Output => f.write_str("Failed to write output file"),
@@ -78,34 +78,20 @@ impl fmt::Display for Failure {
             Failure::Input => f.write_str("Failed to read input file"),
             Failure::Malformed => f.write_str("Malformed package"),
             Failure::NoIndex => f.write_str("no index: not a package"),
-            Failure::NoUnit(id) => write_unit(f, *id),
+            Failure::NoUnit(id) => write!(f, "Unit 0x{id:08x} is not in the package"),
             Failure::BadKind => f.write_str("Bad unit kind"),
             Failure::BadIdentifier => f.write_str("Bad identifier"),
             Failure::BadNumber => f.write_str("Bad number"),
             Failure::BadSection => f.write_str("Bad section kind"),
             Failure::NoString(number) => write!(f, "Unit has no string {number}"),
-            Failure::NoRange(kind) => write_range(f, *kind),
+            Failure::NoRange(kind) => {
+                let name = kind.short_name();
+                write!(f, "Unit has no range of {name}")
+            }
             Failure::BadCommand => f.write_str("Bad command line"),
             Failure::Memory => f.write_str("Out of memory"),
         }
     }
-}
-
-/// Writes what is said of an identifier that no unit has.
-#[tactic(auto, using(crate::proofs::Hex::hex8_written))]
-fn write_unit<W: fmt::Write>(f: &mut fmt::Formatter<W>, id: u64) -> fmt::Result
-    ensures { DisplaysOnOk W.write_str_gives f.old result (Some (failure_text (NoUnit id))) f.new }
-{
-    write!(f, "Unit 0x{id:08x} is not in the package")
-}
-
-/// Writes what is said of a kind of section that a unit has no range of.
-fn write_range<W: fmt::Write>(f: &mut fmt::Formatter<W>, kind: SectionKind) -> fmt::Result
-    ensures { DisplaysOnOk W.write_str_gives f.old result (Some (failure_text (NoRange kind)))
-        f.new }
-{
-    let name = kind.short_name();
-    write!(f, "Unit has no range of {name}")
 }
 
 impl From<AllocError> for Failure {
@@ -132,8 +118,8 @@ pub fn answer<O: Write>(text: &str, given: Result<u8, Failure>, out: &mut O) -> 
     answer_bytes(text.as_bytes(), given, out)
 }
 
-/// The same of bytes.
-#[tactic(auto, using(crate::proofs::Printed::came, crate::proofs::Printed::stopped))]
+/// Prints bytes as they are. Answers then what is given.
+#[tactic(auto, using(crate::proofs::Printed::came))]
 pub fn answer_bytes<O: Write>(
     bytes: &[u8],
     given: Result<u8, Failure>,
@@ -142,10 +128,8 @@ pub fn answer_bytes<O: Write>(
     ensures { Comes result (record { printed = bytes.now; answer = given })
         (O.contents out.old) (O.contents out.new) }
 {
-    match put(bytes, out) {
-        Ok(()) => given,
-        Err(_) => Err(Failure::Line),
-    }
+    put(bytes, out)?;
+    given
 }
 
 /// Hands bytes to a writer, in as many writes as it takes.
@@ -154,42 +138,25 @@ pub fn answer_bytes<O: Write>(
 /// `Line` where it doesn't take all.
 fn put<O: Write>(bytes: &[u8], out: &mut O) -> Result<(), Failure>
     ensures whole { OnOk result (Appends (O.contents out.old) (O.contents out.new) bytes.now) }
-    ensures part { OnErr result (HasBeginning (O.contents out.old) (O.contents out.new)
-        bytes.now) }
+    ensures part { IfErr result (λ failure. (failure ≡ Line)
+        × HasBeginning (O.contents out.old) (O.contents out.new) bytes.now) }
 {
     let mut rest = bytes;
     for _turn in 0..u64::MAX {
         if rest.is_empty() {
             return Ok(());
         }
-        let taken = put_some(rest, out)?;
-        rest = &rest[taken..];
-    }
-    Err(Failure::Line)
-}
-
-/// Hands bytes to a writer in one write. Answers how many it took, 0 where it was interrupted.
-///
-/// # Errors
-/// `Line` where it takes none.
-#[tactic(auto, using(crate::proofs::Printed::none_taken, crate::proofs::Printed::none_added))]
-fn put_some<O: Write>(bytes: &[u8], out: &mut O) -> Result<usize, Failure>
-    ensures bound { IfOk result (λ taken. taken ≤ length bytes.now) }
-    ensures bytes { IfOk result (λ taken. Appends (O.contents out.old) (O.contents out.new)
-        (take taken bytes.now)) }
-    ensures kept { OnErr result (Keeps (O.contents out.old) (O.contents out.new)) }
-{
-    match out.write(bytes) {
-        Ok(0) => Err(Failure::Line),
-        Ok(taken) => Ok(taken),
-        Err(e) => {
-            if e.kind() == io::ErrorKind::Interrupted {
-                Ok(0)
-            } else {
-                Err(Failure::Line)
+        match out.write(rest) {
+            Ok(0) => return Err(Failure::Line),
+            Ok(taken) => rest = &rest[taken..],
+            Err(e) => {
+                if e.kind() != io::ErrorKind::Interrupted {
+                    return Err(Failure::Line);
+                }
             }
         }
     }
+    Err(Failure::Line)
 }
 
 /// Prints a text.
@@ -200,11 +167,7 @@ fn put_some<O: Write>(bytes: &[u8], out: &mut O) -> Result<usize, Failure>
 pub fn print<O: Write>(text: &str, out: &mut O) -> Result<(), Failure>
     ensures { Prints text.now (O.contents out.old) (O.contents out.new) result }
 {
-    let bytes = text.as_bytes();
-    match put(bytes, out) {
-        Ok(()) => Ok(()),
-        Err(_) => Err(Failure::Line),
-    }
+    put(text.as_bytes(), out)
 }
 
 /// A buffer in front of a writer.

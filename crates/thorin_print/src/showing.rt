@@ -1,6 +1,6 @@
 //! Names out of files and of the command line as they are printed.
 
-ghost use Rattle.std.specs.Prelude.{◌≡◌, ◌++◌, ◌<◌, IfOk, string_bytes};
+ghost use Rattle.std.specs.Prelude.{◌≡◌, ◌<◌, IfOk, string_bytes};
 ghost use Rattle.thorin_print.specs.Shown as spec;
 
 use std::alloc::{AllocError, Global};
@@ -9,7 +9,7 @@ use thorin_words::printed;
 /// How many bytes of a long name are printed of its beginning, and of its end.
 const END: usize = 2047;
 
-/// The same in a line that many units may have.
+/// How many in a line that many units may have.
 const BRIEF_END: usize = 383;
 
 /// A name as it is printed: of one of more than 4,096 bytes the beginning, `..` and the end; each
@@ -56,16 +56,11 @@ fn cut(alloc: Global, end: usize, text: &str) -> Result<String, AllocError>
 {
     let most = 2 * end + 2;
     if text.len() <= most {
-        return with_dots(alloc, text, "", "");
+        return String::from_str(alloc, text);
     }
     let first = text.floor_char_boundary(end);
     let last = text.floor_char_boundary(text.len() - end);
-    with_dots(alloc, &text[..first], "..", &text[last..])
-}
-
-/// A beginning, dots and an end.
-fn with_dots(alloc: Global, first: &str, dots: &str, last: &str) -> Result<String, AllocError>
-    ensures { IfOk result (λ text. string_bytes text ≡ first.now ++ (dots.now ++ last.now)) }
-{
-    format!(in alloc; "{first}{dots}{last}")
+    let front = &text[..first];
+    let back = &text[last..];
+    format!(in alloc; "{front}..{back}")
 }

@@ -1,19 +1,27 @@
-use Rattle.std.proofs.Common.{take, arith, take-append-drop}
+use Rattle.std.proofs.Common.{take, arith, take-append-drop, refl}
 use Rattle.std.proofs.KnownBytes.{Keeps-refl}
 use Rattle.std.proofs.lemmas.List.{take_rest}
-use Rattle.thorin_print.proofs.Printed.{so_far_more, part}
+use Rattle.thorin_print.proofs.Printed.{so_far_kept, so_far_more, part, none_taken}
 use Rattle.thorin_print.proofs.output.put.Goals as goal
+use Rattle.thorin_print.proofs.output.put.Goals.{in-Ok, in-Err+else-ne}
 
 pub loop-turn-preserved : goal.loop-turn-preserved
-loop-turn-preserved g c =
-    let rest = c.loop-turn.rest.now in
-    let n = c.in_ok-taken.taken in
-    so_far_more _ rest (take n rest) _ c.loop-turn.invariant
-    (grind (arith, take-append-drop n rest, take_rest rest n)) c.in_ok-taken.ensures.bytes
+loop-turn-preserved g c = elim c.match-write.branch [
+  | in-Ok w ↦ (let rest = c.loop-turn.rest.now in let n = w.in-Ok.taken in
+      rw w.rest-is (so_far_more _ rest (take n rest) _ c.loop-turn.invariant
+      (grind (arith, take-append-drop n rest, take_rest rest n)) w.in-Ok.ensures.bytes))
+  | in-Err+else-ne w ↦ rw w.rest-is (so_far_kept _ c.loop-turn.invariant w.in-Err.ensures.bytes)
+]
 
-pub returns-in_err-taken-clause-part : goal.returns-in_err-taken-clause-part
-returns-in_err-taken-clause-part g c =
-    grind (arith, part _ _ _ _ _ c.loop-turn.invariant c.in_err-taken.ensures.kept)
+pub returns-in-Ok-eq0-clause-part : goal.returns-in-Ok-eq0-clause-part
+returns-in-Ok-eq0-clause-part g c =
+    let kept = none_taken _ _ c.loop-turn.rest.now
+    (rw c.in-Ok-eq0.field-0-test at c.in-Ok-eq0.ensures.bytes) in
+    (refl, part _ _ _ _ _ c.loop-turn.invariant kept)
+
+pub returns-then-ne-clause-part : goal.returns-then-ne-clause-part
+returns-then-ne-clause-part g c =
+    (refl, part _ _ _ _ _ c.loop-turn.invariant c.in-Err.ensures.bytes)
 
 pub returns-clause-part : goal.returns-clause-part
-returns-clause-part g c = part _ _ _ _ _ c.loop-turn.invariant (Keeps-refl _)
+returns-clause-part g c = (refl, part _ _ _ _ _ c.loop-turn.invariant (Keeps-refl _))

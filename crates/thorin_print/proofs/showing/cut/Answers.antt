@@ -1,3 +1,4 @@
+use Rattle.std.proofs.Common.{rules}
 use Rattle.thorin_print.proofs.Cuts.{is_cut}
 use Rattle.thorin_print.proofs.showing.cut.Goals as goal
 
@@ -6,6 +7,5 @@ returns c =
     let f = c.floor_char_boundary-first.ensures in
     let l = c.floor_char_boundary-last.ensures in
     rw (← is_cut c.args.end c.requires.some c.args.text.now _ _ _ _ c.if-text-most.false f.bound
-    f.boundary f.nearest
-    l.bound l.boundary l.nearest c.range.ensures.value c.range_from.ensures.value)
-    c.with_dots-2.ensures
+    f.boundary f.nearest l.bound l.boundary l.nearest c.range-front.ensures.value
+    c.range_from-back.ensures.value) (search rules)
