@@ -1,6 +1,5 @@
-pub mod Asked
 pub mod Beginnings
-pub mod Decimals
 pub mod Listed
+pub mod Pieces
 pub mod Sought
 pub mod Walk

@@ -1,42 +1,69 @@
--- What came of a command that reads a file.
-use Rattle.std.proofs.Common.{◌≡◌, ℕ, List, Option, Result, Ok, Err, inl, inr, arith}
+-- What words ask for, and what came of a command that reads a file.
+use Rattle.std.proofs.Common.{◌≡◌, ◌≢◌, ℕ, List, codes, get_or, Option, None, Result, Ok, Err}
+use Rattle.std.proofs.Common.{MatchOption, refl, inl, inr, arith}
+use Rattle.std.specs.Result.{result_ok}
+use Rattle.std.specs.Str.Parse.{digits_value, ParsesUnsigned}
+use Rattle.std.specs.Str.Pattern.{FindsTextPrefix, StripsPrefix}
 use Rattle.std.proofs.KnownBytes.{Keeps-refl}
+use Rattle.std.proofs.lemmas.Str.Parse.{without_leading_plus_none}
 use Rattle.dwp_table.specs.declared.object.DwarfObject.{DwarfObject}
 use Rattle.thorin_print.specs.Answers.{Comes}
-use Rattle.thorin_print.specs.declared.form.Form.{Form}
 use Rattle.thorin_print.specs.declared.output.Failure.{Failure}
 use Rattle.thorin_find.specs.Files.{Offer, Reads, FailsToRead}
-use Rattle.thorin_find.specs.Finding.{FindsAsked, find_answer}
+use Rattle.thorin_find.specs.Finding.{HasDigits, IsNumber, Asks, AsksFor, FindsAsked, Finds, Words}
+use Rattle.thorin_find.specs.Finding.{find_answer}
 use Rattle.thorin_find.specs.declared.wanted.Wanted.{Wanted}
 
-module _ (offer : Offer) (path : List ℕ) (form : Form) (a : Option (List ℕ)) where
+-- the digits behind `0x`
+pub digits_behind : (text digits : List ℕ) → StripsPrefix (FindsTextPrefix (codes "0x")) text digits
+    → HasDigits text digits
+digits_behind text digits h = inl (rw h.2 h.1.1)
+
+-- the text is digits alone
+pub digits_alone : (text : List ℕ) → FindsTextPrefix (codes "0x") text None → HasDigits text text
+digits_alone text h = inr (h, refl)
+
+-- what decimal digits are read as
+pub number_read : {E : Type 0} (text : List ℕ) (r : Result ℕ E) → get_or text 0 0 ≢ 43
+    → ParsesUnsigned 64 10 text r
+    → MatchOption (result_ok r) (¬ (IsNumber text)) (λ n. IsNumber text
+    × (n ≡ digits_value 10 text))
+number_read text r unsigned h = grind (arith, without_leading_plus_none text unsigned)
+
+module _ (offer : Offer) (path : List ℕ) (words : Words) (a : Option (List ℕ))
+    (asked : Result DwarfObject Failure) (asks : Asks words.kind words.id asked)
+    (wanted : Result Wanted Failure) (wants : AsksFor words.string words.section wanted) where
+  found : (b : Option (List ℕ)) (result : Result ℕ Failure)
+      → FindsAsked offer path words.form a b asked wanted result
+      → Finds offer path words a b result
+  found b result h =
+      record { asked = asked; asks = asks; wanted = wanted; wants = wants; finds = h }
+
   -- the words ask for no unit
-  pub no_object : (asked : Result DwarfObject Failure) (wanted : Result Wanted Failure)
-      (failure : Failure) (result : Result ℕ Failure) → asked ≡ Err failure
-      → result ≡ Err failure → FindsAsked offer path form a a asked wanted result
-  no_object asked wanted failure result e f = rw (e, f) (grind (arith, Keeps-refl a))
+  pub no_object : (failure : Failure) (result : Result ℕ Failure) → asked ≡ Err failure
+      → result ≡ Err failure → Finds offer path words a a result
+  no_object failure result e f = found a result (rw (e, f) (grind (arith, Keeps-refl a)))
 
-  -- they ask for nothing of it
-  pub none_wanted : (object : DwarfObject) (asked : Result DwarfObject Failure)
-      (wanted : Result Wanted Failure) (failure : Failure) (result : Result ℕ Failure)
-      → asked ≡ Ok object → wanted ≡ Err failure → result ≡ Err failure
-      → FindsAsked offer path form a a asked wanted result
-  none_wanted object asked wanted failure result e f g = rw (e, f, g) (grind (arith, Keeps-refl a))
+  module _ (object : DwarfObject) (is_asked : asked ≡ Ok object) where
+    -- they ask for nothing of it
+    pub none_wanted : (failure : Failure) (result : Result ℕ Failure) → wanted ≡ Err failure
+        → result ≡ Err failure → Finds offer path words a a result
+    none_wanted failure result e f =
+        found a result (rw (is_asked, e, f) (grind (arith, Keeps-refl a)))
 
-  module _ (object : DwarfObject) (asked : Result DwarfObject Failure) (wanted : Wanted)
-      (wants : Result Wanted Failure) (is_asked : asked ≡ Ok object) (is_wanted : wants ≡ Ok wanted)
-    where
+    module _ (want : Wanted) (is_wanted : wanted ≡ Ok want) where
       -- the file can't be read
       pub unread : (failure : Failure) (result : Result ℕ Failure) → FailsToRead offer path failure
-          → result ≡ Err failure → FindsAsked offer path form a a asked wants result
+          → result ≡ Err failure → Finds offer path words a a result
       unfolding Reads
-      unread failure result h e = rw (is_asked, is_wanted, e) (inr (h, Keeps-refl a))
+      unread failure result h e =
+          found a result (rw (is_asked, is_wanted, e) (inr (h, Keeps-refl a)))
 
       -- it was read
       pub was_read : (b : Option (List ℕ)) (bytes lent : List ℕ) (result : Result ℕ Failure)
           → offer path (Ok bytes) → lent ≡ bytes
-          → Comes result (find_answer form wanted object lent) a b
-          → FindsAsked offer path form a b asked wants result
+          → Comes result (find_answer words.form want object lent) a b
+          → Finds offer path words a b result
       unfolding Reads
       was_read b bytes lent result read same h =
-          rw (is_asked, is_wanted) (inl (bytes, read, rw same at h))
+          found b result (rw (is_asked, is_wanted) (inl (bytes, read, rw same at h)))

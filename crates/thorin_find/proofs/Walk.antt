@@ -71,16 +71,26 @@ pub record PrintedSoFar (view : ListView) (pack : Package) (all rest : List Unit
   pub front : PrintsFront old new done waiting
 
 module _ (view : ListView) (pack : Package) (all : List UnitEntry) (old : Option (List ℕ)) where
+  -- of what waits a beginning was printed
+  begun_waiting : (failure : Failure) (rest : List UnitEntry) (middle new : Option (List ℕ))
+      (waiting : List ℕ) → PrintedSoFar view pack all rest old middle waiting
+      → Begins failure waiting middle new → Begins failure (lines_of view pack all).printed old new
+  begun_waiting failure rest middle new waiting s b =
+      let more = (lines_of view pack rest).printed in
+      let behind_front = begun_behind old middle new s.front.front waiting more s.front.printed
+      b.begun in
+      record {
+        cause = b.cause;
+        begun = rw (s.split, s.front.split, append_assoc) behind_front;
+      }
+
   -- what is printed so far is a beginning
   pub begun : (failure : Failure) (rest : List UnitEntry) (new : Option (List ℕ))
       (waiting : List ℕ) → IsOfPrinting failure
       → PrintedSoFar view pack all rest old new waiting
       → Begins failure (lines_of view pack all).printed old new
-  begun failure rest new waiting cause s =
-      let more = (lines_of view pack rest).printed in
-      let behind_front = begun_behind old new new s.front.front waiting more s.front.printed
-      (nothing_begun new waiting) in
-      record { cause = cause; begun = rw (s.split, s.front.split, append_assoc) behind_front }
+  begun failure rest new waiting cause s = begun_waiting failure rest new new waiting s
+      (record { cause = cause; begun = nothing_begun new waiting })
 
   -- no slot is left
   pub all_found : (rest : List UnitEntry) (new : Option (List ℕ)) (waiting : List ℕ) → rest ≡ []
@@ -93,70 +103,52 @@ module _ (view : ListView) (pack : Package) (all : List UnitEntry) (old : Option
         front = rw (so_far.split, append-nil) so_far.front;
       }
 
-module _ (view : ListView) (pack : Package) (all : List UnitEntry) (entry : UnitEntry)
-    (rest : List UnitEntry) (old middle : Option (List ℕ)) (waiting next : List ℕ) where
-  -- the lines of all, from a slot on
-  abbrev Left : Result (Option FoundUnit) PackageError → List ℕ → Type 0
-  Left looked done = lines_of view pack all
-      ≡ behind done (behind_line view entry looked (lines_of view pack rest))
+  module _ (entry : UnitEntry) (rest : List UnitEntry) (middle : Option (List ℕ))
+      (waiting next : List ℕ) where
+    -- the lines of all, from a slot on
+    abbrev IsBehind : Result (Option FoundUnit) PackageError → List ℕ → Type 0
+    IsBehind looked done = lines_of view pack all
+        ≡ behind done (behind_line view entry looked (lines_of view pack rest))
 
-  left_of : (left : List UnitEntry) (done : List ℕ) → left ≡ entry ∷ rest
-      → lines_of view pack all ≡ behind done (lines_of view pack left)
-      → Left (found pack entry.object) done
-  left_of left done is split = rw is at split
-
-  more : (looked : Result (Option FoundUnit) PackageError) (done still : List ℕ)
-      (new : Option (List ℕ)) → AddsLine view entry looked waiting next true → Left looked done
-      → PrintsFront old middle done waiting → PrintsFront middle new next still
-      → PrintedSoFar view pack all rest old new still
-  more (Err cause) done still new h split p q = absurd (true≢false h.0)
-  more (Ok unit) done still new h split p q = record {
-    done = done ++ slot_line view entry unit;
-    split = rw append_assoc split;
-    front = front_next old middle new done waiting (slot_line view entry unit) next still p h.1 q;
-  }
-
-  no_more : (looked : Result (Option FoundUnit) PackageError) (done : List ℕ)
-      → AddsLine view entry looked waiting next false → Left looked done
-      → PrintsFront old middle done waiting
-      → PrintsLines (lines_of view pack all) false old middle next
-  no_more (Err cause) done h split p =
-      record { all = rw split refl; front = rw (split, append-nil, h.1) p }
-  no_more (Ok unit) done h split p = absurd (true≢false (sym h.0))
-
-  begun_there : (looked : Result (Option FoundUnit) PackageError) (done : List ℕ)
-      (new : Option (List ℕ)) → AddsLine view entry looked waiting next true → Left looked done
-      → PrintsFront old middle done waiting → HasBeginning middle new next
-      → HasBeginning old new (lines_of view pack all).printed
-  begun_there (Err cause) done new h split p b = absurd (true≢false h.0)
-  begun_there (Ok unit) done new h split p b =
-      let line = slot_line view entry unit in
-      let more = (lines_of view pack rest).printed in
-      let same : (lines_of view pack all).printed ≡ p.front ++ (next ++ more) =
-      rw (split, p.split, h.1, append_assoc, append_assoc) refl in
-      rw same (begun_behind old middle new p.front next more p.printed b)
-
-  module _ (left : List UnitEntry) (is_found : Bool) (is_left : left ≡ entry ∷ rest)
-      (added : AddsLine view entry (found pack entry.object) waiting next is_found)
-      (s : PrintedSoFar view pack all left old middle waiting) where
-    -- its unit was found, and what waits was printed or not
-    pub printed_next : (still : List ℕ) (new : Option (List ℕ)) → is_found ≡ true
+    more : (looked : Result (Option FoundUnit) PackageError) (done still : List ℕ)
+        (new : Option (List ℕ)) → AddsLine view entry looked waiting next true
+        → IsBehind looked done → PrintsFront old middle done waiting
         → PrintsFront middle new next still → PrintedSoFar view pack all rest old new still
-    printed_next still new is q =
-        more (found pack entry.object) s.done still new (rw is at added)
-        (left_of left s.done is_left s.split) s.front q
-
-    -- it can't be looked up
-    pub not_found : is_found ≡ false → PrintsLines (lines_of view pack all) false old middle next
-    not_found is =
-        no_more (found pack entry.object) s.done (rw is at added)
-        (left_of left s.done is_left s.split) s.front
-
-    -- its line wasn't printed whole
-    pub begun_next : (failure : Failure) (new : Option (List ℕ)) → is_found ≡ true
-        → Begins failure next middle new → Begins failure (lines_of view pack all).printed old new
-    begun_next failure new is b = record {
-      cause = b.cause;
-      begun = begun_there (found pack entry.object) s.done new (rw is at added)
-          (left_of left s.done is_left s.split) s.front b.begun;
+    more (Err cause) done still new h split p q = absurd (true≢false h.0)
+    more (Ok unit) done still new h split p q = record {
+      done = done ++ slot_line view entry unit;
+      split = rw append_assoc split;
+      front = front_next old middle new done waiting (slot_line view entry unit) next still p h.1
+          q;
     }
+
+    no_more : (looked : Result (Option FoundUnit) PackageError) (done : List ℕ)
+        → AddsLine view entry looked waiting next false → IsBehind looked done
+        → PrintsFront old middle done waiting
+        → PrintsLines (lines_of view pack all) false old middle next
+    no_more (Err cause) done h split p =
+        record { all = rw split refl; front = rw (split, append-nil, h.1) p }
+    no_more (Ok unit) done h split p = absurd (true≢false (sym h.0))
+
+    module _ (left : List UnitEntry) (is_found : Bool) (is_left : left ≡ entry ∷ rest)
+        (added : AddsLine view entry (found pack entry.object) waiting next is_found)
+        (s : PrintedSoFar view pack all left old middle waiting) where
+      -- its unit was found, and what waits was printed or not
+      pub printed_next : (still : List ℕ) (new : Option (List ℕ)) → is_found ≡ true
+          → PrintsFront middle new next still → PrintedSoFar view pack all rest old new still
+      printed_next still new is q =
+          more (found pack entry.object) s.done still new (rw is at added)
+          (rw is_left at s.split) s.front q
+
+      -- it can't be looked up
+      pub not_found : is_found ≡ false
+          → PrintsLines (lines_of view pack all) false old middle next
+      not_found is =
+          no_more (found pack entry.object) s.done (rw is at added) (rw is_left at s.split) s.front
+
+      -- its line wasn't printed whole
+      pub begun_next : (failure : Failure) (new : Option (List ℕ)) → is_found ≡ true
+          → Begins failure next middle new
+          → Begins failure (lines_of view pack all).printed old new
+      begun_next failure new is b = begun_waiting failure rest middle new next
+          (printed_next next middle is (none_waits middle next)) b

@@ -1,10 +1,7 @@
 -- What a line in JSON begins with (RFC 8259).
 use Rattle.std.specs.Prelude.{ℕ, List, ◌++◌, codes}
-use Rattle.std.specs.Fmt.{decimal}
-use Rattle.dwp_bytes.specs.declared.encoding.Encoding.{Encoding}
 use Rattle.dwp_table.specs.Objects.{identifier_of}
 use Rattle.dwp_table.specs.declared.object.DwarfObject.{DwarfObject}
-use Rattle.thorin_find.specs.Finding.{width}
 use Rattle.thorin_print.specs.Lines.{hex16}
 use Rattle.thorin_find.specs.Lines.{short_kind}
 
@@ -12,9 +9,3 @@ use Rattle.thorin_find.specs.Lines.{short_kind}
 unfoldable pub json_unit : DwarfObject → List ℕ
 json_unit object = codes "{\"kind\":\"" ++ (short_kind object
     ++ (codes "\",\"id\":\"0x" ++ hex16 (identifier_of object)))
-
--- the numbers of a unit's encoding, behind that
-unfoldable pub json_numbers : Encoding → List ℕ
-json_numbers encoding = codes "\",\"version\":" ++ (decimal encoding.version
-    ++ (codes ",\"format\":" ++ (decimal (width encoding.format)
-    ++ (codes ",\"address\":" ++ decimal encoding.address_size))))

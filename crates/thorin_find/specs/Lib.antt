@@ -1,4 +1,3 @@
-pub mod Columns
 pub mod Files
 pub mod Finding
 pub mod Json

@@ -1,9 +1,9 @@
 //! What `thorin find` tells of a unit, plain and in JSON.
 
 ghost use Rattle.std.specs.Prelude.{◌≡◌, ◌++◌, OnOk, string_bytes};
-ghost use Rattle.thorin_find.specs.Finding.{width, json_encoding, encoding_text, range_text};
+ghost use Rattle.thorin_find.specs.Finding.{width, encoding_text, range_text};
 ghost use Rattle.thorin_find.specs.Finding.{range_texts, counts_text, all_text};
-ghost use Rattle.thorin_find.specs.Json.{json_unit, json_numbers};
+ghost use Rattle.thorin_find.specs.Json.{json_unit};
 
 use crate::finding::{put_object, short_kind, string_count};
 use dwp_base::{Contribution, SectionKind};
@@ -31,7 +31,7 @@ pub(crate) fn put_all(
 }
 
 /// Adds a unit's encoding: a line, or the beginning of an object.
-#[tactic(auto, unfolding(crate::specs::Finding::encoding_line))]
+#[tactic(auto, unfolding(crate::specs::Finding::encoding_line, crate::specs::Finding::json_encoding, crate::specs::Json::json_unit))]
 fn put_encoding(
     form: Form,
     object: DwarfObject,
@@ -41,15 +41,21 @@ fn put_encoding(
     ensures { OnOk result (string_bytes text.new
         ≡ string_bytes text.old ++ encoding_text form object encoding) }
 {
+    let version = encoding.version;
+    let width = width(encoding.format);
+    let address = encoding.address_size;
     match form {
         Form::Lines => {
             put_object(object, text)?;
-            let version = encoding.version;
-            let width = width(encoding.format);
-            let address = encoding.address_size;
             writeln!(text, " version {version} format {width} address {address}")
         }
-        Form::Json => put_json_encoding(object, encoding, text),
+        Form::Json => {
+            put_json_unit(object, text)?;
+            write!(
+                text,
+                "\",\"version\":{version},\"format\":{width},\"address\":{address}"
+            )
+        }
     }
 }
 
@@ -61,35 +67,6 @@ fn width(format: Format) -> u8
         Format::Dwarf32 => 32,
         Format::Dwarf64 => 64,
     }
-}
-
-/// Adds the beginning of the object, up to the unit's encoding.
-#[tactic(auto, unfolding(crate::specs::Json::json_unit, crate::specs::Json::json_numbers, crate::specs::Finding::json_encoding))]
-fn put_json_encoding(
-    object: DwarfObject,
-    encoding: Encoding,
-    text: &mut String,
-) -> Result<(), AllocError>
-    ensures { OnOk result (string_bytes text.new
-        ≡ string_bytes text.old ++ json_encoding object encoding) }
-{
-    put_json_unit(object, text)?;
-    put_json_numbers(encoding, text)
-}
-
-/// Adds the numbers of a unit's encoding.
-#[tactic(auto, unfolding(crate::specs::Json::json_numbers))]
-fn put_json_numbers(encoding: Encoding, text: &mut String) -> Result<(), AllocError>
-    ensures { OnOk result (string_bytes text.new
-        ≡ string_bytes text.old ++ json_numbers encoding) }
-{
-    let version = encoding.version;
-    let width = width(encoding.format);
-    let address = encoding.address_size;
-    write!(
-        text,
-        "\",\"version\":{version},\"format\":{width},\"address\":{address}"
-    )
 }
 
 /// Adds the beginning of the object, up to the unit's identifier.

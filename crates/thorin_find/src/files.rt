@@ -81,12 +81,7 @@ pub fn read_named<F: FileReader>(files: &F, path: &str) -> Result<Vec<u8>, Failu
 {
     match files.read(path) {
         Ok(bytes) => Ok(bytes),
-        Err(e) => {
-            if e.kind() == io::ErrorKind::OutOfMemory {
-                Err(Failure::Memory)
-            } else {
-                Err(Failure::Input)
-            }
-        }
+        Err(e) if e.kind() == io::ErrorKind::OutOfMemory => Err(Failure::Memory),
+        Err(_) => Err(Failure::Input),
     }
 }

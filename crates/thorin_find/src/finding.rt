@@ -3,11 +3,10 @@
 ghost use Rattle.std.specs.Prelude.{◌≡◌, ◌++◌, OnOk, string_bytes, codes};
 ghost use Rattle.thorin_print.specs.Answers.{Comes};
 ghost use Rattle.thorin_find.specs.Finding.{Finds, string_count, string_line};
-ghost use Rattle.thorin_find.specs.Finding.{find_answer, wanted_answer, words_of};
+ghost use Rattle.thorin_find.specs.Finding.{find_answer, words_of};
 ghost use Rattle.dwp_table.specs.Objects.{identifier_of};
 ghost use Rattle.thorin_print.specs.Lines.{hex16};
 ghost use Rattle.thorin_find.specs.Lines.{short_kind};
-ghost use Rattle.thorin_find.specs.declared.wanted.Wanted.TheVariants.{Printed};
 
 use crate::describing::put_all;
 use crate::files::{FileReader, read_named};
@@ -69,40 +68,21 @@ fn find_in<O: Write>(
     let Some(unit) = found else {
         return Err(Failure::NoUnit(object.index()));
     };
-    match wanted {
-        Wanted::Printed(printing) => print_text(alloc, object, &unit, slots, printing, form, out),
+    let mut text = String::new(alloc);
+    let put = match wanted {
+        Wanted::Printed(Printing::AllOf) => put_all(object, &unit, slots, form, &mut text),
+        Wanted::Printed(Printing::StringOf(i)) => match unit.string(i) {
+            Ok(Some(string)) => put_string_line(string, form, &mut text),
+            Ok(None) => return Err(Failure::NoString(i)),
+            Err(_) => return Err(Failure::Malformed),
+        },
         Wanted::Bytes(kind) => {
             let section = unit.section(kind);
             if section.is_empty() {
                 return Err(Failure::NoRange(kind));
             }
-            answer_bytes(section, Ok(0), out)
+            return answer_bytes(section, Ok(0), out);
         }
-    }
-}
-
-/// Prints a text of a unit.
-#[tactic(auto, using(thorin_print::proofs::Printed::nothing))]
-fn print_text<O: Write>(
-    alloc: Global,
-    object: DwarfObject,
-    unit: &PackagedUnit<'_>,
-    slots: u32,
-    printing: Printing,
-    form: Form,
-    out: &mut O,
-) -> Result<u8, Failure>
-    ensures { Comes result (wanted_answer form (Printed printing) object unit.now slots)
-        (O.contents out.old) (O.contents out.new) }
-{
-    let mut text = String::new(alloc);
-    let put = match printing {
-        Printing::AllOf => put_all(object, unit, slots, form, &mut text),
-        Printing::StringOf(i) => match unit.string(i) {
-            Ok(Some(string)) => put_string_line(string, form, &mut text),
-            Ok(None) => return Err(Failure::NoString(i)),
-            Err(_) => return Err(Failure::Malformed),
-        },
     };
     match put {
         Ok(()) => answer(text.as_str(), Ok(0), out),

@@ -2,7 +2,7 @@
 
 ghost use Rattle.std.specs.Prelude.{◌≡◌};
 ghost use Rattle.dwp_index.specs.Package.{package_of};
-ghost use Rattle.thorin_find.specs.Listing.{has_no_index, kind_in, kind_of};
+ghost use Rattle.thorin_find.specs.Listing.{has_no_index, kind_of};
 
 use dwp_base::SectionKind;
 use dwp_index::{PackageError, PackageFile};
@@ -31,17 +31,11 @@ pub enum FileKind {
 pub fn kind_of(bytes: &[u8]) -> FileKind
     ensures { result ≡ kind_of (package_of bytes.now) }
 {
-    match PackageFile::parse(bytes) {
-        Ok(pack) => kind_in(&pack),
-        Err(error) => FileKind::Malformed(error),
-    }
-}
-
-/// The same of one that can be read.
-fn kind_in(pack: &PackageFile<'_>) -> FileKind
-    ensures { result ≡ kind_in pack.now }
-{
-    if !has_no_index(pack) {
+    let pack = match PackageFile::parse(bytes) {
+        Ok(pack) => pack,
+        Err(error) => return FileKind::Malformed(error),
+    };
+    if !has_no_index(&pack) {
         FileKind::Package
     } else if pack.content(SectionKind::Info).is_empty() {
         FileKind::NoIndex

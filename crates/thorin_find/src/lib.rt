@@ -6,7 +6,6 @@ mod columns;
 mod describing;
 mod files;
 mod finding;
-mod identifier;
 mod indexes;
 mod listing;
 mod names;

@@ -4,7 +4,7 @@ ghost use Rattle.std.specs.Prelude.{◌≡◌, [], ◌++◌, IfOk, IfErr, OnOk, 
 ghost use Rattle.dwp_index.specs.Entries.{entries_from};
 ghost use Rattle.dwp_index.specs.Package.{found};
 ghost use Rattle.thorin_find.specs.Listing.{place_by, AreByRow, range_size, range_sizes};
-ghost use Rattle.thorin_find.specs.Listing.{front_of, unit_names, end_of, view_of};
+ghost use Rattle.thorin_find.specs.Listing.{front_of, unit_names, view_of};
 ghost use Rattle.thorin_find.specs.Listing.{unit_line, AddsLine, lines_of, answer_of, IsListedIn};
 ghost use Rattle.thorin_find.specs.Listing.{PrintsFront, PrintsLines, Begins};
 ghost use Rattle.thorin_find.specs.Listing.{ListsPackage, Lists};
@@ -13,8 +13,8 @@ use crate::columns::{put_total_rows, put_unit_rows};
 use crate::describing::put_json_unit;
 use crate::files::{FileReader, read_named};
 use crate::finding::put_object;
-use crate::names::Strings;
-use crate::sizes::{Sizes, put_totals};
+use crate::names::PackagedStrings;
+use crate::sizes::{UnitRanges, put_totals};
 use dwp_base::{Contribution, SectionKind};
 use dwp_index::{PackageFile, PackagedUnit, UnitEntry};
 use dwp_table::{CONTRIBUTION_KINDS, DwarfObject};
@@ -96,12 +96,9 @@ fn list_entries<O: Write>(
         (O.contents out.new) result }
 {
     let mut waiting = String::new(alloc);
-    let mut sizes = Sizes::new(alloc);
-    let is_all = match print_lines(listed, entries, &mut sizes, &mut waiting, out) {
-        Ok(is_all) => is_all,
-        Err(failure) => return Err(failure),
-    };
-    match put_rest(listed, is_all, &mut sizes, &mut waiting) {
+    let mut ranges = UnitRanges::new(alloc);
+    let is_all = print_lines(listed, entries, &mut ranges, &mut waiting, out)?;
+    match put_rest(listed, is_all, &mut ranges, &mut waiting) {
         Ok(given) => answer(waiting.as_str(), given, out),
         Err(_) => Err(Failure::Memory),
     }
@@ -113,7 +110,7 @@ fn list_entries<O: Write>(
 fn put_rest(
     listed: Listed<'_, '_>,
     is_all: bool,
-    sizes: &mut Sizes,
+    ranges: &mut UnitRanges,
     text: &mut String,
 ) -> Result<Result<u8, Failure>, AllocError>
     ensures { IfOk result (λ given. IsListedIn listed.entry.form.columns listed.entry.form
@@ -122,9 +119,9 @@ fn put_rest(
 {
     let given = answer_of(is_all);
     if listed.form.columns {
-        put_sheet(listed, is_all, sizes, text)?;
+        put_sheet(listed, is_all, ranges, text)?;
     } else if is_all && listed.form.sizes {
-        let totals = sizes.totals(listed.pack, listed.file_size)?;
+        let totals = ranges.totals(listed.pack, listed.file_size)?;
         put_totals(totals.as_slice(), listed.form.form, text)?;
     }
     Ok(given)
@@ -145,17 +142,17 @@ fn answer_of(is_all: bool) -> Result<u8, Failure>
 fn put_sheet(
     listed: Listed<'_, '_>,
     is_all: bool,
-    sizes: &mut Sizes,
+    ranges: &mut UnitRanges,
     text: &mut String,
 ) -> Result<(), AllocError> {
-    put_unit_rows(sizes, text)?;
+    put_unit_rows(ranges, text)?;
     if !is_all {
         return Ok(());
     }
-    if !sizes.units().is_empty() {
+    if !ranges.units.is_empty() {
         text.push_str("\n")?;
     }
-    let totals = sizes.totals(listed.pack, listed.file_size)?;
+    let totals = ranges.totals(listed.pack, listed.file_size)?;
     put_total_rows(totals.as_slice(), text)
 }
 
@@ -168,7 +165,7 @@ fn put_sheet(
 fn print_lines<O: Write>(
     listed: Listed<'_, '_>,
     entries: &[UnitEntry],
-    sizes: &mut Sizes,
+    ranges: &mut UnitRanges,
     waiting: &mut String,
     out: &mut O,
 ) -> Result<bool, Failure>
@@ -181,12 +178,8 @@ fn print_lines<O: Write>(
         entries.now).printed (O.contents out.old) (O.contents out.new)) }
 {
     for entry in entries {
-        match put_slot(listed, *entry, sizes, waiting) {
-            Ok(true) => {
-                if let Err(failure) = print_much(waiting, out) {
-                    return Err(failure);
-                }
-            }
+        match put_slot(listed, *entry, ranges, waiting) {
+            Ok(true) => print_much(waiting, out)?,
             Ok(false) => return Ok(false),
             Err(_) => return Err(Failure::Memory),
         }
@@ -208,13 +201,9 @@ fn print_much<O: Write>(waiting: &mut String, out: &mut O) -> Result<(), Failure
     if waiting.len() < MUCH {
         return Ok(());
     }
-    match answer(waiting.as_str(), Ok(0), out) {
-        Ok(_) => {
-            waiting.clear();
-            Ok(())
-        }
-        Err(failure) => Err(failure),
-    }
+    answer(waiting.as_str(), Ok(0), out)?;
+    waiting.clear();
+    Ok(())
 }
 
 /// Adds the line of the unit that is found for a slot, where it is that of the slot's row. Answers
@@ -222,7 +211,7 @@ fn print_much<O: Write>(waiting: &mut String, out: &mut O) -> Result<(), Failure
 fn put_slot(
     listed: Listed<'_, '_>,
     entry: UnitEntry,
-    sizes: &mut Sizes,
+    ranges: &mut UnitRanges,
     text: &mut String,
 ) -> Result<bool, AllocError>
     ensures { IfOk result (AddsLine (view_of listed.entry.form listed.entry.pack.now) entry
@@ -232,7 +221,7 @@ fn put_slot(
     match listed.pack.find(entry.object) {
         Ok(Some(unit)) => {
             if unit.row() == entry.row {
-                put_unit(listed, entry.object, &unit, sizes, text)?;
+                put_unit(listed, entry.object, &unit, ranges, text)?;
             }
             Ok(true)
         }
@@ -274,7 +263,7 @@ fn put_unit<'a>(
     listed: Listed<'_, 'a>,
     object: DwarfObject,
     unit: &PackagedUnit<'a>,
-    sizes: &mut Sizes,
+    ranges: &mut UnitRanges,
     text: &mut String,
 ) -> Result<(), AllocError>
     ensures { OnOk result (string_bytes text.new ≡ string_bytes text.old
@@ -282,16 +271,19 @@ fn put_unit<'a>(
 {
     let form = listed.form;
     if form.columns {
-        return sizes.add_unit(object, unit);
+        return ranges.add_unit(object, unit);
     }
     put_front(object, unit, form.form, text)?;
     if form.sizes {
-        put_sizes(unit, form.form, sizes, text)?;
+        put_sizes(unit, form.form, ranges, text)?;
     }
     if form.names {
         put_names(listed, object, unit, text)?;
     }
-    put_end(form.form, text)
+    match form.form {
+        Form::Lines => text.push_str("\n"),
+        Form::Json => text.push_str("}\n"),
+    }
 }
 
 /// Adds what a line begins with: a unit's kind, its identifier and its size.
@@ -329,7 +321,11 @@ fn put_names<'a>(
     ensures { OnOk result (string_bytes text.new ≡ string_bytes text.old
         ++ unit_names (view_of listed.entry.form listed.entry.pack.now) object unit.now) }
 {
-    let (source, name) = Strings::of(listed.pack).names_of(object, unit);
+    let strings = PackagedStrings {
+        order: listed.pack.order(),
+        bytes: listed.pack.content(SectionKind::Str),
+    };
+    let (source, name) = strings.names_of(object, unit);
     let form = listed.form.form;
     match form {
         Form::Lines => {
@@ -347,29 +343,19 @@ fn put_names<'a>(
     }
 }
 
-/// Adds the end of a line.
-fn put_end(form: Form, text: &mut String) -> Result<(), AllocError>
-    ensures { OnOk result (string_bytes text.new ≡ string_bytes text.old ++ end_of form) }
-{
-    match form {
-        Form::Lines => text.push_str("\n"),
-        Form::Json => text.push_str("}\n"),
-    }
-}
-
 /// Adds the sizes on the line of a unit, and gathers its ranges.
 #[tactic(auto, unfolding(crate::specs::Listing::range_sizes))]
 fn put_sizes(
     unit: &PackagedUnit<'_>,
     form: Form,
-    sizes: &mut Sizes,
+    ranges: &mut UnitRanges,
     text: &mut String,
 ) -> Result<(), AllocError>
     ensures { OnOk result (string_bytes text.new
         ≡ string_bytes text.old ++ range_sizes form unit.now) }
 {
     for kind in &CONTRIBUTION_KINDS {
-        put_size(*kind, unit.range(*kind), form, sizes, text)?;
+        put_size(*kind, unit.range(*kind), form, ranges, text)?;
     }
     Ok(())
 }
@@ -379,7 +365,7 @@ fn put_size(
     kind: SectionKind,
     range: Option<Contribution>,
     form: Form,
-    sizes: &mut Sizes,
+    ranges: &mut UnitRanges,
     text: &mut String,
 ) -> Result<(), AllocError>
     ensures { OnOk result (string_bytes text.new
@@ -388,7 +374,7 @@ fn put_size(
     let Some(range) = range else {
         return Ok(());
     };
-    sizes.add(kind, range)?;
+    ranges.add(kind, range)?;
     let name = kind.short_name();
     let size = range.size;
     match form {

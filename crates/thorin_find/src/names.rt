@@ -1,14 +1,12 @@
 //! The names that a unit's own bytes give: of its source, and of its object.
 
-ghost use Rattle.std.specs.Prelude.{◌≡◌, ◌==◌, option_map};
+ghost use Rattle.std.specs.Prelude.{◌≡◌, option_map};
 ghost use Rattle.std.specs.Option.{option_copied, option_and_then};
 ghost use Rattle.std.specs.Result.{result_ok};
 ghost use Rattle.dwp_base.specs.Reading.{Answers};
 ghost use Rattle.dwp_bytes.specs.Input.{front};
 ghost use Rattle.dwp_dwarf.specs.Attributes.{attribute_of, attributes_left, entry_of, root_of};
-ghost use Rattle.dwp_dwarf.specs.Declarations.{table_of};
 ghost use Rattle.dwp_units.specs.Units.{unit_of};
-ghost use Rattle.dwp_index.specs.Contents.{content};
 ghost use Rattle.thorin_find.specs.Names as spec;
 ghost use Rattle.thorin_find.specs.Names.{table_at, header_in, unit_die, die_of};
 ghost use Rattle.thorin_find.specs.Names.{named, short_string_at, string_number, numbered_string};
@@ -17,7 +15,7 @@ ghost use Rattle.thorin_find.specs.Names.{string_of, object_in, source_name, obj
 use dwp_base::{Endianness, SectionKind};
 use dwp_bytes::{ReadError, Reader, SliceReader, StringOffsets, string_at};
 use dwp_dwarf::{Abbreviations, Attribute, Attributes, RootEntry, UnitHeader, UnitHeaders};
-use dwp_index::{PackageFile, PackagedUnit, place_of};
+use dwp_index::{PackagedUnit, place_of};
 use dwp_table::DwarfObject;
 
 const DW_AT_NAME: u64 = 0x03;
@@ -48,25 +46,14 @@ const MOST_NAMED: u64 = 4096;
 
 /// The strings of a package.
 #[derive(Clone, Copy)]
-pub(crate) struct Strings<'a> {
+pub(crate) struct PackagedStrings<'a> {
     /// The package's byte order.
     pub order: Endianness,
     /// `.debug_str.dwo`.
     pub bytes: &'a [u8],
 }
 
-impl<'a> Strings<'a> {
-    /// Those of a package.
-    pub fn of(pack: &PackageFile<'a>) -> Strings<'a>
-        ensures order { result.order ≡ pack.now.order }
-        ensures bytes { result.bytes.now ≡ content pack.now.contents SectionKind.Str }
-    {
-        Strings {
-            order: pack.order(),
-            bytes: pack.content(SectionKind::Str),
-        }
-    }
-
+impl<'a> PackagedStrings<'a> {
     /// The names of a unit's source, `DW_AT_name` of its unit DIE, and of its object, `DW_AT_dwo_name`
     /// or `DW_AT_GNU_dwo_name` there.
     #[tactic(auto, unfolding(crate::specs::Names::source_name, crate::specs::Names::object_name))]
@@ -90,7 +77,7 @@ impl<'a> Strings<'a> {
     }
 
     /// The string of an attribute of a unit, where there is one.
-    #[tactic(auto, unfolding(crate::specs::Names::string_of))]
+    #[tactic(auto, unfolding(crate::specs::Names::string_of, crate::specs::Names::numbered_string))]
     fn string_of(
         self,
         unit: &PackagedUnit<'a>,
@@ -105,15 +92,6 @@ impl<'a> Strings<'a> {
             return short_string_at(attribute.value.slice(), 0);
         }
         let i = string_number(&attribute)?;
-        self.numbered_string(unit, i)
-    }
-
-    /// The string of a number of a unit.
-    #[tactic(auto, unfolding(crate::specs::Names::numbered_string))]
-    fn numbered_string(self, unit: &PackagedUnit<'a>, i: u64) -> Option<&'a [u8]>
-        ensures { option_copied result ≡ numbered_string self.entry.order self.entry.bytes.now
-            unit.now i }
-    {
         let offsets = StringOffsets {
             strings: self.bytes,
             offsets: unit.section(SectionKind::StrOffsets),
@@ -185,9 +163,9 @@ fn die_of<'a>(
 }
 
 /// The unit DIE of a unit with this header.
-#[tactic(auto, unfolding(crate::specs::Names::unit_die))]
+#[tactic(auto, unfolding(crate::specs::Names::unit_die, crate::specs::Names::table_at))]
 fn unit_die<R: Reader>(
-    abbreviations: R,
+    mut abbreviations: R,
     header: &UnitHeader<R>,
 ) -> Result<Option<RootEntry<R>>, ReadError>
     ensures { Answers (root_of R.input) result
@@ -196,20 +174,12 @@ fn unit_die<R: Reader>(
     let Some((code, values)) = header.root_code()? else {
         return Ok(None);
     };
-    let table = table_at(abbreviations, header.abbrev_offset())?;
+    abbreviations.skip(header.abbrev_offset() as usize)?;
+    let table = Abbreviations::new(beginning(abbreviations), 0)?;
     match table.get(code)? {
         None => Ok(None),
         Some(abbreviation) => Ok(Some(abbreviation.entry(header.encoding(), beginning(values)))),
     }
-}
-
-/// A beginning of the abbreviations that stand at an offset.
-#[tactic(auto, unfolding(crate::specs::Names::table_at))]
-fn table_at<R: Reader>(mut abbreviations: R, offset: u64) -> Result<Abbreviations<R>, ReadError>
-    ensures { Answers (table_of R.input) result (table_at offset (R.input abbreviations)) }
-{
-    abbreviations.skip(offset as usize)?;
-    Abbreviations::new(beginning(abbreviations), 0)
 }
 
 /// What is read at most.

@@ -1,6 +1,6 @@
 //! Where the bytes of a package go.
 
-ghost use Rattle.std.specs.Prelude.{◌≡◌, ◌-◌, ◌^◌, ◌++◌, min, sum_by, OnOk, List, ℕ, string_bytes};
+ghost use Rattle.std.specs.Prelude.{◌≡◌, ◌++◌, OnOk, List, ℕ, string_bytes};
 
 use dwp_base::{Contribution, SectionKind};
 use dwp_index::{PackageFile, PackagedUnit};
@@ -10,7 +10,7 @@ use thorin_print::Form;
 
 /// A range of a section that a unit has.
 #[derive(Clone, Copy, PartialEq, Eq, PartialOrd, Ord)]
-struct Range {
+struct SectionRange {
     section: u8,
     offset: u64,
     size: u64,
@@ -50,15 +50,16 @@ pub(crate) struct RangeTotal {
 
 /// The ranges that units have of the sections of a package.
 #[derive(Drop)]
-pub(crate) struct Sizes {
-    ranges: Vec<Range>,
-    units: Vec<UnitSizes>,
+pub(crate) struct UnitRanges {
+    ranges: Vec<SectionRange>,
+    /// The units that were added with all their ranges.
+    pub units: Vec<UnitSizes>,
 }
 
-impl Sizes {
+impl UnitRanges {
     /// No range.
-    pub(crate) fn new(alloc: Global) -> Sizes {
-        Sizes {
+    pub(crate) fn new(alloc: Global) -> UnitRanges {
+        UnitRanges {
             ranges: Vec::new(alloc),
             units: Vec::new(alloc),
         }
@@ -70,7 +71,7 @@ impl Sizes {
         section: SectionKind,
         range: Contribution,
     ) -> Result<(), AllocError> {
-        self.ranges.push(Range {
+        self.ranges.push(SectionRange {
             section: section.rank(),
             offset: range.offset.0,
             size: range.size,
@@ -99,11 +100,6 @@ impl Sizes {
         Ok(())
     }
 
-    /// The units that were added with all their ranges.
-    pub(crate) fn units(&self) -> &[UnitSizes] {
-        self.units.as_slice()
-    }
-
     /// Whether a unit has a range of a section.
     pub(crate) fn has_range_of(&self, kind: SectionKind) -> bool {
         let section = kind.rank();
@@ -129,7 +125,7 @@ impl Sizes {
         self.ranges.sort_unstable();
         let mut totals = Vec::new(*self.ranges.allocator());
         for kind in &CONTRIBUTION_KINDS {
-            let ranges = self.range_total(*kind)?;
+            let ranges = self.range_total(kind.rank());
             push_total(pack, *kind, Some(ranges), &mut totals)?;
         }
         for kind in &[SectionKind::Str, SectionKind::CuIndex, SectionKind::TuIndex] {
@@ -143,22 +139,23 @@ impl Sizes {
         Ok(totals)
     }
 
-    /// The bytes of the distinct ranges of a section, and how many more all of them have.
-    fn range_total(&self, kind: SectionKind) -> Result<RangeTotal, AllocError> {
-        let section = kind.rank();
-        let mut ranges = Vec::new(*self.ranges.allocator());
+    /// The bytes of the distinct ranges of a section, and how many more all of them have. The ranges
+    /// are sorted.
+    fn range_total(&self, section: u8) -> RangeTotal {
+        let mut total = RangeTotal { once: 0, shared: 0 };
+        let mut before: Option<SectionRange> = None;
         for range in &self.ranges {
-            if range.section == section {
-                ranges.push(*range)?;
+            if range.section != section {
+                continue;
             }
+            if before == Some(*range) {
+                total.shared = total.shared.saturating_add(range.size);
+            } else {
+                total.once = total.once.saturating_add(range.size);
+            }
+            before = Some(*range);
         }
-        let all = bytes_of(ranges.as_slice());
-        ranges.dedup();
-        let once = bytes_of(ranges.as_slice());
-        Ok(RangeTotal {
-            once,
-            shared: all.saturating_sub(once),
-        })
+        total
     }
 }
 
@@ -187,41 +184,25 @@ pub(crate) fn put_totals(totals: &[Total], form: Form, text: &mut String) -> Res
 {
     let mut added = String::new(*text.allocator());
     for total in totals {
-        put_total(*total, form, &mut added)?;
+        let name = total.name;
+        let size = total.size;
+        match (form, total.ranges) {
+            (Form::Lines, None) => writeln!(added, "total {name} {size}")?,
+            (Form::Lines, Some(ranges)) => {
+                let once = ranges.once;
+                let shared = ranges.shared;
+                writeln!(added, "total {name} {size} units {once} shared {shared}")?;
+            }
+            (Form::Json, None) => writeln!(added, "{{\"total\":\"{name}\",\"size\":{size}}}")?,
+            (Form::Json, Some(ranges)) => {
+                let once = ranges.once;
+                let shared = ranges.shared;
+                writeln!(
+                    added,
+                    "{{\"total\":\"{name}\",\"size\":{size},\"units\":{once},\"shared\":{shared}}}"
+                )?;
+            }
+        }
     }
     text.push_str(added.as_str())
-}
-
-/// Adds a total.
-fn put_total(total: Total, form: Form, text: &mut String) -> Result<(), AllocError> {
-    let name = total.name;
-    let size = total.size;
-    match (form, total.ranges) {
-        (Form::Lines, None) => writeln!(text, "total {name} {size}"),
-        (Form::Lines, Some(ranges)) => {
-            let once = ranges.once;
-            let shared = ranges.shared;
-            writeln!(text, "total {name} {size} units {once} shared {shared}")
-        }
-        (Form::Json, None) => writeln!(text, "{{\"total\":\"{name}\",\"size\":{size}}}"),
-        (Form::Json, Some(ranges)) => {
-            let once = ranges.once;
-            let shared = ranges.shared;
-            writeln!(
-                text,
-                "{{\"total\":\"{name}\",\"size\":{size},\"units\":{once},\"shared\":{shared}}}"
-            )
-        }
-    }
-}
-
-/// The bytes of ranges together, as far as 64 bits go.
-fn bytes_of(ranges: &[Range]) -> u64
-    ensures { result ≡ min (sum_by (λ range. range.size) ranges.now) (2 ^ 64 - 1) }
-{
-    let mut bytes = 0u64;
-    for range in ranges {
-        bytes = bytes.saturating_add(range.size);
-    }
-    bytes
 }

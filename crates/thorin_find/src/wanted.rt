@@ -1,14 +1,15 @@
 //! What `thorin find` is asked for.
 
-ghost use Rattle.std.specs.Prelude.{◌≡◌, MatchOption};
+ghost use Rattle.std.specs.Prelude.{◌≡◌, MatchOption, MatchResult};
 ghost use Rattle.std.specs.Option.{option_copied};
 ghost use Rattle.std.specs.Str.Parse.{digits_value};
-ghost use Rattle.thorin_find.specs.Finding.{Asks, AsksFor, IsNumber};
+ghost use Rattle.thorin_find.specs.Finding.{Asks, AsksFor, IsNumber, Writes, WritesNone};
+ghost use Rattle.thorin_print.specs.declared.output.Failure.TheVariants as failures;
 
-use crate::identifier::identifier;
 use dwp_base::SectionKind;
 use dwp_table::{DebugTypeSignature, DwarfObject, DwoId};
 use thorin_print::{Failure, Form};
+use thorin_words::hexadecimal;
 
 /// What is wanted of a unit, and how it is printed.
 #[derive(Clone, Copy)]
@@ -79,7 +80,7 @@ pub(crate) fn wanted_of(string: Option<&str>, section: Option<&str>) -> Result<W
 }
 
 /// The number that decimal digits write.
-#[tactic(auto, using(crate::proofs::Decimals::number_read))]
+#[tactic(auto, using(crate::proofs::Sought::number_read))]
 fn number(text: &str) -> Option<u64>
     ensures { MatchOption result (¬ (IsNumber text.now)) (λ n. IsNumber text.now
         × (n ≡ digits_value 10 text.now)) }
@@ -88,4 +89,20 @@ fn number(text: &str) -> Option<u64>
         return None;
     }
     u64::from_str_radix(text, 10).ok()
+}
+
+/// The identifier that 1 to 16 hexadecimal digits write, with or without `0x` in front.
+#[tactic(auto, using(crate::proofs::Sought::digits_behind, crate::proofs::Sought::digits_alone))]
+fn identifier(text: &str) -> Result<u64, Failure>
+    ensures { MatchResult result (Writes text.now)
+        (λ failure. (failure ≡ failures.BadIdentifier) × WritesNone text.now) }
+{
+    let digits = match text.strip_prefix("0x") {
+        Some(digits) => digits,
+        None => text,
+    };
+    match hexadecimal(digits) {
+        Some(n) => Ok(n),
+        None => Err(Failure::BadIdentifier),
+    }
 }

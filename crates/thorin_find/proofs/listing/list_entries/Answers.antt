@@ -1,14 +1,17 @@
+use Rattle.std.proofs.lemmas.Result.{err_from_is_err_and}
 use Rattle.thorin_find.proofs.Listed.{begun_listing, rest_begun, whole_listing}
 use Rattle.thorin_find.proofs.listing.list_entries.Goals as goal
 
-pub returns-in-Err : goal.returns-in-Err
-returns-in-Err g c = begun_listing _ _ _ c.requires _ _ _ c.in-Err.ensures.part
+pub returns-in_err-is_all : goal.returns-in_err-is_all
+returns-in_err-is_all g c =
+    let p = err_from_is_err_and c.from_residual.result c.from_residual.ensures.1 in
+    rw (p.1, p.2) (begun_listing _ _ _ c.requires _ _ _ c.in_err-is_all.ensures.part)
 
-pub returns-in-Ok-put_rest : goal.returns-in-Ok-put_rest
-returns-in-Ok-put_rest g c =
-    whole_listing _ _ c.args.entries.now c.requires _ _ _ _ c.in-Ok.ensures.lines _ _ _ _
-    c.in-Ok-put_rest.ensures (rw c.as_str.ensures.value at c.answer.ensures)
+pub returns-in-Ok : goal.returns-in-Ok
+returns-in-Ok g c =
+    whole_listing _ _ c.args.entries.now c.requires _ _ _ _ c.in_ok-is_all.ensures.lines _ _ _ _
+    c.in-Ok.ensures (rw c.as_str.ensures.value at c.answer.ensures)
 
 pub returns : goal.returns
 returns g c =
-    rest_begun _ _ c.args.entries.now c.requires _ _ _ _ c.in-Ok.ensures.lines
+    rest_begun _ _ c.args.entries.now c.requires _ _ _ _ c.in_ok-is_all.ensures.lines

@@ -3,6 +3,10 @@ use Rattle.std.proofs.lemmas.Grind.{common_steps}
 use Rattle.thorin_find.specs.Listing.{unit_line}
 use Rattle.thorin_find.proofs.listing.put_unit.Goals as goal
 
-pub returns : goal.returns
+pub returns-in-Lines : goal.returns-in-Lines
 unfolding unit_line
-returns c = grind (arith, common_steps)
+returns-in-Lines c = grind (arith, common_steps)
+
+pub returns-in-Json : goal.returns-in-Json
+unfolding unit_line
+returns-in-Json c = grind (arith, common_steps)
