@@ -158,9 +158,10 @@ module _ (p q : Placed) (a b : Contribution) (p_at : p.offset ≡ a.offset.0) (p
   two_apart (inl same) = inl (sym p_at ∙ same.0 ∙ q_at, sym p_of ∙ same.1 ∙ q_of)
   two_apart (inr le) = inr (inl (rw (← p_at, ← p_of, ← q_at) le))
 
-  two_behind : IsApart q p → AreTwoApart a b
-  two_behind (inl same) = inl (sym p_at ∙ sym same.0 ∙ q_at, sym p_of ∙ sym same.1 ∙ q_of)
-  two_behind (inr le) = inr (inr (rw (← p_at, ← q_of, ← q_at) le))
+two_swapped : (a b : Contribution) → AreTwoApart a b → AreTwoApart b a
+two_swapped a b (inl same) = inl (sym same.0, sym same.1)
+two_swapped a b (inr (inl le)) = inr (inr le)
+two_swapped a b (inr (inr le)) = inr (inl le)
 
 module _ (p q : Placed) (a : Contribution) (s t : Option Contribution) (some : 0 < a.size)
     (p_at : p.offset ≡ a.offset.0) (p_of : p.size ≡ a.size) (q_at : q.offset ≡ a.offset.0)
@@ -168,10 +169,6 @@ module _ (p q : Placed) (a : Contribution) (s t : Option Contribution) (some : 0
   read_alike : IsApart p q → s ≡ t
   read_alike (inl same) = sym p_by ∙ same.2 ∙ q_by
   read_alike (inr le) = absurd (omega arith)
-
-  alike_behind : IsApart q p → s ≡ t
-  alike_behind (inl same) = sym p_by ∙ sym same.2 ∙ q_by
-  alike_behind (inr le) = absurd (omega arith)
 
 module _ (pack : Package) (slots : List UnitEntry) (kind : SectionKind) (ranges : List Placed)
     (has : HasRanges pack slots kind ranges) (apart : AllPairs IsApart ranges) where
@@ -196,7 +193,8 @@ module _ (pack : Package) (slots : List UnitEntry) (kind : SectionKind) (ranges 
       → HasRange ranges b t → AreTwoApart a b
   both_apart a b s t one other = elim (placed_apart one.0 other.0 one.1 other.1) [
     | inl apart ↦ two_apart one.0 other.0 a b one.2 one.3 other.2 other.3 apart
-    | inr apart ↦ two_behind one.0 other.0 a b one.2 one.3 other.2 other.3 apart
+    | inr apart ↦ two_swapped b a
+        (two_apart other.0 one.0 b a other.2 other.3 one.2 one.3 apart)
   ]
 
   both_alike : (a : Contribution) (s t : Option Contribution) → 0 < a.size → HasRange ranges a s
@@ -204,8 +202,8 @@ module _ (pack : Package) (slots : List UnitEntry) (kind : SectionKind) (ranges 
   both_alike a s t some one other = elim (placed_apart one.0 other.0 one.1 other.1) [
     | inl apart ↦ read_alike one.0 other.0 a s t some one.2 one.3 other.2 other.3 one.4 other.4
         apart
-    | inr apart ↦ alike_behind one.0 other.0 a s t some one.2 one.3 other.2 other.3 one.4 other.4
-        apart
+    | inr apart ↦ sym (read_alike other.0 one.0 a t s some other.2 other.3 one.2 one.3 other.4
+        one.4 apart)
   ]
 
   slots_by : (a b : UnitEntry) → Contains slots a → Contains slots b → (r s : Option Contribution)

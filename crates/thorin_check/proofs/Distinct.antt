@@ -32,11 +32,10 @@ use Rattle.thorin_check.specs.Strings.{HasOffsets, ShareNone, IsRangeOfOne}
 use Rattle.thorin_check.specs.Gathered.{Listed, IsOfUnit}
 use Rattle.thorin_check.specs.Gathered.{IsGathered}
 use Rattle.thorin_check.specs.declared.units.Seen.{Seen}
-use Rattle.thorin_check.specs.Telling.{Progress, Told, Tells, TellsOr, ForEach}
+use Rattle.thorin_check.specs.Telling.{Progress, Told, Tells, ForEach}
 use Rattle.thorin_check.specs.declared.strings.StringRange.{StringRange}
-use Rattle.thorin_print.specs.declared.output.Failure.{Failure}
 use Rattle.thorin_check.proofs.SharedStrings.{has_strings}
-use Rattle.thorin_check.proofs.Told.{told_as, tells_as, then_or, in_turn, for_each_more}
+use Rattle.thorin_check.proofs.Told.{told_as, tells_as, in_turn, for_each_more}
 use Rattle.thorin_check.proofs.Told.{told_next}
 
 among_more : (pack : Package) (objects more : List DwarfObject) (range : StringRange)
@@ -114,6 +113,16 @@ module _ (pack : Package) (listed : Listed) where
 
   module _ (i : ℕ) (e : StringRange × DwarfObject) (lt : i < length listed)
       (before : Option StringRange) where
+    -- the next one has the range of one of these, as those before it have
+    one_further : (objects : List DwarfObject)
+        → ((k : ℕ) (d : StringRange × DwarfObject) → k < i
+        → IsRangeOfOne pack objects (get_or listed k d).0)
+        → IsRangeOfOne pack objects (get_or listed i e).0 → (k : ℕ) (d : StringRange × DwarfObject)
+        → k < i + 1 → IsRangeOfOne pack objects (get_or listed k d).0
+    one_further objects all this k d below = below_more
+        (λ k. (d : StringRange × DwarfObject) → IsRangeOfOne pack objects (get_or listed k d).0)
+        i (λ k h d. all k d h) (λ d. rw (get_or_default listed i d e lt) this) k below d
+
     -- those of the next one have the range before
     pub first_again : before ≡ Some (get_or listed i e).0 → (faults : List FaultValue)
         → TellsFirst i before faults → TellsFirst (i + 1) before faults
@@ -123,10 +132,7 @@ module _ (pack : Package) (listed : Listed) where
       up_to = t.up_to;
       last = t.last;
       told = t.told;
-      others = λ k d below. below_more
-          (λ k. (d : StringRange × DwarfObject) → IsRangeOfOne pack t.objects (get_or listed k d).0)
-          i (λ k h d. t.others k d h)
-          (λ d. rw (get_or_default listed i d e lt) (t.last (get_or listed i e).0 same)) k below d;
+      others = one_further t.objects t.others (t.last (get_or listed i e).0 same);
     }
 
     -- those of the next one were told of
@@ -138,16 +144,15 @@ module _ (pack : Package) (listed : Listed) where
         let object = (get_or listed i e).1 in
         let range = (get_or listed i e).0 in
         let is = All-get_or (IsOfUnit pack) listed i e lt are in
-        let here : IsRangeOfOne pack (t.objects ++ ((get_or listed i e).1 ∷ []))
-        (get_or listed i e).0 = record {
-          object = (get_or listed i e).1;
-          is_one = Contains-push t.objects (get_or listed i e).1;
+        let here : IsRangeOfOne pack (t.objects ++ (object ∷ [])) range = record {
+          object = object;
+          is_one = Contains-push t.objects object;
           unit = is.0;
           is_found = is.1;
           is_range = is.2;
         } in
         record {
-          objects = t.objects ++ ((get_or listed i e).1 ∷ []);
+          objects = t.objects ++ (object ∷ []);
           once = pairs_more (ShareNone pack) t.objects object
               (All-weaker (IsUpTo pack before) (λ other. ShareNone pack other object)
               (shares_none pack range object is before behind) t.objects t.up_to) t.once;
@@ -158,12 +163,9 @@ module _ (pack : Package) (listed : Listed) where
               (All-nil (IsUpTo pack (Some range))));
           last = λ other e. rw (← same_Some range other e) here;
           told = for_each_more (λ object. TellsStringsOf object (found pack object)) t.objects
-              (get_or listed i e).1 faults more t.told told;
-          others = λ k d below. below_more
-              (λ k. (d : StringRange × DwarfObject)
-              → IsRangeOfOne pack (t.objects ++ ((get_or listed i e).1 ∷ [])) (get_or listed k d).0)
-              i (λ k h d. among_more pack t.objects _ (get_or listed k d).0 (t.others k d h))
-              (λ d. rw (get_or_default listed i d e lt) here) k below d;
+              object faults more t.told told;
+          others = one_further (t.objects ++ (object ∷ []))
+              (λ k d h. among_more pack t.objects _ (get_or listed k d).0 (t.others k d h)) here;
         }
 
   pub first_all : (i : ℕ) (before : Option StringRange) → length listed ≤ i
@@ -209,7 +211,7 @@ abbrev pub TellsUnitsOnly : Package → Listed → List UnitEntry → List Fault
 TellsUnitsOnly pack listed entries faults = ForEach (TellsSeen pack listed) entries faults
     × (faults ≡ [] → AreApart pack entries contribution_kinds)
 
-units_then : (pack : Package) (entries : List UnitEntry) (listed : Listed)
+pub units_then : (pack : Package) (entries : List UnitEntry) (listed : Listed)
     (faults more : List FaultValue) → TellsUnitsOnly pack listed entries faults
     → TellsListed pack listed more → TellsUnits pack entries (faults ++ more)
 units_then pack entries listed faults more units strings = (
@@ -246,15 +248,6 @@ module _ (pack : Package) (entries : List UnitEntry) (listed : Listed) (any : Bo
     counted = t.counted;
     formed = t.formed;
   }
-
-pub units_or : (Stops : Failure → Type 0) (pack : Package) (entries : List UnitEntry)
-    (listed : Listed) {a b : Progress} (c : Progress) (result : Outcome)
-    → Told (TellsUnitsOnly pack listed entries) a b
-    → TellsOr Stops (TellsListed pack listed) b c result
-    → TellsOr Stops (TellsUnits pack entries) a c result
-units_or Stops pack entries listed {a} {b} c result units strings =
-    then_or (TellsUnitsOnly pack listed entries) (TellsListed pack listed) Stops a b c
-    (TellsUnits pack entries) (units_then pack entries listed) result units strings
 
 -- ---- units that are gone through
 

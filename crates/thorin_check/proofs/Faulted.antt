@@ -1,19 +1,17 @@
 -- Faults that were told.
-use Rattle.std.proofs.Common.{◌≡◌, ◌≢◌, ℕ, Bool, true, false, ◌&&◌, List, [], ◌∷◌, ◌++◌, codes}
-use Rattle.std.proofs.Common.{Option, Some, None, is_none, Result, Ok, Err, IfOk, String}
+use Rattle.std.proofs.Common.{◌≡◌, ◌≢◌, ℕ, Bool, true, false, List, [], ◌∷◌, ◌++◌, codes}
+use Rattle.std.proofs.Common.{Option, Some, None, Result, Ok, Err, IfOk, String}
 use Rattle.std.proofs.Common.{string_bytes, Global, decimal, refl, inl, arith}
 use Rattle.std.specs.Result.{result_err}
 use Rattle.std.proofs.KnownBytes.{Appends-trans}
-use Rattle.dwp_base.specs.declared.section.SectionKind.TheVariants.{Abbrev}
 use Rattle.dwp_bytes.specs.declared.error.ReadError.{ReadError}
-use Rattle.dwp_index.specs.Index.{range_in}
 use Rattle.dwp_index.specs.Package.{Package, FoundUnit, found}
 use Rattle.dwp_index.specs.declared.error.PackageError.{PackageError}
 use Rattle.dwp_index.specs.declared.units.UnitEntry.{UnitEntry}
 use Rattle.dwp_table.specs.declared.object.DwarfObject.{DwarfObject}
 use Rattle.thorin_check.specs.Texts.{TellsText, IsTextOf, IsSomeText, IsUnreadText}
 use Rattle.thorin_check.specs.Faults.{TellsOwn, TellsItself, TellsFound, TellsUnit}
-use Rattle.thorin_check.specs.Faults.{has_abbreviations, string_text, TellsString, TellsStrings}
+use Rattle.thorin_check.specs.Faults.{is_bare, string_text, TellsString, TellsStrings}
 use Rattle.thorin_check.specs.Faults.{TellsStringsOf, IsBroken}
 use Rattle.thorin_check.specs.Texts.{TellsWhat}
 use Rattle.thorin_check.specs.Overlaps.{IsClash}
@@ -84,18 +82,16 @@ module _ (pack : Package) (entry : UnitEntry) where
         → TellsFound pack entry unit (of_unit entry.object text ∷ [])
     other_row e text is = inl (e, rw is refl)
 
-    module _ (has bare : Bool) (some : has ≡ has_abbreviations pack)
-        (is : bare ≡ (has && is_none (range_in unit.row Abbrev))) (row : unit.number ≡ entry.row)
-      where
-        pub in_bare_row : bare ≡ true → (text : List ℕ)
-            → text ≡ codes "its row has no abbreviations"
-            → TellsFound pack entry unit (of_unit entry.object text ∷ [])
-        in_bare_row e text so = grind (arith)
+    module _ (bare : Bool) (is : bare ≡ is_bare pack unit) (row : unit.number ≡ entry.row) where
+      pub in_bare_row : bare ≡ true → (text : List ℕ)
+          → text ≡ codes "its row has no abbreviations"
+          → TellsFound pack entry unit (of_unit entry.object text ∷ [])
+      in_bare_row e text so = grind (arith)
 
-        pub in_whole_row : {E : Type 0} (text : Result (Option (String Global)) E) → bare ≡ false
-            → IsTextOf (TellsItself pack entry.object unit) entry.object text
-            → IsTextOf (TellsFound pack entry unit) entry.object text
-        in_whole_row text e h = grind (arith)
+      pub in_whole_row : {E : Type 0} (text : Result (Option (String Global)) E) → bare ≡ false
+          → IsTextOf (TellsItself pack entry.object unit) entry.object text
+          → IsTextOf (TellsFound pack entry unit) entry.object text
+      in_whole_row text e h = grind (arith)
 
 module _ (pack : Package) (object : DwarfObject) (unit : FoundUnit) where
   pub clashed : (text : List ℕ) → IsClash pack unit text

@@ -1,5 +1,5 @@
 -- The unit that a look-up finds is that of a row, whose ranges lie inside their sections.
-use Rattle.std.proofs.Common.{◌≡◌, ◌∙◌, ℕ, ◌+◌, ◌≤◌, Bool, false, List, [], ◌∷◌, length}
+use Rattle.std.proofs.Common.{◌≡◌, ◌∙◌, ℕ, ◌+◌, ◌≤◌, Bool, false, List, [], ◌∷◌, ◌++◌, length}
 use Rattle.std.proofs.Common.{Option}
 use Rattle.std.proofs.Common.{Some, None, Result, Ok, Err, refl, sym, ap, arith, find, nat_eq}
 use Rattle.std.proofs.lemmas.Bool.Decides.{nat_tests}
@@ -30,12 +30,13 @@ outside_none : (outside : Option SectionKind) (x : Unit {0}) → all_inside outs
 outside_none None x e = refl
 outside_none (Some kind) x e = absurd cc
 
-find_misses : {X : Type 0} (p : X → Bool) (xs : List X) → find p xs ≡ None
-    → HoldsAll (λ x. p x ≡ false) xs
-find_misses p [] e = tt
-find_misses p (x ∷ xs) e = by-bool _ (p x)
+-- what holds of each that isn't found, and of some behind these
+find_misses : {X : Type 0} (p : X → Bool) (Q : X → Type 0) → ((x : X) → p x ≡ false → Q x)
+    → (xs rest : List X) → HoldsAll Q rest → find p xs ≡ None → HoldsAll Q (xs ++ rest)
+find_misses p Q goes [] rest h e = h
+find_misses p Q goes (x ∷ xs) rest h e = by-bool _ (p x)
     (λ yes. let hit = rw yes at e in absurd cc)
-    (λ no. (no, find_misses p xs (rw no at e)))
+    (λ no. (goes x no, find_misses p Q goes xs rest h (rw no at e)))
 
 inside_of : (bytes : List ℕ) (range : Option Contribution) → is_outside bytes range ≡ false
     → (c : Contribution) → range ≡ Some c → c.offset.0 + c.size ≤ length bytes
@@ -63,50 +64,14 @@ module _ (contents : Sections) (row : Ranges) where
   pub all_inside_of : first_outside contents row ≡ None → LiesInside contents row
   unfolding first_outside
   all_inside_of e =
-      let h = find_misses (λ kind. is_outside (content contents kind) (range_in row kind))
-      contribution_kinds e in
-      let at = λ (kind : SectionKind)
-      (no : is_outside (content contents kind) (range_in row kind) ≡ false).
-      inside_of (content contents kind) (range_in row kind) no in
       let none = λ (kind : SectionKind) (s : column_of 5 kind ≡ None) (g : column_of 2 kind ≡ None).
       absent_inside kind (columnless row.version kind s g) in
-      each IsInside (
-        at kinds.Info h.0,
-        (
-          at kinds.Types h.1.0,
-          (
-            at kinds.Abbrev h.1.1.0,
-            (
-              at kinds.Line h.1.1.1.0,
-              (
-                at kinds.Loc h.1.1.1.1.0,
-                (
-                  at kinds.Loclists h.1.1.1.1.1.0,
-                  (
-                    at kinds.Rnglists h.1.1.1.1.1.1.0,
-                    (
-                      at kinds.StrOffsets h.1.1.1.1.1.1.1.0,
-                      (
-                        at kinds.Macinfo h.1.1.1.1.1.1.1.1.0,
-                        (
-                          at kinds.Macro h.1.1.1.1.1.1.1.1.1.0,
-                          (
-                            none kinds.Str refl refl,
-                            (
-                              none kinds.CuIndex refl refl,
-                              (none kinds.TuIndex refl refl, tt),
-                            ),
-                          ),
-                        ),
-                      ),
-                    ),
-                  ),
-                ),
-              ),
-            ),
-          ),
-        ),
-      )
+      each IsInside (find_misses
+      (λ kind. is_outside (content contents kind) (range_in row kind)) IsInside
+      (λ kind. inside_of (content contents kind) (range_in row kind)) contribution_kinds
+      (kinds.Str ∷ kinds.CuIndex ∷ kinds.TuIndex ∷ [])
+      (none kinds.Str refl refl, (none kinds.CuIndex refl refl, (none kinds.TuIndex refl refl, tt)))
+      e)
 
 -- ---- the unit that is found
 

@@ -18,7 +18,9 @@ use Rattle.std.proofs.lemmas.List.Sorted.{IsNonDecreasingBy-from_sort}
 use Rattle.std.proofs.lemmas.List.{map-append}
 use Rattle.dwp_base.proofs.Bools.{both}
 use Rattle.dwp_index.specs.declared.units.UnitEntry.{UnitEntry}
+use Rattle.dwp_table.specs.declared.object.DebugTypeSignature.{DebugTypeSignature}
 use Rattle.dwp_table.specs.declared.object.DwarfObject.{DwarfObject}
+use Rattle.dwp_table.specs.declared.object.DwoId.{DwoId}
 use Rattle.dwp_table.specs.declared.object.DwarfObject.TheVariants.{Compilation, TypeUnit}
 use Rattle.thorin_check.specs.Texts.{TellsWhat}
 use Rattle.thorin_check.specs.Faults.{row_text, row_fault, is_of, IsNamed}
@@ -60,36 +62,50 @@ row_or kind first row {a} {b} c text result le p e q =
 
 -- ---- slots in the order of their rows
 
-le_of : (is_types : Bool) (a b : DwarfObject) (m n : ℕ) → is_of is_types a ≡ true
+-- what holds of two compilation units and of two type units
+pub of_one_kind : (P : Bool → DwarfObject → DwarfObject → Type 0)
+    → ((x y : DwoId) → P false (Compilation x) (Compilation y))
+    → ((x y : DebugTypeSignature) → P true (TypeUnit x) (TypeUnit y)) → (is_types : Bool)
+    → (a b : DwarfObject) → is_of is_types a ≡ true → is_of is_types b ≡ true → P is_types a b
+of_one_kind P cu tu false (Compilation x) (Compilation y) is so = cu x y
+of_one_kind P cu tu false (Compilation x) (TypeUnit y) is so = absurd cc
+of_one_kind P cu tu false (TypeUnit x) b is so = absurd cc
+of_one_kind P cu tu true (TypeUnit x) (TypeUnit y) is so = tu x y
+of_one_kind P cu tu true (TypeUnit x) (Compilation y) is so = absurd cc
+of_one_kind P cu tu true (Compilation x) b is so = absurd cc
+
+le_of : (m n : ℕ) (is_types : Bool) (a b : DwarfObject) → is_of is_types a ≡ true
     → is_of is_types b ≡ true → place_by a m ≤ place_by b n → m ≤ n
-le_of false (Compilation a) (Compilation b) m n e f le = le
-le_of false (Compilation a) (TypeUnit b) m n e f le = absurd cc
-le_of false (TypeUnit a) b m n e f le = absurd cc
-le_of true (TypeUnit a) (TypeUnit b) m n e f le = omega arith
-le_of true (TypeUnit a) (Compilation b) m n e f le = absurd cc
-le_of true (Compilation a) b m n e f le = absurd cc
+le_of m n = of_one_kind (λ is_types a b. place_by a m ≤ place_by b n → m ≤ n) (λ x y le. le)
+    (λ x y le. omega arith)
 
 module _ (kind : List ℕ) (is_types : Bool) (end : ℕ) (slots : List UnitEntry) where
   -- a slot of the index names a row before the next, or none of its rows
   abbrev pub IsPast : ℕ → UnitEntry → Type 0
   IsPast next slot = is_of is_types slot.object ≡ true → (slot.row < next) ⊎ (end ≤ slot.row)
 
-  -- the faults of the rows before the next, and what the first slots name
-  pub record Covers (i next : ℕ) (faults : List FaultValue) : Type 0 where
+  -- the faults of the rows before one
+  pub record TellsBefore (next : ℕ) (faults : List FaultValue) : Type 0 where
     pub rows : List ℕ
     pub are : faults ≡ map (row_fault kind) rows
     pub unnamed : All (IsUnnamed slots is_types end) rows
     pub others : (row : ℕ) → 0 < row → row < next → Contains rows row ⊎ IsNamed slots is_types row
+
+  -- those of the rows before the next, and what the first slots name
+  pub record Covers (i next : ℕ) (faults : List FaultValue) : Type 0 where
+    pub before : TellsBefore next faults
     pub past : (k : ℕ) (d : UnitEntry) → k < i → IsPast next (get_or slots k d)
     pub some : 0 < next
     pub within : next ≤ end
 
   pub covers_none : 0 < end → Covers 0 1 []
   covers_none some = record {
-    rows = [];
-    are = refl;
-    unnamed = All-nil (IsUnnamed slots is_types end);
-    others = λ row is lt. absurd (omega arith);
+    before = record {
+      rows = [];
+      are = refl;
+      unnamed = All-nil (IsUnnamed slots is_types end);
+      others = λ row is lt. absurd (omega arith);
+    };
     past = λ k d lt. absurd (omega arith);
     some = omega arith;
     within = omega arith;
@@ -110,10 +126,7 @@ module _ (kind : List ℕ) (is_types : Bool) (end : ℕ) (slots : List UnitEntry
       → is_next is_types end (get_or slots i e) next ≡ false → Covers i next faults
       → Covers (i + 1) next faults
   covers_past i next e faults lt past c = record {
-    rows = c.rows;
-    are = c.are;
-    unnamed = c.unnamed;
-    others = c.others;
+    before = c.before;
     past = λ k d below. below_more (λ k. (d : UnitEntry) → IsPast next (get_or slots k d)) i
         (λ k h d. c.past k d h)
         (λ d. rw (get_or_default slots i d e lt) (passed_by next (get_or slots i e) past)) k below
@@ -143,13 +156,6 @@ module _ (kind : List ℕ) (is_types : Bool) (end : ℕ) (slots : List UnitEntry
               let same = named.is_row in omega arith)
         ]
 
-    pub record Reached (faults' : List FaultValue) : Type 0 where
-      pub rows : List ℕ
-      pub are : faults' ≡ map (row_fault kind) rows
-      pub unnamed : All (IsUnnamed slots is_types end) rows
-      pub others : (row : ℕ) → 0 < row → row < last
-          → Contains rows row ⊎ IsNamed slots is_types row
-
     unnamed_row : (row : ℕ) → next ≤ row → row < last → IsUnnamed slots is_types end row
     unnamed_row row le lt =
         let some = c.some in (omega arith, omega arith, unnamed_between row le lt)
@@ -173,20 +179,22 @@ module _ (kind : List ℕ) (is_types : Bool) (end : ℕ) (slots : List UnitEntry
         (unnamed_row (next + k) (omega arith) (omega arith)))
 
     pub reached : (told : List FaultValue) → Is (row_faults kind next last) told
-        → Reached (faults ++ told)
-    reached told is = record {
-      rows = c.rows ++ range_with_len next (last - next);
-      are = rw (c.are, is)
-          (sym (map-append (row_fault kind) c.rows (range_with_len next (last - next))));
-      unnamed = All-append (IsUnnamed slots is_types end) c.rows _ c.unnamed all_unnamed;
-      others = λ row some lt. elim (at row next) [
-        | inl before ↦ elim (c.others row some before) [
-          | inl told ↦ inl (Contains-append_left c.rows _ row told)
-          | inr named ↦ inr named
-        ]
-        | inr from ↦ inl (Contains-append_right c.rows _ row (in_range row from lt))
-      ];
-    }
+        → TellsBefore last (faults ++ told)
+    reached told is =
+        let b = c.before in
+        record {
+          rows = b.rows ++ range_with_len next (last - next);
+          are = rw (b.are, is)
+              (sym (map-append (row_fault kind) b.rows (range_with_len next (last - next))));
+          unnamed = All-append (IsUnnamed slots is_types end) b.rows _ b.unnamed all_unnamed;
+          others = λ row some lt. elim (at row next) [
+            | inl before ↦ elim (b.others row some before) [
+              | inl told ↦ inl (Contains-append_left b.rows _ row told)
+              | inr named ↦ inr named
+            ]
+            | inr from ↦ inl (Contains-append_right b.rows _ row (in_range row from lt))
+          ];
+        }
 
   -- the slots from one on name rows from its row on
   module _ (sorted : IsSortedByKey place_of_line nat_cmp slots) where
@@ -197,7 +205,7 @@ module _ (kind : List ℕ) (is_types : Bool) (end : ℕ) (slots : List UnitEntry
     behind i e is k d le lt of =
         let same = get_or_default slots i e d (omega arith) in
         let rise = IsNonDecreasingBy-from_sort place_of_line slots sorted i k d le lt in
-        le_of is_types (get_or slots i e).object (get_or slots k d).object _ _ is of
+        le_of _ _ is_types (get_or slots i e).object (get_or slots k d).object is of
         (rw (← same) at rise)
 
     pub covers_more : (i next : ℕ) (e : UnitEntry) (faults told : List FaultValue)
@@ -212,18 +220,20 @@ module _ (kind : List ℕ) (is_types : Bool) (end : ℕ) (slots : List UnitEntry
         let r = reached i next (get_or slots i e).row faults c (behind i e first.0)
         (omega arith) told is in
         record {
-          rows = r.rows;
-          are = r.are;
-          unnamed = r.unnamed;
-          others = λ row some below. below_more
-              (λ row. 0 < row → Contains r.rows row ⊎ IsNamed slots is_types row)
-              (get_or slots i e).row (λ row lt some. r.others row some lt)
-              (λ some. inr (record {
-                slot = get_or slots i e;
-                is_slot = Contains-get_or slots i e lt;
-                is_kind = first.0;
-                is_row = refl;
-              })) row below some;
+          before = record {
+            rows = r.rows;
+            are = r.are;
+            unnamed = r.unnamed;
+            others = λ row some below. below_more
+                (λ row. 0 < row → Contains r.rows row ⊎ IsNamed slots is_types row)
+                (get_or slots i e).row (λ row lt some. r.others row some lt)
+                (λ some. inr (record {
+                  slot = get_or slots i e;
+                  is_slot = Contains-get_or slots i e lt;
+                  is_kind = first.0;
+                  is_row = refl;
+                })) row below some;
+          };
           past = λ k d below. below_more
               (λ k. (d : UnitEntry) → IsPast ((get_or slots i e).row + 1) (get_or slots k d)) i
               (λ k h d. past_on next ((get_or slots i e).row + 1) (get_or slots k d)

@@ -1,6 +1,6 @@
 -- The identifiers that units' own bytes give.
 use Rattle.std.proofs.Common.{◌≡◌, ℕ, ◌+◌, ◌-◌, ◌≤◌, List, length, Option, Some, None}
-use Rattle.std.proofs.Common.{◌∙◌, Bool, true, false, Ok, refl, sym, arith}
+use Rattle.std.proofs.Common.{◌∙◌, Bool, true, Ok, refl, sym, arith}
 use Rattle.std.proofs.lemmas.Option.{same_Some}
 use Rattle.std.specs.BTreeMap.{insert_entry}
 use Rattle.std.specs.List.{All, IsAmong}
@@ -22,7 +22,7 @@ use Rattle.dwp_index.specs.Package.{Package, FoundUnit, found, place_of, kind_of
 use Rattle.dwp_index.specs.Package.{part_of, lies_inside, index_for}
 use Rattle.dwp_table.specs.declared.object.DebugTypeSignature.{DebugTypeSignature}
 use Rattle.dwp_table.specs.declared.object.DwarfObject.{DwarfObject}
-use Rattle.dwp_table.specs.declared.object.DwarfObject.TheVariants.{Compilation, TypeUnit}
+use Rattle.dwp_table.specs.declared.object.DwarfObject.TheVariants.{TypeUnit}
 use Rattle.dwp_units.specs.Units.{Unit, units}
 use Rattle.dwp_units.specs.declared.unit.UnitSection.{UnitSection}
 use Rattle.dwp_units.specs.declared.unit.UnitSection.TheVariants.{Info, Types}
@@ -34,6 +34,7 @@ use Rattle.thorin_check.specs.Remembered.{said_of, numbers_of, bytes_at, is_in_t
 use Rattle.thorin_check.specs.Remembered.{section_by, place_in, own_at, IsReadIn}
 use Rattle.thorin_check.specs.declared.abbreviations.PlaceRead.{PlaceRead}
 use Rattle.thorin_check.proofs.FoundUnits.{row_of_found}
+use Rattle.thorin_check.proofs.NamedRows.{of_one_kind}
 
 -- the bytes of a range, by its numbers
 pub bytes_are : (bytes : List ℕ) (range : Option Contribution)
@@ -141,22 +142,13 @@ place_of_types (Some range) x y = refl
 alike_in_row : (pack : Package) (row : Ranges) (is_types : Bool) (a b : DwarfObject)
     → is_of is_types a ≡ true → is_of is_types b ≡ true
     → own_in_row pack a row ≡ own_in_row pack b row
-alike_in_row pack row false (Compilation x) (Compilation y) is so = refl
-alike_in_row pack row false (Compilation x) (TypeUnit y) is so = absurd cc
-alike_in_row pack row false (TypeUnit x) b is so = absurd cc
-alike_in_row pack row true (TypeUnit x) (TypeUnit y) is so =
-    rw (place_of_types (range_in row kinds.Types) x y) refl
-alike_in_row pack row true (TypeUnit x) (Compilation y) is so = absurd cc
-alike_in_row pack row true (Compilation x) b is so = absurd cc
+alike_in_row pack row = of_one_kind (λ is_types a b. own_in_row pack a row ≡ own_in_row pack b row)
+    (λ x y. refl) (λ x y. rw (place_of_types (range_in row kinds.Types) x y) refl)
 
 one_index : (pack : Package) (is_types : Bool) (a b : DwarfObject) → is_of is_types a ≡ true
     → is_of is_types b ≡ true → index_for pack a ≡ index_for pack b
-one_index pack false (Compilation x) (Compilation y) is so = refl
-one_index pack false (Compilation x) (TypeUnit y) is so = absurd cc
-one_index pack false (TypeUnit x) b is so = absurd cc
-one_index pack true (TypeUnit x) (TypeUnit y) is so = refl
-one_index pack true (TypeUnit x) (Compilation y) is so = absurd cc
-one_index pack true (Compilation x) b is so = absurd cc
+one_index pack = of_one_kind (λ is_types a b. index_for pack a ≡ index_for pack b)
+    (λ x y. refl) (λ x y. refl)
 
 -- the units of one row give one identifier
 pub own_once : (pack : Package) (is_types : Bool) (a b : DwarfObject) (one other : FoundUnit)

@@ -28,7 +28,7 @@ use Rattle.thorin_check.specs.Gathered.{Listed, IsOfUnit, Lists, string_by, AllE
 use Rattle.thorin_check.specs.Gathered.{IsGathered, Gathers, Adds}
 use Rattle.thorin_check.specs.Seen.{Gathered, IsGatheredIn}
 use Rattle.thorin_check.specs.declared.strings.StringRange.{StringRange}
-use Rattle.thorin_check.specs.declared.strings.Strings.{Strings}
+use Rattle.thorin_check.specs.declared.strings.UnreadStrings.{UnreadStrings}
 use Rattle.thorin_check.proofs.FoundUnits.{row_of_found}
 
 -- ---- ranges
@@ -105,7 +105,7 @@ module _ (pack : Package) (object : DwarfObject) (unit : FoundUnit)
 -- ---- units that are gathered
 
 -- nothing yet
-pub nothing_gathered : (pack : Package) (strings : Strings)
+pub nothing_gathered : (pack : Package) (strings : UnreadStrings)
     → HasEnds strings.ends pack.order (content pack.contents Str) → strings.last ≡ None
     → strings.unread.items ≡ [] → Gathers pack strings
 nothing_gathered pack strings ends last none = record {
@@ -120,7 +120,7 @@ kept_behind pack listed more range (inl all) = inl all
 kept_behind pack listed more range (inr there) =
     inr (there.0, Contains-append_left listed more (range, there.0) there.1)
 
-module _ (pack : Package) (old : Strings) (unit : FoundUnit) (object : DwarfObject)
+module _ (pack : Package) (old : UnreadStrings) (unit : FoundUnit) (object : DwarfObject)
     (g : Gathers pack old) (is : found pack object ≡ Ok (Some unit)) where
   -- it has no string offsets
   pub none_added : None ≡ range_of unit → Adds pack old old unit
@@ -135,7 +135,7 @@ module _ (pack : Package) (old : Strings) (unit : FoundUnit) (object : DwarfObje
     this other e = same_Some range other (has ∙ e)
 
     -- its strings can all be read
-    pub read_added : (new : Strings) → new.ends ≡ old.ends → new.unread ≡ old.unread
+    pub read_added : (new : UnreadStrings) → new.ends ≡ old.ends → new.unread ≡ old.unread
         → new.last ≡ Some range → AllEnd unit → Adds pack old new unit
     read_added new ends unread last all =
         let here : IsGathered pack old.unread.items range =
@@ -151,7 +151,7 @@ module _ (pack : Package) (old : Strings) (unit : FoundUnit) (object : DwarfObje
         }
 
     -- it is listed
-    pub listed_added : (new : Strings) → new.ends ≡ old.ends
+    pub listed_added : (new : UnreadStrings) → new.ends ≡ old.ends
         → new.unread.items ≡ old.unread.items ++ ((range, object) ∷ [])
         → new.last ≡ Some range → Adds pack old new unit
     listed_added new ends unread last =

@@ -1,7 +1,7 @@
 -- Executables whose units a package is to have.
 use Rattle.std.specs.Prelude.{List, ℕ}
 use Rattle.std.specs.Borrow.{Bor}
-use Rattle.thorin_check.specs.declared.executables.Named.{Named}
+use Rattle.thorin_check.specs.declared.executables.ExecutableSet.{ExecutableSet}
 use Rattle.thorin_check.specs.declared.executables.Reading.{Reading}
 
 -- the executables whose units a package is to have: their paths, and how they are read; and how
@@ -11,5 +11,5 @@ pub record Executables : Type 0 where
   pub reading : Reading
 
 -- those at hand
-abbrev pub executables_of : Named → Executables
+abbrev pub executables_of : ExecutableSet → Executables
 executables_of named = record { paths = named.executables.now; reading = named.reading }

@@ -10,7 +10,7 @@ use Rattle.dwp_index.specs.Package.{Package, FoundUnit, part_of}
 use Rattle.dwp_table.specs.declared.object.DwarfObject.{DwarfObject}
 use Rattle.thorin_check.specs.Reach.{HasEnds}
 use Rattle.thorin_check.specs.declared.strings.StringRange.{StringRange}
-use Rattle.thorin_check.specs.declared.strings.Strings.{Strings}
+use Rattle.thorin_check.specs.declared.strings.UnreadStrings.{UnreadStrings}
 use Rattle.thorin_check.specs.Strings.{HasOffsets, IsRangeOfOne, ShareNone, range_of}
 use Rattle.thorin_check.specs.Rendering.{FaultValue}
 use Rattle.thorin_check.specs.Checking.{TellsStringsOfAll}
@@ -46,14 +46,14 @@ abbrev pub IsGathered : Package → Listed → StringRange → Type 0
 IsGathered pack listed range = AllEndIn pack range ⊎ Lists listed range
 
 -- what is known of the units whose strings are still to be checked
-pub record Gathers (pack : Package) (strings : Strings) : Type 0 where
+pub record Gathers (pack : Package) (strings : UnreadStrings) : Type 0 where
   pub ends : HasEnds strings.ends pack.order (content pack.contents Str)
   pub last : (range : StringRange) → strings.last ≡ Some range
       → IsGathered pack strings.unread.items range
   pub are : All (IsOfUnit pack) strings.unread.items
 
 -- a unit was gathered, and those before
-pub record Adds (pack : Package) (old new : Strings) (unit : FoundUnit) : Type 0 where
+pub record Adds (pack : Package) (old new : UnreadStrings) (unit : FoundUnit) : Type 0 where
   pub gathers : Gathers pack new
   pub kept : (range : StringRange) → IsGathered pack old.unread.items range
       → IsGathered pack new.unread.items range

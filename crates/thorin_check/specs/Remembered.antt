@@ -13,16 +13,16 @@ use Rattle.dwp_units.specs.Units.{units}
 use Rattle.dwp_units.specs.declared.unit.UnitSection.{UnitSection}
 use Rattle.dwp_units.specs.declared.unit.UnitSection.TheVariants.{Info, Types}
 use Rattle.thorin_find.specs.Names.{first_of}
-use Rattle.thorin_check.specs.declared.abbreviations.Own.{Own}
+use Rattle.thorin_check.specs.declared.abbreviations.OwnIdentifier.{OwnIdentifier}
 use Rattle.thorin_check.specs.declared.abbreviations.UnitPlace.{UnitPlace}
 use Rattle.thorin_check.specs.declared.abbreviations.PlaceRead.{PlaceRead}
 use Rattle.thorin_check.specs.declared.abbreviations.Remembered.{Remembered}
 use Rattle.thorin_check.specs.Own.{own_by}
 use Rattle.dwp_base.specs.declared.section.SectionKind.TheVariants as kinds
-use Rattle.thorin_check.specs.declared.abbreviations.Own.TheVariants as says
+use Rattle.thorin_check.specs.declared.abbreviations.OwnIdentifier.TheVariants as says
 
 -- what was read
-abbrev pub said_of : Own → Option (Option DwarfObject)
+abbrev pub said_of : OwnIdentifier → Option (Option DwarfObject)
 said_of (says.Is object) = Some (Some object)
 said_of says.Nameless = Some None
 said_of (says.Unread cause) = None

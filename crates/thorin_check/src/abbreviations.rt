@@ -16,7 +16,7 @@ ghost use Rattle.thorin_check.specs.Own.{own_of};
 ghost use Rattle.thorin_check.specs.Remembered.{said_of, numbers_of, bytes_at, place_in};
 ghost use Rattle.thorin_check.specs.Remembered.{Knows};
 
-use crate::faults::{error_text, some};
+use crate::faults::some;
 use crate::turns::TablesByTurns;
 use dwp_base::{Contribution, SectionKind};
 use dwp_dwarf::{Reader, SliceReader, UnitHeader, UnitSection};
@@ -24,12 +24,11 @@ use dwp_index::{PackageFile, PackagedUnit, place_of};
 use dwp_table::{Bucketable, DwarfObject};
 use std::alloc::{AllocError, Global};
 use std::collections::BTreeMap;
-use std::fmt;
 use thorin_find::{header_of, short_kind};
 
 /// What a unit's own bytes say of its identifier.
 #[derive(Drop)]
-pub(crate) enum Own {
+pub(crate) enum OwnIdentifier {
     /// The identifier.
     Is(DwarfObject),
     /// It has none.
@@ -86,7 +85,7 @@ impl UnitPlace {
 #[derive(Drop)]
 pub(crate) struct PlaceRead {
     place: UnitPlace,
-    own: Own,
+    own: OwnIdentifier,
 }
 
 /// What was read of the abbreviations of the units before. And what units say that share their
@@ -149,7 +148,7 @@ fn read<'a>(
     pack: &PackageFile<'a>,
     object: DwarfObject,
     unit: &PackagedUnit<'a>,
-) -> Result<Own, AllocError>
+) -> Result<OwnIdentifier, AllocError>
     requires tables { tables.old ≡ (pack.now.order, content pack.now.contents SectionKind.Abbrev) }
     requires is_found { found pack.now object ≡ Ok (Some unit.now) }
     ensures own { IfOk result (λ own. said_of own ≡ own_of object unit.now) }
@@ -157,7 +156,7 @@ fn read<'a>(
 {
     match header_of(unit, object, pack.order()) {
         Ok(header) => read_behind(alloc, tables, unit, &header),
-        Err(error) => unread(alloc, &error),
+        Err(error) => Ok(OwnIdentifier::Unread(format!(in alloc; "{error}")?)),
     }
 }
 
@@ -167,7 +166,7 @@ fn read_behind<'a>(
     tables: &mut TablesByTurns<'a>,
     unit: &PackagedUnit<'a>,
     header: &UnitHeader<SliceReader<'a>>,
-) -> Result<Own, AllocError>
+) -> Result<OwnIdentifier, AllocError>
     requires inside { (range : Contribution) → range_in unit.now.row SectionKind.Abbrev ≡ Some range
         → range.offset.0 + range.size ≤ length tables.old.1 }
     ensures own { IfOk result (λ own. said_of own ≡ result_ok (identity (section tables.old.0
@@ -178,17 +177,10 @@ fn read_behind<'a>(
     let (start, size) = numbers_of(unit.range(SectionKind::Abbrev));
     let end = start.saturating_add(size).min(tables.bytes().len() as u64);
     match tables.identifier(start as usize, end as usize, header) {
-        Ok(Some(own)) => Ok(Own::Is(own)),
-        Ok(None) => Ok(Own::Nameless),
-        Err(error) => unread(alloc, &error),
+        Ok(Some(own)) => Ok(OwnIdentifier::Is(own)),
+        Ok(None) => Ok(OwnIdentifier::Nameless),
+        Err(error) => Ok(OwnIdentifier::Unread(format!(in alloc; "{error}")?)),
     }
-}
-
-/// What is said of a unit's own identifier that can't be read.
-fn unread<D: fmt::Display>(alloc: Global, error: &D) -> Result<Own, AllocError>
-    ensures { IfOk result (λ own. said_of own ≡ None) }
-{
-    Ok(Own::Unread(error_text(alloc, error)?))
 }
 
 /// Where a range begins, and its size; an absent one has no bytes.
@@ -203,11 +195,15 @@ fn numbers_of(range: Option<Contribution>) -> (u64, u64)
 
 /// What is told of a unit whose own bytes say this of its identifier, if anything.
 #[tactic(auto, using(crate::proofs::Faulted::made, thorin_print::proofs::Hex::hex16_written))]
-fn own_fault(alloc: Global, own: &Own, object: DwarfObject) -> Result<Option<String>, AllocError>
+fn own_fault(
+    alloc: Global,
+    own: &OwnIdentifier,
+    object: DwarfObject,
+) -> Result<Option<String>, AllocError>
     ensures { IsTextOf (TellsOwn object (said_of own.now)) object result }
 {
     match own {
-        Own::Is(own) => {
+        OwnIdentifier::Is(own) => {
             if is_same(*own, object) {
                 return Ok(None);
             }
@@ -215,8 +211,8 @@ fn own_fault(alloc: Global, own: &Own, object: DwarfObject) -> Result<Option<Str
             let id = own.index();
             some(format!(in alloc; "its own identifier is {kind} 0x{id:016x}"))
         }
-        Own::Nameless => some(format!(in alloc; "it has no identifier of its own")),
-        Own::Unread(cause) => {
+        OwnIdentifier::Nameless => some(format!(in alloc; "it has no identifier of its own")),
+        OwnIdentifier::Unread(cause) => {
             let cause = cause.as_str();
             some(format!(in alloc; "its own identifier can't be read: {cause}"))
         }

@@ -7,7 +7,7 @@ ghost use Rattle.thorin_check.specs.Executables.{executables_of};
 ghost use Rattle.thorin_find.specs.Listing.{AreByRow};
 ghost use Rattle.thorin_check.specs.Telling.{progress, TellsOr};
 
-use crate::executables::{Named, Reading, check_executables};
+use crate::executables::{ExecutableSet, Reading, check_executables};
 use crate::faults::Faults;
 use crate::rendering::put_totals;
 use crate::tables::check_tables;
@@ -55,7 +55,7 @@ pub fn check_by<F: FileReader, O: Write>(
         pack: &pack,
         entries: entries.as_slice(),
     };
-    let named = Named {
+    let named = ExecutableSet {
         executables,
         reading,
     };
@@ -77,7 +77,7 @@ fn check_indexed<F: FileReader, O: Write>(
     alloc: Global,
     files: &F,
     indexed: IndexedPackage<'_, '_>,
-    named: Named<'_, '_>,
+    named: ExecutableSet<'_, '_>,
     out: &mut O,
 ) -> Result<u8, Failure>
     requires { AreByRow indexed.pack.now indexed.entries.now }
@@ -103,7 +103,7 @@ fn check_all<F: FileReader, O: Write>(
     alloc: Global,
     files: &F,
     indexed: IndexedPackage<'_, '_>,
-    named: Named<'_, '_>,
+    named: ExecutableSet<'_, '_>,
     faults: &mut Faults,
     out: &mut O,
 ) -> Result<(), Failure>

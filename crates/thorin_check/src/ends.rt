@@ -1,8 +1,7 @@
 //! Which strings of a package end, in `thorin check`.
 
-ghost use Rattle.std.specs.Prelude.{◌≡◌, ◌≤◌, ℕ, List, length, true};
+ghost use Rattle.std.specs.Prelude.{◌≡◌, ◌≤◌, length, true};
 ghost use Rattle.std.specs.Result.{result_err};
-ghost use Rattle.dwp_bytes.specs.StringOffsets.{string_at};
 ghost use Rattle.dwp_index.specs.Contents.{content};
 ghost use Rattle.dwp_index.specs.Package.{row_bytes};
 ghost use Rattle.thorin_check.specs.Reach.{IsReach, HasEnds, is_inside};
@@ -41,14 +40,19 @@ impl Ends {
 
     /// Why the string of a number of a unit can't be read, where that is so: what
     /// `PackagedUnit::string` answers, but no string is read.
-    #[tactic(auto, using(crate::proofs::Reached::none_there, crate::proofs::Reached::one_there, crate::proofs::Reached::own_order))]
     pub(crate) fn error_of(self, unit: &PackagedUnit<'_>, i: u64) -> Option<ReadError>
         requires { HasEnds self unit.now.order (content unit.now.contents SectionKind.Str) }
         ensures { result ≡ result_err (string_of unit.now i) }
     {
-        match self.offsets_of(unit).entry(i) {
-            None => None,
-            Some(offset) => self.error_at(offset),
+        let Some(offset) = self.offsets_of(unit).entry(i) else {
+            return None;
+        };
+        if offset < self.reach {
+            None
+        } else if self.size < offset {
+            Some(ReadError::OffsetOutOfRange)
+        } else {
+            Some(ReadError::NoTerminator)
         }
     }
 
@@ -92,20 +96,6 @@ impl Ends {
         match offset {
             Some(offset) => offset < self.reach,
             None => true,
-        }
-    }
-
-    /// Why the string at an offset can't be read, where that is so.
-    fn error_at(self, offset: u64) -> Option<ReadError>
-        ensures { (strings : List ℕ) → HasEnds self self.order strings
-            → result ≡ result_err (string_at strings offset) }
-    {
-        if offset < self.reach {
-            None
-        } else if self.size < offset {
-            Some(ReadError::OffsetOutOfRange)
-        } else {
-            Some(ReadError::NoTerminator)
         }
     }
 }

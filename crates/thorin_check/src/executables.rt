@@ -12,7 +12,7 @@ ghost use Rattle.thorin_check.specs.Faults.{IsBroken, bare_fault, longest_path};
 ghost use Rattle.thorin_check.specs.Faults.{long_size, room_of};
 ghost use Rattle.thorin_check.specs.Telling.{progress, Tells, TellsOr, Is, IsFault};
 
-use crate::faults::{Faults, error_text, some, tell, tell_fault};
+use crate::faults::{Faults, some, tell, tell_fault};
 use crate::rendering::Fault;
 use bumpalo::Bump;
 use dwp_bytes::RelocationEntry;
@@ -44,7 +44,7 @@ pub struct Reading {
 
 /// The executables whose units are to be in a package.
 #[derive(Clone, Copy)]
-pub(crate) struct Named<'m, 'a> {
+pub(crate) struct ExecutableSet<'m, 'a> {
     /// Their paths.
     pub executables: &'m [&'a str],
     /// How they are read.
@@ -66,7 +66,7 @@ pub(crate) fn check_executables<F: FileReader, O: Write>(
     alloc: Global,
     files: &F,
     pack: &PackageFile<'_>,
-    named: Named<'_, '_>,
+    named: ExecutableSet<'_, '_>,
     faults: &mut Faults,
     out: &mut O,
 ) -> Result<(), Failure>
@@ -235,13 +235,11 @@ fn tell_bare<O: Write>(executable: &str, faults: &mut Faults, out: &mut O) -> Re
         (progress (O.contents out.old) faults.old) (progress (O.contents out.new) faults.new)
         result }
 {
-    match shown(*faults.waiting.allocator(), executable) {
-        Ok(name) => {
-            let fault = Fault::Executable(name.as_str(), "no split units");
-            tell_fault(fault, faults, out)
-        }
-        Err(_) => Err(Failure::Memory),
-    }
+    let Ok(name) = shown(*faults.waiting.allocator(), executable) else {
+        return Err(Failure::Memory);
+    };
+    let fault = Fault::Executable(name.as_str(), "no split units");
+    tell_fault(fault, faults, out)
 }
 
 /// Tells why an executable can't be read to its end.
@@ -258,10 +256,10 @@ fn tell_error<O: Write>(
     if matches!(error, Error::Memory) {
         return Err(Failure::Memory);
     }
-    match error_text(*faults.waiting.allocator(), error) {
-        Ok(text) => tell_broken(executable, text.as_str(), faults, out),
-        Err(_) => Err(Failure::Memory),
-    }
+    let Ok(text) = format!(in *faults.waiting.allocator(); "{error}") else {
+        return Err(Failure::Memory);
+    };
+    tell_broken(executable, text.as_str(), faults, out)
 }
 
 /// Tells why an executable isn't read to its end.

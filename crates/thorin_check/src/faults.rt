@@ -6,8 +6,7 @@ ghost use Rattle.thorin_check.specs.Rendering.{value_of};
 
 use crate::rendering::{Fault, put_fault};
 use dwp_table::DwarfObject;
-use std::alloc::{AllocError, Global};
-use std::fmt;
+use std::alloc::AllocError;
 use std::io::Write;
 use thorin_print::{Failure, Form, print};
 
@@ -94,9 +93,4 @@ pub(crate) fn some(text: Result<String, AllocError>) -> Result<Option<String>, A
     ensures { IsSomeText text result }
 {
     Ok(Some(text?))
-}
-
-/// Why something can't be read.
-pub(crate) fn error_text<D: fmt::Display>(alloc: Global, error: &D) -> Result<String, AllocError> {
-    format!(in alloc; "{error}")
 }

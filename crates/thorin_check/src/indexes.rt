@@ -1,9 +1,9 @@
 //! The versions and the columns of a package's indexes, in `thorin check`.
 
-ghost use Rattle.std.specs.Prelude.{◌≡◌, IfOk, string_bytes, option_copied};
+ghost use Rattle.std.specs.Prelude.{◌≡◌, option_copied};
 ghost use Rattle.dwp_table.specs.Columns.{contribution_kinds};
 ghost use Rattle.thorin_check.specs.Indexes.{mixed_versions, versions_faults};
-ghost use Rattle.thorin_check.specs.Indexes.{has_column, lacks_column, column_text, column_faults};
+ghost use Rattle.thorin_check.specs.Indexes.{has_column, lacks_column, column_faults};
 ghost use Rattle.thorin_check.specs.Indexes.{TellsColumns, TellsIndexes};
 ghost use Rattle.thorin_check.specs.Telling.{progress, Tells, Is};
 
@@ -11,7 +11,6 @@ use crate::faults::{Faults, tell_of_package};
 use dwp_base::SectionKind;
 use dwp_index::{PackageFile, UnitIndex};
 use dwp_table::CONTRIBUTION_KINDS;
-use std::alloc::{AllocError, Global};
 use std::io::Write;
 use thorin_print::Failure;
 
@@ -39,26 +38,18 @@ fn check_versions<O: Write>(
         (progress (O.contents out.old) faults.old) (progress (O.contents out.new) faults.new)
         result }
 {
-    let Some((compilations, types)) = mixed_versions(pack) else {
+    let (Some(compilations), Some(types)) = (pack.compilation_index(), pack.type_index()) else {
         return Ok(());
     };
+    let compilations = compilations.version();
+    let types = types.version();
+    if compilations == types {
+        return Ok(());
+    }
     let text = format!(in *faults.waiting.allocator();
         ".debug_cu_index has version {compilations}, .debug_tu_index version {types}"
     );
     tell_of_package(text, faults, out)
-}
-
-/// The versions of both indexes, where they differ.
-fn mixed_versions(pack: &PackageFile<'_>) -> Option<(u16, u16)>
-    ensures { result ≡ mixed_versions pack.now }
-{
-    let compilations = pack.compilation_index()?.version();
-    let types = pack.type_index()?.version();
-    if compilations == types {
-        None
-    } else {
-        Some((compilations, types))
-    }
 }
 
 /// An index has a column for each section that has bytes.
@@ -78,7 +69,7 @@ fn check_columns<O: Write>(
 }
 
 /// An index has a column for a section that has bytes.
-#[tactic(auto, using(crate::proofs::Told::none_told, crate::proofs::Faulted::what_told))]
+#[tactic(auto, using(crate::proofs::Told::none_told, crate::proofs::Faulted::what_told), unfolding(crate::specs::Indexes::column_text))]
 fn check_column<O: Write>(
     pack: &PackageFile<'_>,
     kind: SectionKind,
@@ -92,7 +83,8 @@ fn check_column<O: Write>(
     if !lacks_column(pack, kind) {
         return Ok(());
     }
-    let text = column_text(*faults.waiting.allocator(), kind);
+    let name = kind.name();
+    let text = format!(in *faults.waiting.allocator(); "{name}: no index has a column for it");
     tell_of_package(text, faults, out)
 }
 
@@ -114,13 +106,4 @@ pub(crate) fn has_column(index: Option<&UnitIndex<'_>>, kind: SectionKind) -> bo
         Some(index) => index.has_column(kind),
         None => false,
     }
-}
-
-/// What is told of a section that no index has a column for.
-#[tactic(auto, unfolding(crate::specs::Indexes::column_text))]
-fn column_text(alloc: Global, kind: SectionKind) -> Result<String, AllocError>
-    ensures { IfOk result (λ text. string_bytes text ≡ column_text kind) }
-{
-    let name = kind.name();
-    format!(in alloc; "{name}: no index has a column for it")
 }

@@ -119,7 +119,7 @@ impl Overlaps {
             self.mark_both(kind, before, *range);
             let is_twin = is_last(before, *range);
             clash |= !is_behind(is_twin, farthest, *range);
-            farthest = further(farthest, *range);
+            farthest = farthest.max(end(*range));
             before = Some(*range);
         }
         clash
@@ -129,16 +129,12 @@ impl Overlaps {
     fn mark_both(&mut self, kind: SectionKind, first: Option<Placed>, second: Placed) {
         if let Some(first) = first {
             if has_units(kind) && is_same(first, second) {
-                self.mark_twin(first);
-                self.mark_twin(second);
+                for entry in &[first.entry, second.entry] {
+                    if let Some(has_twin) = self.twins.get_mut(*entry) {
+                        *has_twin = true;
+                    }
+                }
             }
-        }
-    }
-
-    /// Marks the unit of a range, which has the bytes of another.
-    fn mark_twin(&mut self, range: Placed) {
-        if let Some(has_twin) = self.twins.get_mut(range.entry) {
-            *has_twin = true;
         }
     }
 
@@ -151,9 +147,22 @@ impl Overlaps {
         entries: &[UnitEntry],
     ) -> Result<(), AllocError> {
         self.clashes.resize(entries.len(), None)?;
-        let mut columns = columns_of(alloc, pack)?;
+        let mut columns = Vec::new(alloc);
+        for kind in &CONTRIBUTION_KINDS {
+            let compilations = pack.compilation_index();
+            if has_column(compilations, *kind) || has_column(pack.type_index(), *kind) {
+                columns.push(Column {
+                    kind: *kind,
+                    ranges: Vec::new(alloc),
+                })?;
+            }
+        }
         for entry in 0..entries.len() {
-            gather_found(pack, entries[entry], entry, &mut columns)?;
+            if let Ok(Some(unit)) = pack.find(entries[entry].object) {
+                if unit.row() == entries[entry].row {
+                    gather(unit.ranges(), entry, &mut columns)?;
+                }
+            }
         }
         self.mark_clashes(&mut columns, entries)
     }
@@ -185,8 +194,9 @@ impl Overlaps {
         let mut before: Option<Placed> = None;
         for range in ranges {
             if let Some(last) = before {
-                if !is_same(last, *range) {
-                    farthest = farther(farthest, last);
+                let is_farther = farthest.is_none_or(|other| end(last) > end(other));
+                if is_farther && !is_same(last, *range) {
+                    farthest = Some(last);
                 }
             }
             if let Some(other) = farthest {
@@ -244,22 +254,6 @@ impl Overlaps {
     }
 }
 
-/// The sections that an index of a package has a column for. No range is gathered yet.
-fn columns_of(alloc: Global, pack: &PackageFile<'_>) -> Result<Vec<Column>, AllocError> {
-    let compilations = pack.compilation_index();
-    let types = pack.type_index();
-    let mut columns = Vec::new(alloc);
-    for kind in &CONTRIBUTION_KINDS {
-        if has_column(compilations, *kind) || has_column(types, *kind) {
-            columns.push(Column {
-                kind: *kind,
-                ranges: Vec::new(alloc),
-            })?;
-        }
-    }
-    Ok(columns)
-}
-
 /// The ranges that the rows which these entries name have of a section, sorted by their places.
 fn sorted_ranges(
     alloc: Global,
@@ -309,28 +303,8 @@ fn slot_tables(pack: &PackageFile<'_>, slot: UnitEntry, kind: SectionKind) -> Op
     }
 }
 
-/// Gathers the ranges of the unit that a slot names, where its identifier leads to the slot's row
-/// and the unit can be read.
-fn gather_found(
-    pack: &PackageFile<'_>,
-    slot: UnitEntry,
-    entry: usize,
-    columns: &mut Vec<Column>,
-) -> Result<(), AllocError> {
-    match pack.find(slot.object) {
-        Ok(Some(unit)) => {
-            if unit.row() == slot.row {
-                gather_of(unit.ranges(), entry, columns)
-            } else {
-                Ok(())
-            }
-        }
-        _ => Ok(()),
-    }
-}
-
 /// Gathers the ranges of a row, of the sections of these columns.
-fn gather_of(row: &Row<'_>, entry: usize, columns: &mut Vec<Column>) -> Result<(), AllocError> {
+fn gather(row: &Row<'_>, entry: usize, columns: &mut Vec<Column>) -> Result<(), AllocError> {
     for i in 0..columns.len() {
         if let Some(column) = columns.get_mut(i) {
             if let Some(range) = row.range(column.kind) {
@@ -354,24 +328,13 @@ fn gather_of(row: &Row<'_>, entry: usize, columns: &mut Vec<Column>) -> Result<(
 fn sort(ranges: &mut Vec<Placed>) -> Result<(), AllocError>
     ensures { OnOk result (IsPermutation ranges.old.items ranges.new.items) }
 {
-    if is_sorted(ranges.as_slice()) {
+    let is_sorted = ranges.as_slice().is_sorted_by(|first, second| {
+        first.offset < second.offset || (first.offset == second.offset && first.size <= second.size)
+    });
+    if is_sorted {
         return Ok(());
     }
     ranges.sort_by_key(|range| (range.offset, range.size))
-}
-
-/// Whether ranges are sorted by their places.
-fn is_sorted(ranges: &[Placed]) -> bool {
-    let mut offset = 0u64;
-    let mut size = 0u64;
-    for range in ranges {
-        if range.offset < offset || (range.offset == offset && range.size < size) {
-            return false;
-        }
-        offset = range.offset;
-        size = range.size;
-    }
-    true
 }
 
 /// Whether two ranges are the same.
@@ -401,31 +364,9 @@ fn is_behind(is_twin: bool, farthest: u64, range: Placed) -> bool
     is_twin || (farthest <= range.offset && farthest < u64::MAX)
 }
 
-/// How far ranges reach, with one more.
-fn further(farthest: u64, range: Placed) -> u64
-    ensures from { farthest ≤ result }
-    ensures end { min (range.offset + range.size) (2 ^ 64 - 1) ≤ result }
-{
-    farthest.max(end(range))
-}
-
 /// Where a range ends, as far as 64 bits go.
 fn end(range: Placed) -> u64
     ensures { result ≡ min (range.offset + range.size) (2 ^ 64 - 1) }
 {
     range.offset.saturating_add(range.size)
-}
-
-/// The one of two ranges that ends behind the other.
-fn farther(first: Option<Placed>, second: Placed) -> Option<Placed> {
-    match first {
-        Some(first) => {
-            if end(second) > end(first) {
-                Some(second)
-            } else {
-                Some(first)
-            }
-        }
-        None => Some(second),
-    }
 }

@@ -1,7 +1,7 @@
 //! Faults and totals as values, and how they are printed: in lines, or as JSON objects (RFC 8259).
 
 ghost use Rattle.std.specs.Prelude.{◌≡◌, ◌++◌, OnOk, string_bytes};
-ghost use Rattle.thorin_check.specs.Rendering.{value_of, fault_text, fault_line, fault_members};
+ghost use Rattle.thorin_check.specs.Rendering.{value_of, fault_text, fault_members};
 ghost use Rattle.thorin_check.specs.Rendering.{fault_member, totals_text, count_text};
 
 use dwp_table::DwarfObject;
@@ -27,26 +27,18 @@ pub(crate) fn put_fault(form: Form, fault: Fault<'_>, text: &mut String) -> Resu
         ≡ string_bytes text.old ++ fault_text form (value_of fault.entry)) }
 {
     match form {
-        Form::Lines => put_line(fault, text),
+        Form::Lines => match fault {
+            Fault::Unit(object, what) => {
+                put_object(object, text)?;
+                writeln!(text, ": {what}")
+            }
+            Fault::Package(what) => writeln!(text, "{what}"),
+            Fault::Executable(name, what) => writeln!(text, "{name}: {what}"),
+        },
         Form::Json => {
             put_members(fault, text)?;
             text.push_str("\"}\n")
         }
-    }
-}
-
-/// Adds a line of what is wrong.
-fn put_line(fault: Fault<'_>, text: &mut String) -> Result<(), AllocError>
-    ensures { OnOk result (string_bytes text.new
-        ≡ string_bytes text.old ++ fault_line (value_of fault.entry)) }
-{
-    match fault {
-        Fault::Unit(object, what) => {
-            put_object(object, text)?;
-            writeln!(text, ": {what}")
-        }
-        Fault::Package(what) => writeln!(text, "{what}"),
-        Fault::Executable(name, what) => writeln!(text, "{name}: {what}"),
     }
 }
 

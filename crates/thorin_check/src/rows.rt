@@ -1,10 +1,10 @@
 //! The rows of a package that no slot names, in `thorin check`.
 
-ghost use Rattle.std.specs.Prelude.{◌≡◌, ◌<◌, ◌≤◌, codes, false, true, option_copied, IfOk, string_bytes};
+ghost use Rattle.std.specs.Prelude.{◌≡◌, ◌<◌, ◌≤◌, option_copied};
 ghost use Rattle.std.specs.List.Sorted.{IsSortedByKey};
 ghost use Rattle.std.specs.Ordering.{nat_cmp};
 ghost use Rattle.thorin_check.specs.Checking.{TellsRows};
-ghost use Rattle.thorin_check.specs.Faults.{is_of, row_text, row_end, TellsRowsOf};
+ghost use Rattle.thorin_check.specs.Faults.{row_end, TellsRowsOf};
 ghost use Rattle.thorin_check.specs.Rows.{is_next, row_faults};
 ghost use Rattle.thorin_check.specs.Telling.{progress, Tells, Is};
 ghost use Rattle.thorin_find.specs.Listing.{AreByRow, place_of_line};
@@ -12,7 +12,6 @@ ghost use Rattle.thorin_find.specs.Listing.{AreByRow, place_of_line};
 use crate::faults::{Faults, tell_of_package};
 use dwp_index::{PackageFile, UnitEntry, UnitIndex};
 use dwp_table::DwarfObject;
-use std::alloc::{AllocError, Global};
 use std::io::Write;
 use thorin_print::Failure;
 
@@ -28,50 +27,13 @@ struct Rows {
 }
 
 impl Rows {
-    /// Those of the index of compilation units.
-    fn of_compilations(pack: &PackageFile<'_>) -> Rows
-        ensures kind { result.kind.now ≡ codes "cu" }
-        ensures is_types { result.is_types ≡ false }
-        ensures end { result.end ≡ row_end pack.now.compilations }
-        ensures some { 0 < result.end }
-    {
-        Rows {
-            kind: "cu",
-            is_types: false,
-            end: end_of(pack.compilation_index()),
-        }
-    }
-
-    /// Those of the index of type units.
-    fn of_types(pack: &PackageFile<'_>) -> Rows
-        ensures kind { result.kind.now ≡ codes "tu" }
-        ensures is_types { result.is_types ≡ true }
-        ensures end { result.end ≡ row_end pack.now.types }
-        ensures some { 0 < result.end }
-    {
-        Rows {
-            kind: "tu",
-            is_types: true,
-            end: end_of(pack.type_index()),
-        }
-    }
-
     /// Whether a slot names one of these rows, and none before this one.
     fn is_next(self, slot: UnitEntry, next: u64) -> bool
         ensures { result ≡ is_next self.is_types self.end slot next }
     {
         let row = u64::from(slot.row);
-        is_of(self.is_types, slot.object) && next <= row && row < self.end
-    }
-}
-
-/// Whether an object is a type unit, or a compilation unit.
-fn is_of(is_types: bool, object: DwarfObject) -> bool
-    ensures { result ≡ is_of is_types object }
-{
-    match object {
-        DwarfObject::Compilation(_) => !is_types,
-        DwarfObject::TypeUnit(_) => is_types,
+        let is_type = matches!(slot.object, DwarfObject::TypeUnit(_));
+        is_type == self.is_types && next <= row && row < self.end
     }
 }
 
@@ -97,8 +59,16 @@ pub(crate) fn check_all_rows<O: Write>(
     ensures { Tells (TellsRows pack.now entries.now) (progress (O.contents out.old) faults.old)
         (progress (O.contents out.new) faults.new) result }
 {
-    let compilations = Rows::of_compilations(pack);
-    let types = Rows::of_types(pack);
+    let compilations = Rows {
+        kind: "cu",
+        is_types: false,
+        end: end_of(pack.compilation_index()),
+    };
+    let types = Rows {
+        kind: "tu",
+        is_types: true,
+        end: end_of(pack.type_index()),
+    };
     check_rows(compilations, entries, faults, out)?;
     check_rows(types, entries, faults, out)
 }
@@ -145,16 +115,8 @@ fn tell_rows<O: Write>(
         (progress (O.contents out.new) faults.new) result }
 {
     for row in first..end {
-        let text = row_text(*faults.waiting.allocator(), kind, row);
+        let text = format!(in *faults.waiting.allocator(); "{kind} row {row}: no slot names it");
         tell_of_package(text, faults, out)?;
     }
     Ok(())
-}
-
-/// What is told of a row that no slot names.
-#[tactic(auto, unfolding(crate::specs::Faults::row_text))]
-fn row_text(alloc: Global, kind: &str, row: u64) -> Result<String, AllocError>
-    ensures { IfOk result (λ text. string_bytes text ≡ row_text kind.now row) }
-{
-    format!(in alloc; "{kind} row {row}: no slot names it")
 }

@@ -1,16 +1,15 @@
 //! The strings of a package's units, in `thorin check`.
 
-ghost use Rattle.std.specs.Prelude.{◌≡◌, ◌<◌, ℕ, List, [], None, Some, Ok, IfOk, OnOk, true};
-ghost use Rattle.std.specs.Prelude.{string_bytes};
+ghost use Rattle.std.specs.Prelude.{◌≡◌, [], None, Some, Ok, OnOk, true};
 ghost use Rattle.std.specs.List.{All};
 ghost use Rattle.dwp_index.specs.Package.{Package, found};
 ghost use Rattle.thorin_check.specs.Strings.{range_of, is_wide};
 ghost use Rattle.thorin_check.specs.Gathered.{IsOfUnit, Gathers, Adds};
 ghost use Rattle.thorin_check.specs.Gathered.{TellsListed};
-ghost use Rattle.thorin_check.specs.Distinct.{number_of, IsBehind};
+ghost use Rattle.thorin_check.specs.Distinct.{IsBehind};
 ghost use Rattle.thorin_check.specs.Reach.{HasEnds};
 ghost use Rattle.thorin_check.specs.Ends.{AllEnd};
-ghost use Rattle.thorin_check.specs.Faults.{TellsStringsOf, TellsStrings, TellsString, string_text};
+ghost use Rattle.thorin_check.specs.Faults.{TellsStringsOf, TellsString};
 ghost use Rattle.thorin_check.specs.Texts.{IsTextOf};
 ghost use Rattle.thorin_find.specs.Finding.{string_of};
 ghost use Rattle.thorin_check.specs.Telling.{progress, Tells};
@@ -18,9 +17,9 @@ ghost use Rattle.dwp_table.specs.declared.object.DwarfObject.{DwarfObject};
 ghost use Rattle.dwp_index.specs.Contents.{content};
 
 use crate::ends::Ends;
-use crate::faults::{Faults, error_text, some, tell};
+use crate::faults::{Faults, some, tell};
 use dwp_base::SectionKind;
-use dwp_bytes::{Format, ReadError};
+use dwp_bytes::Format;
 use dwp_index::{PackageFile, PackagedUnit};
 use dwp_table::DwarfObject;
 use std::alloc::{AllocError, Global};
@@ -56,46 +55,20 @@ impl StringRange {
             format: encoding.format,
         })
     }
-
-    /// Whether they are those.
-    #[tactic(auto, using(crate::proofs::SharedStrings::same_range))]
-    fn is(self, other: StringRange) -> bool
-        ensures { result ≡ true → self ≡ other }
-    {
-        self.offset == other.offset
-            && self.size == other.size
-            && self.version == other.version
-            && is_wide(self.format) == is_wide(other.format)
-    }
-
-    /// Whether they come behind others, as they are sorted.
-    fn is_behind(self, other: StringRange) -> bool
-        ensures { result ≡ true → number_of other < number_of self }
-    {
-        if self.offset != other.offset {
-            return other.offset < self.offset;
-        }
-        if self.size != other.size {
-            return other.size < self.size;
-        }
-        if self.version != other.version {
-            return other.version < self.version;
-        }
-        !is_wide(other.format) && is_wide(self.format)
-    }
-
-    /// The numbers that they are sorted by.
-    fn key(self) -> (u64, u64, u16, bool) {
-        (self.offset, self.size, self.version, is_wide(self.format))
-    }
 }
 
 /// Whether these are the string offsets before, if there were some.
+#[tactic(auto, using(crate::proofs::SharedStrings::same_range))]
 fn is_last(before: Option<StringRange>, range: StringRange) -> bool
     ensures { result ≡ true → before ≡ Some range }
 {
     match before {
-        Some(last) => last.is(range),
+        Some(last) => {
+            last.offset == range.offset
+                && last.size == range.size
+                && last.version == range.version
+                && is_wide(last.format) == is_wide(range.format)
+        }
         None => false,
     }
 }
@@ -104,10 +77,19 @@ fn is_last(before: Option<StringRange>, range: StringRange) -> bool
 fn comes_behind(before: Option<StringRange>, range: StringRange) -> bool
     ensures { result ≡ true → IsBehind before range }
 {
-    match before {
-        Some(last) => range.is_behind(last),
-        None => true,
+    let Some(last) = before else {
+        return true;
+    };
+    if last.offset != range.offset {
+        return last.offset < range.offset;
     }
+    if last.size != range.size {
+        return last.size < range.size;
+    }
+    if last.version != range.version {
+        return last.version < range.version;
+    }
+    !is_wide(last.format) && is_wide(range.format)
 }
 
 /// Whether offsets of a format have 64 bits.
@@ -122,7 +104,7 @@ fn is_wide(format: Format) -> bool
 
 /// The units whose strings are still to be checked. Most units' are while the unit is at hand.
 #[derive(Drop)]
-pub(crate) struct Strings {
+pub(crate) struct UnreadStrings {
     ends: Ends,
     // How many bytes of string offsets may still be gone over so: units can have the same ones.
     left: u64,
@@ -132,14 +114,14 @@ pub(crate) struct Strings {
     pub(crate) unread: Vec<(StringRange, DwarfObject)>,
 }
 
-impl Strings {
+impl UnreadStrings {
     /// Of a package whose strings end so, and whose string offsets have so many bytes.
-    pub(crate) fn new(alloc: Global, ends: Ends, size: usize) -> Strings
+    pub(crate) fn new(alloc: Global, ends: Ends, size: usize) -> UnreadStrings
         ensures ends { result.ends ≡ ends }
         ensures last { result.last ≡ None }
         ensures unread { result.unread.items ≡ [] }
     {
-        Strings {
+        UnreadStrings {
             ends,
             left: (size as u64).saturating_mul(2),
             last: None,
@@ -190,8 +172,10 @@ impl Strings {
     }
 }
 
-/// Checks the strings of a unit of each range.
-#[tactic(auto, using(thorin_print::proofs::Printed::none_grown))]
+/// Checks the strings of a unit of each range: these units are sorted by their string offsets, and
+/// one that has those of the one before is passed over. Where they weren't sorted, which can't be,
+/// this tells of want of memory.
+#[tactic(auto, using(crate::proofs::Told::none_told, thorin_print::proofs::Printed::none_grown))]
 pub(crate) fn check_strings<O: Write>(
     pack: &PackageFile<'_>,
     ends: Ends,
@@ -205,43 +189,26 @@ pub(crate) fn check_strings<O: Write>(
         (progress (O.contents out.old) faults.old) (progress (O.contents out.new) faults.new)
         result }
 {
-    match strings.sort_by_key(|(range, _)| range.key()) {
-        Ok(()) => check_distinct(pack, ends, strings.as_slice(), faults, out),
-        Err(_) => Err(Failure::Memory),
+    let sorted = strings.sort_by_key(|(r, _)| (r.offset, r.size, r.version, is_wide(r.format)));
+    if sorted.is_err() {
+        return Err(Failure::Memory);
     }
-}
-
-/// Checks the strings of these units, but for those that have the string offsets of the one before.
-/// They are sorted by these: where they weren't, which can't be, this tells of want of memory.
-#[tactic(auto, using(crate::proofs::Told::none_told, thorin_print::proofs::Printed::none_grown))]
-fn check_distinct<O: Write>(
-    pack: &PackageFile<'_>,
-    ends: Ends,
-    strings: &[(StringRange, DwarfObject)],
-    faults: &mut Faults,
-    out: &mut O,
-) -> Result<(), Failure>
-    requires ends { HasEnds ends pack.now.order (content pack.now.contents SectionKind.Str) }
-    requires are { All (IsOfUnit pack.now) strings.now }
-    ensures { Tells (TellsListed pack.now strings.now)
-        (progress (O.contents out.old) faults.old) (progress (O.contents out.new) faults.new)
-        result }
-{
+    let listed = strings.as_slice();
     let mut before: Option<StringRange> = None;
-    for i in 0..strings.len() {
-        if is_last(before, strings[i].0) {
+    for i in 0..listed.len() {
+        if is_last(before, listed[i].0) {
             continue;
         }
-        if !comes_behind(before, strings[i].0) {
+        if !comes_behind(before, listed[i].0) {
             return Err(Failure::Memory);
         }
-        before = Some(strings[i].0);
-        check_strings_of(pack, ends, strings[i].1, faults, out)?;
+        before = Some(listed[i].0);
+        check_strings_of(pack, ends, listed[i].1, faults, out)?;
     }
     Ok(())
 }
 
-/// Checks the strings of a unit.
+/// Checks each string of a unit.
 #[tactic(auto, using(crate::proofs::Faulted::strings_some))]
 fn check_strings_of<O: Write>(
     pack: &PackageFile<'_>,
@@ -255,28 +222,13 @@ fn check_strings_of<O: Write>(
         (progress (O.contents out.old) faults.old) (progress (O.contents out.new) faults.new)
         result }
 {
-    match pack.find(object) {
-        Ok(Some(unit)) => check_each_string(ends, object, &unit, faults, out),
-        Ok(None) => Ok(()),
-        Err(_) => Ok(()),
-    }
-}
-
-/// Checks each string of a unit.
-#[tactic(auto, using(crate::proofs::Told::none_told))]
-fn check_each_string<O: Write>(
-    ends: Ends,
-    object: DwarfObject,
-    unit: &PackagedUnit<'_>,
-    faults: &mut Faults,
-    out: &mut O,
-) -> Result<(), Failure>
-    requires { HasEnds ends unit.now.order (content unit.now.contents SectionKind.Str) }
-    ensures { Tells (TellsStrings object unit.now) (progress (O.contents out.old) faults.old)
-        (progress (O.contents out.new) faults.new) result }
-{
-    for i in 0..string_count(unit) {
-        let text = string_text(ends, unit, i, &faults.waiting);
+    let unit = match pack.find(object) {
+        Ok(Some(unit)) => unit,
+        Ok(None) => return Ok(()),
+        Err(_) => return Ok(()),
+    };
+    for i in 0..string_count(&unit) {
+        let text = string_text(ends, &unit, i, &faults.waiting);
         tell(object, text, faults, out)?;
     }
     Ok(())
@@ -294,18 +246,11 @@ fn string_text(
     ensures { (object : DwarfObject) → IsTextOf (TellsString object i (string_of unit.now i)) object
         result }
 {
-    match ends.error_of(unit, i) {
-        None => Ok(None),
-        Some(error) => some(unread_text(i, error, near)),
-    }
-}
-
-/// What is told of a string that can't be read.
-fn unread_text(i: u64, error: ReadError, near: &String) -> Result<String, AllocError>
-    ensures { IfOk result (λ text. (cause : List ℕ) × (string_bytes text ≡ string_text i cause)) }
-{
+    let Some(error) = ends.error_of(unit, i) else {
+        return Ok(None);
+    };
     let alloc = *near.allocator();
-    let cause = error_text(alloc, &error)?;
+    let cause = format!(in alloc; "{error}")?;
     let cause = cause.as_str();
-    format!(in alloc; "string {i} can't be read: {cause}")
+    some(format!(in alloc; "string {i} can't be read: {cause}"))
 }

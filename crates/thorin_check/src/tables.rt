@@ -1,7 +1,7 @@
 //! The sections of abbreviations and of strings, and the rows of a package, in `thorin check`.
 
-ghost use Rattle.std.specs.Prelude.{◌≡◌, IfOk, string_bytes};
-ghost use Rattle.thorin_check.specs.Checking.{lacking_text, lacking_faults, TellsTables};
+ghost use Rattle.std.specs.Prelude.{◌≡◌};
+ghost use Rattle.thorin_check.specs.Checking.{lacking_faults, TellsTables};
 ghost use Rattle.thorin_check.specs.Faults.{has_abbreviations, lacks_abbreviations, lacks_strings};
 ghost use Rattle.thorin_check.specs.Telling.{progress, Tells, Is};
 ghost use Rattle.thorin_find.specs.Listing.{AreByRow};
@@ -12,7 +12,6 @@ use crate::indexes::check_indexes;
 use crate::rows::check_all_rows;
 use dwp_base::SectionKind;
 use dwp_index::{PackageFile, UnitEntry};
-use std::alloc::{AllocError, Global};
 use std::io::Write;
 use thorin_print::Failure;
 
@@ -62,7 +61,7 @@ pub(crate) fn check_tables<O: Write>(
 }
 
 /// Tells that a section is lacking, where it is.
-#[tactic(auto, using(crate::proofs::Told::none_told, crate::proofs::Faulted::what_told))]
+#[tactic(auto, using(crate::proofs::Told::none_told, crate::proofs::Faulted::what_told), unfolding(crate::specs::Checking::lacking_text))]
 fn check_section<O: Write>(
     kind: SectionKind,
     lacks: bool,
@@ -75,15 +74,7 @@ fn check_section<O: Write>(
     if !lacks {
         return Ok(());
     }
-    let text = lacking_text(*faults.waiting.allocator(), kind);
-    tell_of_package(text, faults, out)
-}
-
-/// What is told of a package that lacks a section.
-#[tactic(auto, unfolding(crate::specs::Checking::lacking_text))]
-fn lacking_text(alloc: Global, kind: SectionKind) -> Result<String, AllocError>
-    ensures { IfOk result (λ text. string_bytes text ≡ lacking_text kind) }
-{
     let name = kind.name();
-    format!(in alloc; "{name} is empty or absent")
+    let text = format!(in *faults.waiting.allocator(); "{name} is empty or absent");
+    tell_of_package(text, faults, out)
 }

@@ -16,7 +16,7 @@ use thorin_errors::Error;
 use thorin_identity::RangeTables;
 
 /// Where a range of the section starts and ends.
-type Range = [usize; 2];
+type TableRange = [usize; 2];
 
 /// A section of abbreviations whose units have ranges of it, and what was read of tables in it. A
 /// range that is used again after another has tables of its own from then on. So of ranges that
@@ -31,9 +31,9 @@ pub(crate) struct TablesByTurns<'a> {
     // Those of each range that was used again.
     again: Vec<RangeTables<'a>>,
     // For each range that was used its place among these, where it was used again.
-    places: BTreeMap<Range, Option<usize>>,
+    places: BTreeMap<TableRange, Option<usize>>,
     // The range before, and its place.
-    last: Range,
+    last: TableRange,
     place: Option<usize>,
 }
 
@@ -101,7 +101,7 @@ impl<'a> TablesByTurns<'a> {
 
     /// Goes on with the tables of a range, where a unit's identifier stands behind them. Where there
     /// is no memory for its own, it has those that are used for the first time.
-    fn turn_to(&mut self, range: Range, header: &UnitHeader<SliceReader<'a>>)
+    fn turn_to(&mut self, range: TableRange, header: &UnitHeader<SliceReader<'a>>)
         ensures { self.new ≡ self.old }
     {
         if range != self.last && matches!(header.unit_type(), UnitType::Compilation) {
@@ -110,28 +110,24 @@ impl<'a> TablesByTurns<'a> {
         }
     }
 
-    /// The place of a range that is used after another, if it was used before.
-    fn place_of(&mut self, range: Range) -> Result<Option<usize>, AllocError>
+    /// The place of a range that is used after another, if it was used before: tables of its own
+    /// begin there where it is used again.
+    fn place_of(&mut self, range: TableRange) -> Result<Option<usize>, AllocError>
         ensures { self.new ≡ self.old }
     {
         match self.places.get(&range).copied() {
             Some(Some(place)) => Ok(Some(place)),
-            Some(None) => self.keep(range),
+            Some(None) => {
+                let tables = RangeTables::new(self.alloc, self.first.bytes(), self.order);
+                let place = self.again.len();
+                self.again.push(tables)?;
+                self.places.insert(range, Some(place))?;
+                Ok(Some(place))
+            }
             None => {
                 self.places.insert(range, None)?;
                 Ok(None)
             }
         }
-    }
-
-    /// Begins with the tables of a range that is used again, and answers their place.
-    fn keep(&mut self, range: Range) -> Result<Option<usize>, AllocError>
-        ensures { self.new ≡ self.old }
-    {
-        let tables = RangeTables::new(self.alloc, self.first.bytes(), self.order);
-        let place = self.again.len();
-        self.again.push(tables)?;
-        self.places.insert(range, Some(place))?;
-        Ok(Some(place))
     }
 }

@@ -1,13 +1,12 @@
 //! The units of a package, in `thorin check`.
 
-ghost use Rattle.std.specs.Prelude.{◌≡◌, ◌&&◌, ◌==◌, None, Some, Ok, is_none, IfOk, OnOk};
+ghost use Rattle.std.specs.Prelude.{◌≡◌, ◌&&◌, ◌==◌, None, Some, Ok, IfOk, OnOk};
 ghost use Rattle.std.specs.Prelude.{string_bytes};
-ghost use Rattle.dwp_index.specs.Index.{range_in};
 ghost use Rattle.dwp_index.specs.Package.{found};
 ghost use Rattle.thorin_check.specs.Checking.{TellsUnits};
 ghost use Rattle.thorin_check.specs.Faults.{TellsUnit, TellsFound, TellsItself};
 ghost use Rattle.thorin_check.specs.Texts.{IsUnreadText, IsTextOf};
-ghost use Rattle.thorin_check.specs.Faults.{has_abbreviations};
+ghost use Rattle.thorin_check.specs.Faults.{is_bare};
 ghost use Rattle.thorin_check.specs.Seen.{IsSeen, GoesOn, Gathered, IsGatheredIn, TellsSeen};
 ghost use Rattle.thorin_check.specs.Telling.{progress, Tells, ForEach};
 
@@ -17,7 +16,7 @@ use crate::clashes::clash_text;
 use crate::ends::Ends;
 use crate::faults::{Faults, some, tell};
 use crate::overlaps::{Overlaps, Shares};
-use crate::strings::{Strings, check_strings};
+use crate::strings::{UnreadStrings, check_strings};
 use crate::tables::has_abbreviations;
 use dwp_base::SectionKind;
 use dwp_index::{PackageError, PackageFile, PackagedUnit, UnitEntry};
@@ -26,14 +25,6 @@ use std::alloc::{AllocError, Global};
 use std::io::Write;
 use thorin_print::Failure;
 
-/// The package that units are looked up in.
-#[derive(Clone, Copy)]
-struct Units<'m, 'a> {
-    pack: &'m PackageFile<'a>,
-    /// Whether it has abbreviations.
-    has_abbreviations: bool,
-}
-
 /// What is remembered from unit to unit.
 #[derive(Drop)]
 struct Seen<'a> {
@@ -41,7 +32,7 @@ struct Seen<'a> {
     /// What was read of abbreviations, and of identifiers.
     abbreviations: Remembered<'a>,
     /// The units whose strings are still to be checked.
-    strings: Strings,
+    strings: UnreadStrings,
 }
 
 /// Checks each unit that a slot names, then the strings of each range of string offsets. That ranges
@@ -65,14 +56,10 @@ pub(crate) fn check_units<O: Write>(
     let mut seen = Seen {
         alloc,
         abbreviations: Remembered::new(alloc, pack),
-        strings: Strings::new(alloc, ends, pack.content(SectionKind::StrOffsets).len()),
-    };
-    let units = Units {
-        pack,
-        has_abbreviations: has_abbreviations(pack),
+        strings: UnreadStrings::new(alloc, ends, pack.content(SectionKind::StrOffsets).len()),
     };
     let count = faults.count;
-    check_each(units, indexed.entries, &overlaps, &mut seen, faults, out)?;
+    check_each(pack, indexed.entries, &overlaps, &mut seen, faults, out)?;
     if is_untold(overlaps.clash, count, faults.count) {
         return Err(Failure::Memory);
     }
@@ -88,22 +75,21 @@ fn is_untold(clash: bool, before: u64, after: u64) -> bool
 
 /// Checks each unit that a slot names, and gathers those whose strings are still to be checked.
 fn check_each<'a, O: Write>(
-    units: Units<'_, 'a>,
+    pack: &PackageFile<'a>,
     entries: &[UnitEntry],
     overlaps: &Overlaps,
     seen: &mut Seen<'a>,
     faults: &mut Faults,
     out: &mut O,
 ) -> Result<(), Failure>
-    requires abbreviations { units.has_abbreviations ≡ has_abbreviations units.pack.now }
-    requires seen { IsSeen units.pack.now seen.old }
-    ensures told { Tells (ForEach (TellsSeen units.entry.pack.now seen.new.strings.unread.items)
+    requires seen { IsSeen pack.now seen.old }
+    ensures told { Tells (ForEach (TellsSeen pack.now seen.new.strings.unread.items)
         entries.now) (progress (O.contents out.old) faults.old)
         (progress (O.contents out.new) faults.new) result }
-    ensures seen { OnOk result (IsSeen units.entry.pack.now seen.new) }
+    ensures seen { OnOk result (IsSeen pack.now seen.new) }
 {
     for i in 0..entries.len() {
-        let text = text_of(units, entries[i], overlaps.of(i), seen);
+        let text = text_of(pack, entries[i], overlaps.of(i), seen);
         tell(entries[i].object, text, faults, out)?;
     }
     Ok(())
@@ -112,20 +98,19 @@ fn check_each<'a, O: Write>(
 /// What is told of the unit that a slot names, if anything.
 #[tactic(auto, using(crate::proofs::Faulted::unit_none, crate::proofs::Faulted::unit_some, crate::proofs::Faulted::unit_unread, crate::proofs::Faulted::made, crate::proofs::Distinct::stays_seen))]
 fn text_of<'a>(
-    units: Units<'_, 'a>,
+    pack: &PackageFile<'a>,
     entry: UnitEntry,
     shares: Shares,
     seen: &mut Seen<'a>,
 ) -> Result<Option<String>, AllocError>
-    requires abbreviations { units.has_abbreviations ≡ has_abbreviations units.pack.now }
-    requires seen { IsSeen units.pack.now seen.old }
-    ensures text { IsTextOf (TellsUnit units.entry.pack.now entry) entry.object result }
-    ensures on { OnOk result (GoesOn units.entry.pack.now seen.old seen.new) }
-    ensures gathered { IfOk result (λ text. text ≡ None → IsGatheredIn units.entry.pack.now
-        seen.new.strings.unread.items (found units.entry.pack.now entry.object)) }
+    requires seen { IsSeen pack.now seen.old }
+    ensures text { IsTextOf (TellsUnit pack.now entry) entry.object result }
+    ensures on { OnOk result (GoesOn pack.now seen.old seen.new) }
+    ensures gathered { IfOk result (λ text. text ≡ None → IsGatheredIn pack.now
+        seen.new.strings.unread.items (found pack.now entry.object)) }
 {
-    match units.pack.find(entry.object) {
-        Ok(Some(unit)) => text_of_found(units, entry, &unit, shares, seen),
+    match pack.find(entry.object) {
+        Ok(Some(unit)) => text_of_found(pack, entry, &unit, shares, seen),
         Ok(None) => some(format!(in seen.alloc; "not found under its identifier")),
         Err(error) => some(unread_text(seen.alloc, error)),
     }
@@ -135,35 +120,34 @@ fn text_of<'a>(
 /// that of the slot's row, and this row is to have abbreviations where the package has some.
 #[tactic(auto, using(crate::proofs::Faulted::other_row, crate::proofs::Faulted::in_bare_row, crate::proofs::Faulted::in_whole_row, crate::proofs::Faulted::made, crate::proofs::Distinct::stays_seen))]
 fn text_of_found<'a>(
-    units: Units<'_, 'a>,
+    pack: &PackageFile<'a>,
     entry: UnitEntry,
     unit: &PackagedUnit<'a>,
     shares: Shares,
     seen: &mut Seen<'a>,
 ) -> Result<Option<String>, AllocError>
-    requires abbreviations { units.has_abbreviations ≡ has_abbreviations units.pack.now }
-    requires seen { IsSeen units.pack.now seen.old }
-    requires is_found { found units.pack.now entry.object ≡ Ok (Some unit.now) }
-    ensures text { IsTextOf (TellsFound units.entry.pack.now entry unit.now) entry.object result }
-    ensures on { OnOk result (GoesOn units.entry.pack.now seen.old seen.new) }
+    requires seen { IsSeen pack.now seen.old }
+    requires is_found { found pack.now entry.object ≡ Ok (Some unit.now) }
+    ensures text { IsTextOf (TellsFound pack.now entry unit.now) entry.object result }
+    ensures on { OnOk result (GoesOn pack.now seen.old seen.new) }
     ensures gathered { IfOk result (λ text. text ≡ None
-        → Gathered units.entry.pack.now seen.new.strings.unread.items unit.now) }
+        → Gathered pack.now seen.new.strings.unread.items unit.now) }
 {
     let row = unit.row();
     if row != entry.row {
         return some(format!(in seen.alloc; "found in row {row}"));
     }
-    if is_bare(units.has_abbreviations, unit) {
+    if is_bare(pack, unit) {
         return some(format!(in seen.alloc; "its row has no abbreviations"));
     }
-    text_of_itself(units.pack, entry.object, unit, shares, seen)
+    text_of_itself(pack, entry.object, unit, shares, seen)
 }
 
-/// Whether the row of a unit of a package that may have abbreviations has none, where it has some.
-fn is_bare(has_any: bool, unit: &PackagedUnit<'_>) -> bool
-    ensures { result ≡ (has_any && is_none (range_in unit.now.row SectionKind.Abbrev)) }
+/// Whether the row of a unit has no abbreviations, where its package has some.
+fn is_bare(pack: &PackageFile<'_>, unit: &PackagedUnit<'_>) -> bool
+    ensures { result ≡ is_bare pack.now unit.now }
 {
-    has_any && unit.range(SectionKind::Abbrev).is_none()
+    has_abbreviations(pack) && unit.range(SectionKind::Abbrev).is_none()
 }
 
 /// What is told of a unit by its ranges and its own bytes, if anything: none of its ranges is to

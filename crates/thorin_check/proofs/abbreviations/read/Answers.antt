@@ -1,3 +1,4 @@
+use Rattle.std.proofs.Common.{sym}
 use Rattle.thorin_check.proofs.Own.{abbreviations_inside, own_read, own_unread}
 use Rattle.thorin_check.proofs.abbreviations.read.Goals as goal
 
@@ -12,7 +13,7 @@ returns-in-Ok-clause-own c =
     rw (own_read c.args.pack.now c.args.object c.args.unit.now c.requires.is_found _ _ _
     c.requires.tables c.order.ensures.order c.in-Ok.ensures) at c.read_behind.ensures.own
 
-pub returns-in-Err-clause-own : goal.returns-in-Err-clause-own
-returns-in-Err-clause-own c =
-    rw (own_unread c.args.pack.now c.args.object c.args.unit.now c.requires.is_found _
-    c.order.ensures.order c.in-Err.ensures) c.unread.ensures
+pub returns-in_ok-format-in-Err-clause-own : goal.returns-in_ok-format-in-Err-clause-own
+returns-in_ok-format-in-Err-clause-own c =
+    sym (own_unread c.args.pack.now c.args.object c.args.unit.now c.requires.is_found _
+    c.order.ensures.order c.in-Err.ensures)

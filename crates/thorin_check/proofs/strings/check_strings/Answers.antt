@@ -1,14 +1,40 @@
+use Rattle.std.proofs.Common.{Ok}
+use Rattle.std.specs.List.{All}
 use Rattle.std.proofs.lemmas.List.Sorted.{All-permutation}
+use Rattle.std.proofs.lemmas.Result.{err_from_is_err_and}
+use Rattle.thorin_print.proofs.Printed.{none_grown}
 use Rattle.thorin_check.specs.Gathered.{IsOfUnit}
+use Rattle.thorin_check.proofs.Distinct.{first_none, first_again, first_more, first_all}
 use Rattle.thorin_check.proofs.Distinct.{listed_before}
+use Rattle.thorin_check.proofs.Told.{none_told, told_then, told_as, stopped_behind}
 use Rattle.thorin_check.proofs.strings.check_strings.Goals as goal
 
-pub check_distinct-requires-clause-are : goal.check_distinct-requires-clause-are
-check_distinct-requires-clause-are g c =
-    rw c.as_slice.ensures.value (All-permutation (IsOfUnit c.args.pack.now) _ _
-    c.sort_by_key.ensures.permutation c.requires.are)
+pub loop-i-init : goal.loop-i-init
+loop-i-init g c = none_told _ (first_none _ _) _
 
-pub returns-in-Ok : goal.returns-in-Ok
-returns-in-Ok g c =
-    listed_before c.args.pack.now _ _ c.sort_by_key.ensures.permutation _ _
-    c.check_distinct.result (rw c.as_slice.ensures.value at c.check_distinct.ensures)
+pub loop-i-preserved : goal.loop-i-preserved
+loop-i-preserved g c =
+    let are : All (IsOfUnit c.args.pack.now) c.as_slice-listed.result.now =
+    rw c.as_slice-listed.ensures.value (All-permutation (IsOfUnit c.args.pack.now) _ _
+    c.sort_by_key-sorted.ensures.permutation c.requires.are) in
+    told_then (first_more _ _ c.loop-i.i _ c.loop-i-test.true _ are (c.comes_behind.ensures (cc)))
+    c.loop-i.invariant c.in_ok-check_strings_of.ensures
+
+pub loop-i-preserved-then-is_last : goal.loop-i-preserved-then-is_last
+loop-i-preserved-then-is_last g c =
+    told_as c.loop-i.invariant (first_again _ _ c.loop-i.i _ c.loop-i-test.true _
+    (c.is_last.ensures (cc)))
+
+pub returns-in_err-check_strings_of : goal.returns-in_err-check_strings_of
+returns-in_err-check_strings_of g c =
+    let p = err_from_is_err_and c.from_residual.result c.from_residual.ensures.1 in
+    rw (p.1, p.2) (stopped_behind _ c.loop-i.invariant c.in_err-check_strings_of.ensures)
+
+pub returns : goal.returns
+returns g c =
+    let told = told_as c.loop-i.invariant (first_all _ _ c.loop-i.i _ c.loop-i-test.false) in
+    listed_before c.args.pack.now _ _ c.sort_by_key-sorted.ensures.permutation _ _ (Ok tt)
+    (rw c.as_slice-listed.ensures.value at told)
+
+pub returns-then-not-comes_behind : goal.returns-then-not-comes_behind
+returns-then-not-comes_behind g c = stopped_behind _ c.loop-i.invariant (tt, none_grown _)

@@ -1,11 +1,12 @@
-use Rattle.std.proofs.Common.{refl}
+use Rattle.std.proofs.Common.{Ok, arith, refl}
+use Rattle.std.proofs.lemmas.List.FromFn.{map-range_with_len_more}
+use Rattle.std.proofs.lemmas.Result.{err_from_is_err_and}
+use Rattle.thorin_check.specs.Faults.{TellsNumbered}
+use Rattle.thorin_find.specs.Finding.{string_of}
+use Rattle.thorin_check.proofs.Faulted.{text_told, text_stopped, strings_some}
 use Rattle.thorin_check.proofs.Reached.{of_found}
-use Rattle.thorin_check.proofs.Told.{none_told}
+use Rattle.thorin_check.proofs.Told.{none_told, told_more}
 use Rattle.thorin_check.proofs.strings.check_strings_of.Goals as goal
-
-pub check_each_string-requires : goal.check_each_string-requires
-check_each_string-requires g c =
-    of_found _ _ _ _ c.requires (rw c.in-Ok-Some.field-0-is at c.in-Ok-Some.ensures)
 
 pub returns-in-Ok-None : goal.returns-in-Ok-None
 returns-in-Ok-None g c =
@@ -13,3 +14,30 @@ returns-in-Ok-None g c =
 
 pub returns-in-Err : goal.returns-in-Err
 returns-in-Err g c = none_told _ (rw c.in-Err.ensures refl) _
+
+pub string_text-text-requires : goal.string_text-text-requires
+string_text-text-requires g c =
+    of_found _ _ _ _ c.requires (rw c.in-Ok-Some.field-0-is at c.in-Ok-Some.ensures)
+
+pub loop-i-init : goal.loop-i-init
+loop-i-init g c = grind (arith, none_told)
+
+pub loop-i-preserved : goal.loop-i-preserved
+loop-i-preserved g c =
+    let i = c.loop-i.i in
+    let unit = c.in-Ok-Some.unit in
+    told_more (TellsNumbered c.args.object) _ _ (i, string_of unit i)
+    (map-range_with_len_more (λ k. (k, string_of unit k)) 0 i i (omega arith))
+    c.loop-i.invariant
+    (text_told _ _ _ _ _ (Ok tt) (c.string_text-text.ensures c.args.object)
+    c.in_ok-tell.ensures)
+
+pub returns-in_err-tell : goal.returns-in_err-tell
+returns-in_err-tell g c =
+    let p = err_from_is_err_and c.from_residual.result c.from_residual.ensures.1 in
+    rw (p.1, p.2) (text_stopped _ _ _ _ c.loop-i.invariant c.in_err-tell.ensures)
+
+pub returns : goal.returns
+returns g c =
+    strings_some _ _ _ _ (Ok tt) _ (rw c.in-Ok-Some.field-0-is at c.in-Ok-Some.ensures)
+    (grind (arith, none_told))

@@ -7,8 +7,8 @@ use Rattle.thorin_check.proofs.units.check_each.Given as goal
 abbrev pub invariant-loop-i : goal.invariant-loop-i
 invariant-loop-i g l = record {
   told : Told
-      (ForEach (TellsSeen l.units.pack.now l.seen.strings.unread.items) (take l.i l.entries))
+      (ForEach (TellsSeen l.pack l.seen.strings.unread.items) (take l.i l.entries))
       (progress (g.O.Write.contents l.initial.out) l.initial.faults)
       (progress (g.O.Write.contents l.out) l.faults);
-  seen : IsSeen l.units.pack.now l.seen;
+  seen : IsSeen l.pack l.seen;
 }

@@ -1,6 +1,7 @@
 use Rattle.std.proofs.lemmas.Result.{err_from_is_err_and}
 use Rattle.std.proofs.Common.{◌∙◌, sym}
-use Rattle.thorin_check.proofs.Distinct.{units_apart, units_or}
+use Rattle.thorin_check.proofs.Distinct.{units_apart, units_then}
+use Rattle.thorin_check.proofs.Told.{then_or}
 use Rattle.thorin_check.proofs.units.check_units.Goals as goal
 
 pub returns-in_err-check_each : goal.returns-in_err-check_each
@@ -10,6 +11,6 @@ returns-in_err-check_each g c =
 
 pub returns : goal.returns
 returns g c =
-    units_or _ _ _ _ _ c.check_strings.result (units_apart _ _ _ _ c.in-Ok.ensures
+    then_or _ _ _ _ _ _ _ (units_then _ _ _) c.check_strings.result (units_apart _ _ _ _ c.in-Ok.ensures
     (sym c.is_untold.ensures ∙ c.if-is_untold.false) c.in_ok-check_each.ensures.told)
     c.check_strings.ensures

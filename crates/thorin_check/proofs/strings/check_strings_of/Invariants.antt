@@ -3,7 +3,7 @@ use Rattle.std.specs.List.{range_with_len}
 use Rattle.thorin_check.specs.Faults.{TellsNumbered}
 use Rattle.thorin_find.specs.Finding.{string_of}
 use Rattle.thorin_check.specs.Telling.{progress, Told, ForEach}
-use Rattle.thorin_check.proofs.strings.check_each_string.Given as goal
+use Rattle.thorin_check.proofs.strings.check_strings_of.Given as goal
 
 -- the faults of the strings so far
 abbrev pub invariant-loop-i : goal.invariant-loop-i

@@ -1,7 +1,7 @@
 use Rattle.std.proofs.Common.{refl, arith}
 use Rattle.thorin_check.proofs.Reached.{of_found}
 use Rattle.thorin_check.proofs.SharedStrings.{read_added, listed_added}
-use Rattle.thorin_check.proofs.strings.Strings.add.Goals as goal
+use Rattle.thorin_check.proofs.strings.UnreadStrings.add.Goals as goal
 
 pub returns-then-reads_all : goal.returns-then-reads_all
 returns-then-reads_all c = λ pack g is.
