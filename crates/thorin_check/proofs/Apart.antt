@@ -17,10 +17,8 @@ use Rattle.dwp_bytes.specs.declared.error.ReadError.{ReadError}
 use Rattle.dwp_index.specs.Index.{Index, Ranges, row_in, range_in, contribution, column_place}
 use Rattle.dwp_index.specs.Package.{Package, index_for}
 use Rattle.dwp_index.specs.declared.units.UnitEntry.{UnitEntry}
-use Rattle.thorin_check.specs.Placed.{IsSame, IsApart, IsLast, HasRange, HasRanges}
-use Rattle.thorin_check.specs.Apart.{AreApartIn}
-use Rattle.thorin_check.specs.Apart.{AreApart, AreReadAlike}
-use Rattle.thorin_check.specs.Placed.{tables_by}
+use Rattle.thorin_check.specs.Placed.{IsSame, IsApart, IsLast, HasRange, HasRanges, tables_by}
+use Rattle.thorin_check.specs.Apart.{AreApartIn, AreApart, AreReadAlike}
 use Rattle.thorin_check.specs.Overlaps.{overlap, row_range, range_by_index, same_range, slot_range}
 use Rattle.thorin_check.specs.declared.overlaps.Placed.{Placed}
 

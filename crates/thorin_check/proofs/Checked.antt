@@ -9,17 +9,13 @@ use Rattle.dwp_index.specs.declared.error.PackageError.{PackageError}
 use Rattle.dwp_index.specs.declared.units.UnitEntry.{UnitEntry}
 use Rattle.thorin_executable.specs.Skeletons.{skeletons_by}
 use Rattle.thorin_find.specs.Files.{Offer, FailsToRead}
-use Rattle.thorin_find.specs.Listing.{has_no_index}
+use Rattle.thorin_find.specs.Listing.{has_no_index, AreByRow}
 use Rattle.thorin_check.specs.Executables.{Executables}
-use Rattle.thorin_check.specs.Checking.{TellsExecutable}
-use Rattle.thorin_check.specs.Checking.{TellsPackage, FailsOne, IsOfReading, IsOfChecking}
-use Rattle.thorin_check.specs.Checking.{Finishes}
-use Rattle.thorin_check.specs.Checking.{ChecksIndexed, Checks}
+use Rattle.thorin_check.specs.Checking.{TellsExecutable, TellsPackage, FailsOne, IsOfReading}
+use Rattle.thorin_check.specs.Checking.{IsOfChecking, Finishes, ChecksIndexed, Checks}
 use Rattle.thorin_check.specs.Faults.{TellsNamed, room_of}
-use Rattle.thorin_find.specs.Listing.{AreByRow}
 use Rattle.thorin_print.specs.Answers.{IsOfPrinting, Grows, Outcome, Prints}
-use Rattle.thorin_check.specs.Telling.{fault_count, Progress, Told}
-use Rattle.thorin_check.specs.Telling.{TellsOr, Tells}
+use Rattle.thorin_check.specs.Telling.{fault_count, Progress, Told, TellsOr, Tells}
 use Rattle.thorin_check.specs.declared.executables.Reading.{Reading}
 use Rattle.thorin_print.specs.declared.output.Failure.{Failure}
 use Rattle.thorin_print.specs.declared.output.Failure.TheVariants as failures

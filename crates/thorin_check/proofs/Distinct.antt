@@ -1,8 +1,7 @@
 -- Units that are told of, one of each range of string offsets.
 use Rattle.std.proofs.Common.{◌≡◌, ℕ, zero, suc, ◌+◌, ◌<◌, ◌≤◌, List, [], ◌∷◌, ◌++◌, length, take}
 use Rattle.std.proofs.Common.{get_or, Option, Some, None, Result, Ok, Err, refl, sym, ◌∙◌, arith}
-use Rattle.std.proofs.Common.{below_more}
-use Rattle.std.proofs.Common.{Bool, false, ◌&&◌, nat_eq, IfOk, OnOk, String, Global}
+use Rattle.std.proofs.Common.{below_more, Bool, false, ◌&&◌, nat_eq, IfOk, OnOk, String, Global}
 use Rattle.std.proofs.lemmas.Bool.Decides.{nat_tests}
 use Rattle.std.specs.List.{All, AllPairs}
 use Rattle.std.specs.List.Sorted.{IsPermutation}
@@ -20,23 +19,19 @@ use Rattle.dwp_table.specs.declared.object.DwarfObject.{DwarfObject}
 use Rattle.thorin_print.specs.Answers.{Outcome}
 use Rattle.dwp_table.specs.Columns.{contribution_kinds}
 use Rattle.thorin_check.specs.Apart.{AreApart}
-use Rattle.thorin_check.specs.Checking.{TellsStringsOfAll, TellsSlot, TellsSlots}
-use Rattle.thorin_check.specs.Gathered.{TellsListed}
-use Rattle.thorin_check.specs.Checking.{TellsUnits}
+use Rattle.thorin_check.specs.Checking.{TellsStringsOfAll, TellsSlot, TellsSlots, TellsUnits}
+use Rattle.thorin_check.specs.Gathered.{TellsListed, Listed, IsOfUnit, IsGathered}
 use Rattle.thorin_check.specs.Faults.{TellsStringsOf, TellsUnit}
 use Rattle.thorin_check.specs.Texts.{TellsText, IsTextOf}
 use Rattle.thorin_check.specs.Rendering.{FaultValue}
 use Rattle.thorin_check.specs.Seen.{IsSeen, GoesOn, IsGatheredIn, TellsSeen}
 use Rattle.thorin_check.specs.Distinct.{number_of, IsBehind}
 use Rattle.thorin_check.specs.Strings.{HasOffsets, ShareNone, IsRangeOfOne}
-use Rattle.thorin_check.specs.Gathered.{Listed, IsOfUnit}
-use Rattle.thorin_check.specs.Gathered.{IsGathered}
 use Rattle.thorin_check.specs.declared.units.Seen.{Seen}
 use Rattle.thorin_check.specs.Telling.{Progress, Told, Tells, ForEach}
 use Rattle.thorin_check.specs.declared.strings.StringRange.{StringRange}
 use Rattle.thorin_check.proofs.SharedStrings.{has_strings}
-use Rattle.thorin_check.proofs.Told.{told_as, tells_as, in_turn, for_each_more}
-use Rattle.thorin_check.proofs.Told.{told_next}
+use Rattle.thorin_check.proofs.Told.{told_as, tells_as, in_turn, for_each_more, told_next}
 
 among_more : (pack : Package) (objects more : List DwarfObject) (range : StringRange)
     → IsRangeOfOne pack objects range → IsRangeOfOne pack (objects ++ more) range

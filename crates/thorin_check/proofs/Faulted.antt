@@ -9,19 +9,17 @@ use Rattle.dwp_index.specs.Package.{Package, FoundUnit, found}
 use Rattle.dwp_index.specs.declared.error.PackageError.{PackageError}
 use Rattle.dwp_index.specs.declared.units.UnitEntry.{UnitEntry}
 use Rattle.dwp_table.specs.declared.object.DwarfObject.{DwarfObject}
-use Rattle.thorin_check.specs.Texts.{TellsText, IsTextOf, IsSomeText, IsUnreadText}
+use Rattle.thorin_check.specs.Texts.{TellsText, IsTextOf, IsSomeText, IsUnreadText, TellsWhat}
 use Rattle.thorin_check.specs.Faults.{TellsOwn, TellsItself, TellsFound, TellsUnit}
 use Rattle.thorin_check.specs.Faults.{is_bare, string_text, TellsString, TellsStrings}
 use Rattle.thorin_check.specs.Faults.{TellsStringsOf, IsBroken}
-use Rattle.thorin_check.specs.Texts.{TellsWhat}
 use Rattle.thorin_check.specs.Overlaps.{IsClash}
 use Rattle.thorin_check.specs.Own.{own_of}
-use Rattle.thorin_print.specs.Answers.{Outcome}
+use Rattle.thorin_print.specs.Answers.{Outcome, IsOfPrinting, Grows}
 use Rattle.thorin_print.specs.Shown.{shown}
 use Rattle.thorin_words.specs.Printed.{printed}
 use Rattle.thorin_check.specs.Rendering.{FaultValue, of_unit, of_package, of_executable}
 use Rattle.thorin_check.specs.Telling.{Progress, Told, Tells, IsFault}
-use Rattle.thorin_print.specs.Answers.{IsOfPrinting, Grows}
 use Rattle.thorin_print.specs.declared.output.Failure.{Failure}
 use Rattle.thorin_check.proofs.Told.{tells_as}
 

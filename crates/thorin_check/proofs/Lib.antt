@@ -6,7 +6,6 @@ pub mod FoundUnits
 pub mod NamedRows
 pub mod Own
 pub mod Reached
-pub mod Rendered
 pub mod SharedStrings
 pub mod Skeletons
 pub mod Sound

@@ -1,15 +1,13 @@
 -- Where no fault was told, the package is sound.
 use Rattle.std.proofs.Common.{◌≡◌, ◌≢◌, ◌∙◌, ℕ, Bool, true, false, List, [], ◌∷◌, ◌++◌, codes, map}
 use Rattle.std.proofs.Common.{get_or, Option, Some, None, Result, Ok, Err, Bor, refl, sym, subst}
-use Rattle.std.proofs.Common.{inl, inr, append-nil}
-use Rattle.std.proofs.Common.{arith, length, min, nat_eq, ◌<◌, ◌^◌, ◌-◌, lit<}
-use Rattle.std.proofs.lemmas.Bool.Decides.{nat_tests}
+use Rattle.std.proofs.Common.{inl, inr, append-nil, arith, length, min, nat_eq, ◌<◌, ◌^◌, ◌-◌, lit<}
 use Rattle.std.proofs.Common.{◌⊎◌, ◌≤◌}
+use Rattle.std.proofs.lemmas.Bool.Decides.{nat_tests}
 use Rattle.std.specs.List.{All, Contains, flat_map}
 use Rattle.std.specs.Result.{result_err}
 use Rattle.std.proofs.lemmas.Option.{same_Some}
-use Rattle.std.proofs.lemmas.List.Elements.{All-nil, All-cons, All-weaker}
-use Rattle.std.proofs.lemmas.List.Elements.{All-contains}
+use Rattle.std.proofs.lemmas.List.Elements.{All-nil, All-cons, All-weaker, All-contains}
 use Rattle.std.proofs.lemmas.List.FromFn.{get_or-map-range_with_len, length-map-range_with_len}
 use Rattle.std.proofs.lemmas.List.Sorted.{IsPermutation-sym, All-permutation, length_permutation}
 use Rattle.std.proofs.lemmas.List.Sorted.{Contains-permutation}
@@ -23,7 +21,6 @@ use Rattle.dwp_index.specs.declared.error.PackageError.{PackageError}
 use Rattle.dwp_index.specs.declared.error.PackageError.TheVariants as errors
 use Rattle.dwp_index.specs.declared.units.UnitEntry.{UnitEntry}
 use Rattle.dwp_table.specs.declared.object.DwarfObject.{DwarfObject}
-use Rattle.thorin_errors.specs.Errors.{ErrorValue}
 use Rattle.thorin_executable.specs.Skeletons.{Named, Listed, skeletons_by}
 use Rattle.thorin_find.specs.Files.{Offer}
 use Rattle.thorin_find.specs.Finding.{string_count, string_of}
@@ -35,17 +32,15 @@ use Rattle.thorin_check.specs.Checking.{lacking_faults, status_of}
 use Rattle.thorin_check.specs.Executables.{Executables}
 use Rattle.thorin_check.specs.Faults.{IsUnread, TellsItself, is_bare, TellsInRow, TellsFound}
 use Rattle.thorin_check.specs.Faults.{TellsLooked, TellsUnit, missing_faults, TellsEnd, TellsListed}
-use Rattle.thorin_check.specs.Faults.{room_of}
-use Rattle.thorin_check.specs.Faults.{TellsNamed, TellsOwn, TellsString, TellsNumbered}
-use Rattle.thorin_check.specs.Faults.{strings_of, TellsStrings, TellsStringsOf}
+use Rattle.thorin_check.specs.Faults.{room_of, TellsNamed, TellsOwn, TellsString, TellsNumbered}
+use Rattle.thorin_check.specs.Faults.{strings_of, TellsStrings, TellsStringsOf, row_fault, row_end}
+use Rattle.thorin_check.specs.Faults.{TellsRowsOf}
 use Rattle.thorin_check.specs.Ends.{AllEnd}
-use Rattle.thorin_check.specs.Indexes.{versions_faults, mixed_versions, column_faults}
-use Rattle.thorin_check.specs.Indexes.{lacks_column}
+use Rattle.thorin_check.specs.Indexes.{versions_faults, mixed_versions, column_faults, lacks_column}
 use Rattle.dwp_table.specs.Columns.{contribution_kinds}
 use Rattle.thorin_check.specs.Own.{own_of}
 use Rattle.thorin_check.specs.Strings.{HasStringsOf}
 use Rattle.thorin_check.proofs.SharedStrings.{range_ends, all_ends}
-use Rattle.thorin_check.specs.Faults.{row_fault, row_end, TellsRowsOf}
 use Rattle.thorin_check.specs.Rendering.{FaultValue}
 use Rattle.thorin_check.specs.Sound.{slots, IsSoundUnit, AreNamed, NameOnce, HasUnitsOf, IsSound}
 use Rattle.thorin_check.proofs.Own.{own_once}
@@ -121,9 +116,6 @@ module _ (unit : FoundUnit) where
   unfolding string_count string_in entry_in
   past_all i le = grind (arith, nat_tests)
 
-  count_or : (i : ℕ) → (i < string_count unit) ⊎ (string_count unit ≤ i)
-  count_or i = grind arith
-
   one_read : (object : DwarfObject) → TellsStrings object unit [] → (i : ℕ)
       → i < string_count unit → result_err (string_of unit i) ≡ None
   one_read object h i lt =
@@ -138,10 +130,9 @@ module _ (unit : FoundUnit) where
       (subst (λ s. TellsNumbered object s []) is (each i (i, string_of unit i) within))
 
   all_read_of : (object : DwarfObject) → TellsStrings object unit [] → AllEnd unit
-  all_read_of object h i = elim (count_or i) [
-    | inl lt ↦ one_read object h i lt
-    | inr le ↦ past_all i le
-  ]
+  all_read_of object h i =
+      let or : (i < string_count unit) ⊎ (string_count unit ≤ i) = grind arith in
+      elim or [ inl lt ↦ one_read object h i lt | inr le ↦ past_all i le ]
 
 module _ (pack : Package) (objects : List DwarfObject)
     (none : TellsStringsOfAll pack objects []) where
@@ -203,12 +194,6 @@ end_none executable room first ([], None) h = (refl, refl)
 end_none executable room first ([], Some error) h = absurd (some_told _ _ h.1)
 end_none executable room first (named ∷ left, end) h = absurd (some_told _ _ h.2.1)
 
-none_is_some : (error : ErrorValue) → Some error ≡ None → ⊥
-none_is_some error e = cc
-
-some_named : (first : Named) (rest : List Named) → first ∷ rest ≢ []
-some_named first rest e = cc
-
 not_missing : (executable : List ℕ) (named : Named)
     (looked : Result (Option FoundUnit) PackageError)
     → missing_faults executable named looked ≡ [] → looked ≢ Ok None
@@ -240,10 +225,9 @@ module _ (offer : Offer) (reading : Reading) (pack : Package) where
       → (units.1 ≡ None) × (units.0 ≢ []) × All (λ named. found pack named.0 ≢ Ok None) units.0
   of_named executable room ([], None) h = absurd (some_told _ _ h)
   of_named executable room ([], Some error) t =
-      let none = listed executable room ([], Some error) t in absurd (none_is_some error none.0)
+      let none = (listed executable room ([], Some error) t).0 in absurd cc
   of_named executable room (first ∷ rest, end) t =
-      let all = listed executable room (first ∷ rest, end) t in
-      (all.0, some_named first rest, all.1)
+      let all = listed executable room (first ∷ rest, end) t in (all.0, λ none. cc, all.1)
 
   has_units : (executable : List ℕ) → TellsExecutable offer reading pack executable []
       → HasUnitsOf offer reading pack executable

@@ -5,12 +5,11 @@ use Rattle.std.proofs.Common.{append_assoc, append-nil, take_all}
 use Rattle.std.proofs.KnownBytes.{Appends-nil, Appends-trans}
 use Rattle.std.proofs.lemmas.List.{take_more}
 use Rattle.std.proofs.lemmas.Grind.{flat_map-append}
-use Rattle.thorin_print.specs.Answers.{Grows}
+use Rattle.thorin_print.specs.Answers.{Grows, Prints, Outcome}
 use Rattle.thorin_print.proofs.Printed.{grown}
 use Rattle.thorin_print.specs.declared.form.Form.{Form}
 use Rattle.thorin_check.specs.Rendering.{FaultValue, fault_text}
 use Rattle.thorin_check.specs.Telling.{counted_on, Progress, Told, TellsOr, Tells, IsFault}
-use Rattle.thorin_print.specs.Answers.{Prints, Outcome}
 use Rattle.thorin_check.specs.Telling.{InTurn, ForEach}
 use Rattle.thorin_print.specs.declared.output.Failure.{Failure}
 

@@ -1,8 +1,7 @@
 -- The faults of a package that `check` tells.
-use Rattle.std.specs.Prelude.{◌≡◌, ◌≢◌, ◌⊎◌, ℕ, ◌+◌, ◌<◌, max, nat_lt, Bool, true, false}
-use Rattle.std.specs.Prelude.{not, ◌&&◌, ◌==◌, if◌then◌else◌, List, [], ◌∷◌}
-use Rattle.std.specs.Prelude.{◌++◌, codes, map, length, Option, Some, None, is_none, Result, Ok}
-use Rattle.std.specs.Prelude.{Err}
+use Rattle.std.specs.Prelude.{◌≡◌, ◌≢◌, ◌⊎◌, ℕ, ◌+◌, ◌<◌, max, nat_lt, Bool, true, false, not, ◌&&◌}
+use Rattle.std.specs.Prelude.{◌==◌, if◌then◌else◌, List, [], ◌∷◌, ◌++◌, codes, map, length, Option}
+use Rattle.std.specs.Prelude.{Some, None, is_none, Result, Ok, Err}
 use Rattle.std.specs.Fmt.{decimal}
 use Rattle.std.specs.List.{All, Contains, flat_map, range_with_len}
 use Rattle.dwp_base.specs.Sections.{name_of}

@@ -1,7 +1,7 @@
 //! Two units whose ranges of a section clash, in `thorin check`.
 
 ghost use Rattle.std.specs.Prelude.{◌≡◌, IfOk, IfSome, string_bytes};
-ghost use Rattle.thorin_check.specs.Overlaps.{IsClash, IsClashText, begins_inside};
+ghost use Rattle.thorin_check.specs.Overlaps.{IsClash, begins_inside};
 ghost use Rattle.thorin_check.specs.Overlaps.{differ_in_tables, has_units, overlap, overlap_text};
 ghost use Rattle.thorin_check.specs.Overlaps.{same_range, tables_text};
 
@@ -27,23 +27,11 @@ pub(crate) fn clash_text(
     let Some((kind, other)) = given else {
         return Ok(None);
     };
-    match pack.find(other) {
-        Ok(Some(second)) => text_of(alloc, kind, other, unit.ranges(), second.ranges()),
-        _ => Ok(None),
-    }
-}
-
-/// What is told of a unit of one row and another of a second one, if anything.
-fn text_of(
-    alloc: Global,
-    kind: SectionKind,
-    other: DwarfObject,
-    a: &Row<'_>,
-    b: &Row<'_>,
-) -> Result<Option<String>, AllocError>
-    ensures { IfOk result (λ text. IfSome text (λ text.
-        IsClashText kind other a.now b.now (string_bytes text))) }
-{
+    let Ok(Some(second)) = pack.find(other) else {
+        return Ok(None);
+    };
+    let a = unit.ranges();
+    let b = second.ranges();
     if overlap(a.range(kind), b.range(kind)) {
         return some(overlap_text(alloc, kind, other));
     }

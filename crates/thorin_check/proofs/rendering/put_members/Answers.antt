@@ -1,7 +1,7 @@
 use Rattle.std.proofs.Common.{string_bytes, refl}
 use Rattle.thorin_find.specs.Json.{json_unit}
 use Rattle.thorin_check.specs.Rendering.{fault_member}
-use Rattle.thorin_check.proofs.Rendered.{both}
+use Rattle.thorin_find.proofs.Pieces.{both}
 use Rattle.thorin_check.proofs.rendering.put_members.Goals as goal
 
 pub returns-in_ok-put_json_unit-in-Unit : goal.returns-in_ok-put_json_unit-in-Unit

@@ -11,6 +11,7 @@ returns-in_err-check_each g c =
 
 pub returns : goal.returns
 returns g c =
-    then_or _ _ _ _ _ _ _ (units_then _ _ _) c.check_strings.result (units_apart _ _ _ _ c.in-Ok.ensures
+    then_or _ _ _ _ _ _ _ (units_then _ _ _) c.check_strings.result
+    (units_apart _ _ _ _ c.in-Ok.ensures
     (sym c.is_untold.ensures ∙ c.if-is_untold.false) c.in_ok-check_each.ensures.told)
     c.check_strings.ensures

@@ -1,7 +1,6 @@
-use Rattle.std.proofs.Common.{arith}
+use Rattle.std.proofs.Common.{arith, rules}
 use Rattle.thorin_check.proofs.Reached.{all_read}
 use Rattle.thorin_check.proofs.ends.Ends.all_end.Goals as goal
-use Rattle.std.proofs.Common.{rules}
 
 pub returns : goal.returns
 returns c = λ yes h i.

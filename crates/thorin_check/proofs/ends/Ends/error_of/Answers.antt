@@ -10,7 +10,14 @@ returns-in_default c = grind (arith, none_there)
 pub returns-then-offset-self : goal.returns-then-offset-self
 unfolding string_at string_in
 returns-then-offset-self c =
-    grind (arith, nat_tests, c.requires.order_is, c.requires.inside, c.requires.reach c.in-Some.offset)
+    grind (
+      arith,
+      nat_tests,
+      c.requires.order_is,
+      c.requires.inside,
+      c.requires.reach
+          c.in-Some.offset,
+    )
 
 pub returns-then-self-offset : goal.returns-then-self-offset
 unfolding string_at string_in
@@ -19,4 +26,11 @@ returns-then-self-offset c = grind (arith, nat_tests, c.requires.order_is, c.req
 pub returns-else-self-offset : goal.returns-else-self-offset
 unfolding string_at string_in
 returns-else-self-offset c =
-    grind (arith, nat_tests, c.requires.order_is, c.requires.size, c.requires.reach c.in-Some.offset)
+    grind (
+      arith,
+      nat_tests,
+      c.requires.order_is,
+      c.requires.size,
+      c.requires.reach
+          c.in-Some.offset,
+    )
