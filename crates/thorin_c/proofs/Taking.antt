@@ -53,12 +53,10 @@ pub refuses : (inputs : List ThorinBytes) (old : State) (refusal : RefusedInput)
     report → Refuses inputs report
 refuses inputs old refusal report is at told = record {
   error = error_of refusal.error;
-  refused = rw (← is, told.input) (record {
-    within = at.within;
-    state = at.state;
-    before = at.before;
-    refused = at.refused told.not_memory;
-  });
+  within = rw told.input at.within;
+  state = at.state;
+  before = rw (← is, told.input) at.before;
+  refused = rw told.input (at.refused told.not_memory);
   told = told.told;
 }
 
@@ -76,7 +74,9 @@ pub unfinished : (inputs : List ThorinBytes) (error : Error) (report : ThorinRep
     → TellsUnfinished inputs report
 unfinished inputs error report is told not_memory = record {
   error = error_of error;
-  is = record { state = is.state; accepted = is.accepted; refused = is.refused not_memory };
+  state = is.state;
+  accepted = is.accepted;
+  refused = is.refused not_memory;
   told = told;
 }
 

@@ -36,14 +36,6 @@ pub record Accepts (inputs : List ThorinBytes) (old new : State) : Type 0 where
   pub taken : taken_each (bytes_of inputs) old ≡ Ok new
   pub joined : JoinAll (bytes_of inputs) (units_in old) (units_in new)
 
--- the input of this number is refused for this error, and those before it are accepted
-pub record RefusesAt (inputs : List ThorinBytes) (old : State) (number : ℕ)
-    (error : ErrorValue) : Type 0 where
-  pub within : number < length inputs
-  pub state : State
-  pub before : Accepts (take number inputs) old state
-  pub refused : HoldsAt (λ input. taken input.bytes.now state ≡ Err error) inputs number
-
 -- the input of this number isn't taken, and those before it are accepted: it is refused for this
 -- error, want of memory aside
 pub record StopsAt (inputs : List ThorinBytes) (old : State) (number : ℕ)
@@ -74,13 +66,8 @@ pub record ArePackedAgain (inputs : List ThorinBytes) (bytes : List ℕ) : Type 
   pub joined : JoinAll (bytes_of inputs) [] units
   pub again : IsTakenAgain units bytes
 
--- all inputs are accepted, and the package can't be finished or written for this error
-pub record IsUnfinished (inputs : List ThorinBytes) (error : ErrorValue) : Type 0 where
-  pub state : State
-  pub accepted : Accepts inputs start state
-  pub refused : RefusesToWrite state error
-
--- the same, want of memory aside, which there is with no input none of
+-- all inputs are accepted, and the package can't be finished or written for this error, want of
+-- memory aside, which there is with no input none of
 pub record Leaves (inputs : List ThorinBytes) (error : Error) : Type 0 where
   pub state : State
   pub accepted : Accepts inputs start state
@@ -112,16 +99,21 @@ pub record Needs (inputs : List ThorinBytes) (report : ThorinReport) (room : ℕ
   pub size : report.size ≡ length bytes
   pub past : room < report.size
 
--- the first input that is refused, and its error
+-- the first input that is refused, those before it being accepted, and its error
 pub record Refuses (inputs : List ThorinBytes) (report : ThorinReport) : Type 0 where
   pub error : ErrorValue
-  pub refused : RefusesAt inputs start report.input error
+  pub within : report.input < length inputs
+  pub state : State
+  pub before : Accepts (take report.input inputs) start state
+  pub refused : HoldsAt (λ input. taken input.bytes.now state ≡ Err error) inputs report.input
   pub told : Tells error report
 
--- why the package can't be finished or written
+-- all inputs are accepted, and why the package can't be finished or written
 pub record TellsUnfinished (inputs : List ThorinBytes) (report : ThorinReport) : Type 0 where
   pub error : ErrorValue
-  pub is : IsUnfinished inputs error
+  pub state : State
+  pub accepted : Accepts inputs start state
+  pub refused : RefusesToWrite state error
   pub told : Tells error report
 
 -- memory ran out while the input of this number was taken, those before it being accepted
