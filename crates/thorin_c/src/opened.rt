@@ -147,6 +147,7 @@ impl<'p, 'a> OpenPackage<'p, 'a> {
 
     /// The first byte of the unit of an object, of which only that range is looked at; 0 where it
     /// isn't there.
+    #[inline(always)]
     pub(crate) fn first_byte(&self, object: DwarfObject) -> u8 {
         let ranges = match self.listed(object) {
             Ok(row) => row.ranges,
