@@ -5,5 +5,4 @@ mod Narrowing
 mod Noting
 mod Prefixing
 mod Sizes
-mod Standing
 mod UsedSections

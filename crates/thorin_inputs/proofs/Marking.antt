@@ -3,6 +3,7 @@ use Rattle.std.proofs.Common.{◌≡◌, ◌∙◌, ℕ, ◌+◌, ◌<◌, true,
 use Rattle.std.proofs.Common.{take, sym, ap, ◌⊎◌, ⊎_elim}
 use Rattle.std.specs.Prelude.{Option, Some, None, fold, option_map}
 use Rattle.std.specs.Borrow.{Bor}
+use Rattle.std.specs.Option.{option_or}
 use Rattle.std.specs.BTreeMap as tree
 use Rattle.std.specs.BTreeMap.{BTreeMap}
 use Rattle.std.specs.Cmp.Lexicographic.{slice_cmp}
@@ -67,18 +68,18 @@ module _ (words : Words) (held : Bor (List ℕ)) (word : List ℕ) (is : held.no
 -- ---- a longer beginning
 
 module _ (words : Words) (path : List ℕ) (k : ℕ) where
-  pub further : (word : Bor (List ℕ)) → Some word.now ≡ last_word words (take k path)
-      → Counts words path (k + 1) (Some word)
-  further word at = (k, omega arith, sym at, λ i more less. absurd (omega (arith, more, less)))
-
-  pub no_further : (best : Option (Bor (List ℕ))) → None ≡ last_word words (take k path)
-      → Counts words path k best → Counts words path (k + 1) best
-  no_further None at none = λ i less.
+  -- the word of a longer beginning, where it is a FROM, or that of the beginnings before
+  pub further : (found best : Option (Bor (List ℕ)))
+      → option_map (λ word. word.now) found ≡ last_word words (take k path)
+      → Counts words path k best → Counts words path (k + 1) (option_or found best)
+  further (Some word) best at before =
+      (k, omega arith, sym at, λ i more less. absurd (omega (arith, more, less)))
+  further None None at none = λ i less.
       ⊎_elim (λ (e : i ≡ k). rw e (sym at))
       (λ (others : (i < k) ⊎ (k < i)). ⊎_elim (λ (b : i < k). none i b)
       (λ (b : k < i). absurd (omega (arith, b, less))) others)
       (cases_order i k)
-  no_further (Some word) at (j, below, hit, above) = (
+  further None (Some word) at (j, below, hit, above) = (
     j,
     omega (arith, below),
     hit,

@@ -30,13 +30,6 @@ met_next kind xs i s None at h =
     (λ none. rw none (sym (ap (option_map plain_content)
     (rw none at (find_at (holds kind) xs i s at))) ∙ h))
 
--- in the end nothing is left
-pub met_all : (kind : SectionKind) (xs : List SectionMeaning) (found : Option (List ℕ))
-    → option_or found (first_content kind []) ≡ first_content kind xs
-    → found ≡ first_content kind xs
-met_all kind xs None h = h
-met_all kind xs (Some x) h = h
-
 -- ---- tests of a list
 
 module _ {X : Type 0} (p q : X → Bool) (less : (x : X) → p x ≡ true → q x ≡ true) where

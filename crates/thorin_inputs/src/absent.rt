@@ -54,7 +54,7 @@ impl AbsentUnits {
         unread: Option<String>,
     ) -> Result<(), AllocError> {
         match object {
-            Some(object) => self.look_at(executable, object, unread)?,
+            Some(object) => self.look_for(executable, object, unread)?,
             None => drop(unread),
         }
         if self.units.get(&unit).is_none() {
@@ -63,56 +63,32 @@ impl AbsentUnits {
         Ok(())
     }
 
-    /// Keeps the object that is looked for, and its reason, unless that is the last one.
-    fn look_at(
+    /// Keeps the object that is looked for, and why it brings no unit, unless it is the last one.
+    fn look_for(
         &mut self,
         executable: &str,
         object: String,
         unread: Option<String>,
     ) -> Result<(), AllocError> {
-        if self.is_last(object.as_str()) {
-            return Ok(());
+        match &self.object {
+            Some(last) if last.as_str() == object.as_str() => return Ok(()),
+            _ => {}
         }
         self.reason = None;
-        self.add_reason(executable, object.as_str(), unread)?;
+        if self.size <= MOST {
+            let reason = reason_of(self.alloc, executable, object.as_str(), unread)?;
+            self.size = self.size.saturating_add(reason.len());
+            self.reason = Some(self.reasons.len());
+            self.reasons.push(reason)?;
+        }
         self.object = Some(object);
-        Ok(())
-    }
-
-    /// Whether an object is the one that was looked for last.
-    fn is_last(&self, object: &str) -> bool {
-        match &self.object {
-            Some(last) => last.as_str() == object,
-            None => false,
-        }
-    }
-
-    /// Adds the reason why an object brings no unit.
-    fn add_reason(
-        &mut self,
-        executable: &str,
-        object: &str,
-        unread: Option<String>,
-    ) -> Result<(), AllocError> {
-        if self.size > MOST {
-            return Ok(());
-        }
-        let reason = reason_of(self.alloc, executable, object, unread)?;
-        self.size = self.size.saturating_add(reason.len());
-        self.reason = Some(self.reasons.len());
-        self.reasons.push(reason)?;
         Ok(())
     }
 
     /// Why a unit is absent; none where that isn't known.
     pub fn reason(&self, unit: u64) -> Option<&str> {
-        match self.units.get(&unit) {
-            Some(Some(place)) => match self.reasons.get(*place) {
-                Some(reason) => Some(reason.as_str()),
-                None => None,
-            },
-            _ => None,
-        }
+        let place = (*self.units.get(&unit)?)?;
+        Some(self.reasons.get(place)?.as_str())
     }
 
     /// How many units were absent beside one of them.

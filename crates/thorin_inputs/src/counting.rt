@@ -8,11 +8,13 @@ use dwp_elf::{ElfFile, Endianness, Section};
 /// How many units these bytes have; none where they are no ELF file that can be read.
 pub fn count_units(bytes: &[u8]) -> Option<usize> {
     let file = ElfFile::parse(bytes).ok()?;
-    let mut units = 0usize;
+    let mut count = 0usize;
     for section in file.sections() {
-        units = units.saturating_add(count_in_section(&section, file.endianness()));
+        if let Some(units) = units_in(&section, file.endianness()) {
+            count = count.saturating_add(count_all(units));
+        }
     }
-    Some(units)
+    Some(count)
 }
 
 /// Whether these bytes are an ELF file that has type units in a section of types, and no section of
@@ -25,8 +27,10 @@ pub fn has_types_alone(bytes: &[u8]) -> bool {
     for section in file.sections() {
         match section.section_kind() {
             Some(SectionKind::Info) => return false,
-            Some(SectionKind::Types) => {
-                has_types = has_types || count_in_section(&section, file.endianness()) > 0;
+            Some(SectionKind::Types) if !has_types => {
+                if let Some(mut units) = units_in(&section, file.endianness()) {
+                    has_types = units.next().is_some();
+                }
             }
             _ => {}
         }
@@ -34,24 +38,25 @@ pub fn has_types_alone(bytes: &[u8]) -> bool {
     has_types
 }
 
-/// How many units a section has: none where it isn't one of units, or can't be read.
-fn count_in_section(section: &Section<'_>, order: Endianness) -> usize {
-    let kind = match section.section_kind() {
-        Some(SectionKind::Info) => UnitSection::Info,
-        Some(SectionKind::Types) => UnitSection::Types,
-        _ => return 0,
-    };
-    match section.data() {
-        Ok(bytes) => count_headers(SliceReader::new(bytes, order), kind),
-        Err(_) => 0,
+/// How many units there are.
+fn count_all<R: Reader>(units: UnitHeaders<R>) -> usize {
+    let mut count = 0usize;
+    for _ in units {
+        count = count.saturating_add(1);
     }
+    count
 }
 
-/// How many units begin in what a reader has left.
-fn count_headers<R: Reader>(reader: R, kind: UnitSection) -> usize {
-    let mut units = 0usize;
-    for _ in UnitHeaders::new(reader, kind) {
-        units = units.saturating_add(1);
-    }
-    units
+/// The units of a section; none where it isn't one of units, or can't be read.
+pub(crate) fn units_in<'a>(
+    section: &Section<'a>,
+    order: Endianness,
+) -> Option<UnitHeaders<SliceReader<'a>>> {
+    let kind = match section.section_kind()? {
+        SectionKind::Info => UnitSection::Info,
+        SectionKind::Types => UnitSection::Types,
+        _ => return None,
+    };
+    let reader = SliceReader::new(section.data().ok()?, order);
+    Some(UnitHeaders::new(reader, kind))
 }

@@ -12,12 +12,12 @@ use std::cell::Cell;
 pub struct Encodings {
     alloc: Global,
     /// What was found; none where there was no memory for it.
-    found: Cell<Option<Vec<First>>>,
+    found: Cell<Option<Vec<FirstInput>>>,
 }
 
 /// The first input of an encoding.
 #[derive(Drop)]
-struct First {
+struct FirstInput {
     encoding: Encoding,
     order: Endianness,
     place: String,
@@ -36,8 +36,7 @@ impl Encodings {
     /// Where there is no memory for it, nothing is kept any more.
     pub fn keep_new(&self, file: &[u8], own: &str, named: Option<&str>) {
         if let Some(mut found) = self.found.replace(None) {
-            let of_file = encoding_of(file);
-            if add_new(self.alloc, &mut found, of_file, own, named).is_ok() {
+            if add_new(self.alloc, &mut found, file, own, named).is_ok() {
                 self.found.set(Some(found));
             }
         }
@@ -48,44 +47,44 @@ impl Encodings {
     /// # Errors
     /// Want of memory.
     pub fn notes(&self) -> Result<Option<String>, AllocError> {
-        match self.found.replace(None) {
-            Some(found) if found.len() > 1 => Ok(Some(lines_of(self.alloc, found.as_slice())?)),
-            _ => Ok(None),
+        let Some(found) = self.found.replace(None) else {
+            return Ok(None);
+        };
+        if found.len() < 2 {
+            return Ok(None);
         }
+        let mut lines = String::new(self.alloc);
+        for first in found.iter() {
+            put_line(first, &mut lines)?;
+        }
+        Ok(Some(lines))
     }
 }
 
 /// Adds the encoding of a file, if it has one that is new, to what was found.
 fn add_new(
     alloc: Global,
-    found: &mut Vec<First>,
-    of_file: Option<(Encoding, Endianness)>,
+    found: &mut Vec<FirstInput>,
+    file: &[u8],
     own: &str,
     named: Option<&str>,
 ) -> Result<(), AllocError> {
-    let Some((encoding, order)) = of_file else {
+    let Some((encoding, order)) = encoding_of(file) else {
         return Ok(());
     };
-    if has(found, encoding, order) {
+    if found
+        .iter()
+        .any(|first| first.encoding == encoding && first.order == order)
+    {
         return Ok(());
     }
     let place = place_of(alloc, own, named)?;
-    found.push(First {
+    found.push(FirstInput {
         encoding,
         order,
         place,
     })?;
     Ok(())
-}
-
-/// Whether an encoding was found.
-fn has(found: &[First], encoding: Encoding, order: Endianness) -> bool {
-    for first in found {
-        if first.encoding == encoding && first.order == order {
-            return true;
-        }
-    }
-    false
 }
 
 /// The encoding and the byte order of an object or a package, which are those of its first unit;
@@ -102,17 +101,8 @@ pub(crate) fn encoding_of(file: &[u8]) -> Option<(Encoding, Endianness)> {
     }
 }
 
-/// The lines of encodings.
-fn lines_of(alloc: Global, found: &[First]) -> Result<String, AllocError> {
-    let mut lines = String::new(alloc);
-    for first in found {
-        put_line(first, &mut lines)?;
-    }
-    Ok(lines)
-}
-
 /// Adds the line of an encoding.
-fn put_line(first: &First, lines: &mut String) -> Result<(), AllocError> {
+fn put_line(first: &FirstInput, lines: &mut String) -> Result<(), AllocError> {
     let place = first.place.as_str();
     let version = first.encoding.version;
     let bits = match first.encoding.format {

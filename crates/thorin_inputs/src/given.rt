@@ -1,6 +1,6 @@
 //! Which place among the paths of the command line a path has.
 
-ghost use Rattle.std.specs.Prelude.{IsTrue, IfSome};
+ghost use Rattle.std.specs.Prelude.{IfSome};
 ghost use Rattle.thorin_inputs.specs.Given.{StandsAt};
 
 use std::alloc::{AllocError, Global};
@@ -32,20 +32,9 @@ impl<'a> Places<'a> {
         ensures { IfSome result (StandsAt paths.now path.now) }
     {
         let place = *self.0.get(path)?;
-        if is_at(paths, place, path) {
-            Some(place)
-        } else {
-            None
+        match paths.get(place) {
+            Some(given) if *given == path => Some(place),
+            _ => None,
         }
-    }
-}
-
-/// Whether a path stands at a place among others.
-fn is_at(paths: &[&str], place: usize, path: &str) -> bool
-    ensures { IsTrue result → StandsAt paths.now path.now place }
-{
-    match paths.get(place) {
-        Some(given) => *given == path,
-        None => false,
     }
 }

@@ -158,32 +158,20 @@ impl Repetitions {
         ensures input { self.new.input ≡ self.old.input }
         ensures uncounted { OnErr result (self.new.counts ≡ self.old.counts) }
     {
-        let before = self.note(identity, size)?;
-        Ok(self.admits_after(before, size))
-    }
-
-    /// The same of one that was noted, and was read before for an input, if it was.
-    fn admits_after(&mut self, before: Option<usize>, size: usize) -> bool
-        ensures admitted { result ≡ is_admitted self.old.counts self.old.input before size }
-        ensures counted { self.new.counts
-            ≡ object_counted self.old.counts self.old.input before size }
-        ensures files { self.new.files ≡ self.old.files }
-        ensures input { self.new.input ≡ self.old.input }
-    {
-        let Some(input) = before else {
+        let Some(input) = self.note(identity, size)? else {
             self.read = self.read.saturating_add(size);
             self.first = self.first.saturating_add(size);
-            return true;
+            return Ok(true);
         };
         self.again = self.again.saturating_add(size);
         if self.again / READ_AGAIN > self.first {
-            return false;
+            return Ok(false);
         }
         if input == self.input {
-            return self.admits_more(size);
+            return Ok(self.admits_more(size));
         }
         self.read = self.read.saturating_add(size);
-        true
+        Ok(true)
     }
 
     /// Whether an object may be added once more that isn't read again: how many bytes of sections

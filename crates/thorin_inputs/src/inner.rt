@@ -2,7 +2,7 @@
 //! one long string.
 
 ghost use Rattle.std.specs.Prelude.{◌≡◌, ◌≤◌, ◌<◌, ◌+◌, ◌*◌, ℕ, ◌||◌, ◌&&◌, ◌==◌, nat_lt, IfOk};
-ghost use Rattle.std.specs.Prelude.{OnOk, length};
+ghost use Rattle.std.specs.Prelude.{OnOk};
 ghost use Rattle.std.specs.Option.{option_copied};
 ghost use Rattle.dwp_elf_read.specs.Elf.{elf_of};
 ghost use Rattle.dwp_elf_read.specs.View.{elf};
@@ -10,15 +10,14 @@ ghost use Rattle.dwp_index.specs.Index.{row_in};
 ghost use Rattle.dwp_index.specs.IndexBytes.{index_of};
 ghost use Rattle.thorin_inputs.specs.InnerStrings.{begins_inside, has_inner_strings, has_word};
 ghost use Rattle.thorin_inputs.specs.InnerStrings.{has_row_between, is_row_between, most_inner};
-ghost use Rattle.thorin_inputs.specs.InnerStrings.{inner_size, is_inner, sizes_at, string_size};
+ghost use Rattle.thorin_inputs.specs.InnerStrings.{is_inner, sizes_at, string_size};
 ghost use Rattle.thorin_inputs.specs.InnerStrings.{first_content, or_nothing, step_by, word_count};
 ghost use Rattle.thorin_inputs.specs.InnerPlaces.{Counts, IsSummed, IsWithin, is_counted};
-ghost use Rattle.dwp_base.specs.declared.endian.Endianness.TheVariants.{Little};
 ghost use Rattle.dwp_base.specs.declared.section.SectionKind.TheVariants.{Str};
 
 use crate::growth::LEAST_ROOM;
 use crate::overlaps::units;
-use crate::used::{Used, content, or_nothing};
+use crate::used::{UsedSections, content, or_nothing};
 use dwp_base::SectionKind;
 use dwp_bytes::string_at;
 use dwp_elf::{ElfFile, Endianness};
@@ -55,28 +54,18 @@ pub fn has_inner_strings(alloc: Global, bytes: &[u8]) -> Result<bool, AllocError
     ensures exact { IfOk result (λ has. has ≡ has_inner_strings bytes.now (elf_of bytes.now)) }
 {
     match ElfFile::parse(bytes) {
-        Ok(file) => has_inner_in(alloc, &file, bytes.len()),
-        Err(_) => Ok(false),
+        Ok(file) if units(&file).is_some() => has_inner_beside(alloc, &file, bytes.len()),
+        _ => Ok(false),
     }
 }
 
-/// The same of a file of so many bytes.
-fn has_inner_in(alloc: Global, file: &ElfFile<'_>, size: usize) -> Result<bool, AllocError>
-    ensures { IfOk result (λ has. has ≡ nat_lt (most_inner size) (inner_size (elf file.now))) }
-{
-    match units(file) {
-        Some(_units) => has_inner_beside(alloc, file, size),
-        None => Ok(false),
-    }
-}
-
-/// The same of one that has units.
+/// The same of a file of so many bytes that has units.
 fn has_inner_beside(alloc: Global, file: &ElfFile<'_>, size: usize) -> Result<bool, AllocError>
     ensures { IfOk result (λ has. let strings = or_nothing (first_content Str (elf file.now).sections) in
         has ≡ nat_lt (most_inner size) (sizes_at strings (is_inner (elf file.now) strings))) }
 {
     let order = file.endianness();
-    let used = Used::of(file);
+    let used = UsedSections::of(file);
     let step = step_of(used, order);
     let mut inner = InnerStrings {
         strings: or_nothing(used.strings),
@@ -97,7 +86,7 @@ fn has_inner_beside(alloc: Global, file: &ElfFile<'_>, size: usize) -> Result<bo
 }
 
 /// At each how many bytes a word of string offsets may begin.
-fn step_of(used: Used<'_>, order: Endianness) -> usize
+fn step_of(used: UsedSections<'_>, order: Endianness) -> usize
     ensures step { result ≡ step_by order (or_nothing (option_copied used.entry.compilations))
         (or_nothing (option_copied used.entry.types)) }
     ensures least { 1 ≤ result }
@@ -151,28 +140,13 @@ impl InnerStrings<'_> {
     {
         match (order, step) {
             // (nearly all files have these)
-            (Endianness::Little, WORD) => self.count_words(offsets),
+            (Endianness::Little, WORD) => self.count_by(offsets, Endianness::Little, WORD),
             _ => self.count_by(offsets, order, step),
         }
     }
 
-    /// The same of words, the lowest byte first, one after the other.
-    fn count_words(&mut self, offsets: &[u8]) -> Result<bool, AllocError>
-        requires { IsWithin self.old }
-        ensures { IfOk result (Counts self.old self.new (λ at.
-            has_word Little 4 offsets.now at && begins_inside self.old.strings.now at)) }
-    {
-        let strings = self.strings;
-        for number in 0..word_count(offsets.len(), WORD) {
-            let place = Endianness::Little.read_u32(&offsets[number * WORD..]);
-            if begins_inside(strings, place) && self.add(place)? {
-                return Ok(true);
-            }
-        }
-        Ok(false)
-    }
-
-    /// The same for any order and step.
+    /// The loop of `count`, which is compiled for an order and a step.
+    #[inline(always)]
     fn count_by(
         &mut self,
         offsets: &[u8],
@@ -211,15 +185,8 @@ impl InnerStrings<'_> {
         if self.places.insert(place)? {
             self.size += size_at(self.strings, place as usize) as u128;
         }
-        Ok(self.size > most_inner(self.file_size))
+        Ok(self.size > (self.file_size as u128 * FILES).max(LEAST_ROOM as u128))
     }
-}
-
-/// How many bytes such strings may have in a file of so many bytes.
-fn most_inner(size: usize) -> u128
-    ensures { result ≡ most_inner size }
-{
-    (size as u128 * FILES).max(LEAST_ROOM as u128)
 }
 
 /// How many words so many bytes have, of which one begins at each so many bytes.

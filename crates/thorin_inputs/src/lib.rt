@@ -5,7 +5,6 @@
 mod absent;
 mod compression;
 mod counting;
-mod decompressing;
 mod encodings;
 mod given;
 mod growth;
@@ -21,7 +20,6 @@ mod used;
 pub use absent::AbsentUnits;
 pub use compression::Compression;
 pub use counting::{count_units, has_types_alone};
-pub use decompressing::decompress;
 pub use encodings::Encodings;
 pub use given::Places;
 pub use growth::{Growth, Repetitions};
@@ -32,6 +30,6 @@ pub use notes::{
     note_refused, note_twice_in, place_of, place_of_member, reason,
 };
 pub use overlaps::{has_compressed_overlap, has_overlap};
-pub use plain::{PlainError, plain_of};
+pub use plain::{PlainError, decompress, plain_of};
 pub use prefixes::Prefixes;
 pub use types::type_names;

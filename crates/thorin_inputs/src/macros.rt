@@ -14,7 +14,7 @@ pub struct MacroWarnings {
     looks: bool,
     /// Whether the input has one.
     found: Cell<bool>,
-    lines: Cell<Option<String>>,
+    lines: Cell<String>,
 }
 
 impl MacroWarnings {
@@ -24,7 +24,7 @@ impl MacroWarnings {
             alloc,
             looks,
             found: Cell::new(false),
-            lines: Cell::new(None),
+            lines: Cell::new(String::new(alloc)),
         }
     }
 
@@ -49,31 +49,18 @@ impl MacroWarnings {
         }
         self.found.set(true);
         let place = place_of(self.alloc, own, named)?;
-        self.add(place.as_str())
-    }
-
-    /// Adds a line.
-    fn add(&self, place: &str) -> Result<(), AllocError> {
-        let line = format!(in self.alloc;
-            "warning: {place}: several .debug_macro.dwo sections, which gdb can't read: --no-macros leaves them out\n"
+        let mut lines = self.take();
+        writeln!(
+            lines,
+            "warning: {place}: several .debug_macro.dwo sections, which gdb can't read: --no-macros leaves them out"
         )?;
-        let lines = match self.lines.replace(None) {
-            Some(mut lines) => {
-                lines.push_str(line.as_str())?;
-                lines
-            }
-            None => line,
-        };
-        self.lines.set(Some(lines));
+        self.lines.set(lines);
         Ok(())
     }
 
     /// The lines so far.
     pub fn take(&self) -> String {
-        match self.lines.replace(None) {
-            Some(lines) => lines,
-            None => String::new(self.alloc),
-        }
+        self.lines.replace(String::new(self.alloc))
     }
 }
 

@@ -7,7 +7,7 @@ ghost use Rattle.dwp_elf_read.specs.Elf.{elf_of, is_of, holds};
 ghost use Rattle.dwp_elf_read.specs.View as view;
 ghost use Rattle.dwp_elf_read.specs.View.{elf};
 ghost use Rattle.dwp_base.specs.declared.section.SectionKind.TheVariants.{Info};
-ghost use Rattle.thorin_inputs.specs.Overlaps.{each_size, first_size, used_size, used_of, overlaps};
+ghost use Rattle.thorin_inputs.specs.Overlaps.{each_size, first_size, used_size, overlaps};
 
 use dwp_base::SectionKind;
 use dwp_decompress::Asked;
@@ -17,7 +17,10 @@ use dwp_elf::{ElfFile, Section};
 pub fn has_overlap(bytes: &[u8]) -> bool
     ensures exact { result ≡ overlaps bytes.now (elf_of bytes.now) }
 {
-    used_size(bytes) > bytes.len() as u64
+    match ElfFile::parse(bytes) {
+        Ok(file) => used_size(&file) > bytes.len() as u64,
+        Err(_) => false,
+    }
 }
 
 /// Whether the compressed sections of a file that `decompress` would make plain have more bytes than
@@ -30,18 +33,8 @@ pub fn has_compressed_overlap(bytes: &[u8]) -> bool
 
 /// How many bytes the sections of an object or a package have that are used, up to the most that a
 /// `u64` can say.
-pub(crate) fn used_size(bytes: &[u8]) -> u64
-    ensures exact { result ≡ min (used_of (elf_of bytes.now)) (2 ^ 64 - 1) }
-{
-    match ElfFile::parse(bytes) {
-        Ok(file) => used_in(&file),
-        Err(_) => 0,
-    }
-}
-
-/// The same of a file that was read.
 #[tactic(auto, unfolding(crate::specs::Overlaps::used_size))]
-fn used_in(file: &ElfFile<'_>) -> u64
+fn used_size(file: &ElfFile<'_>) -> u64
     ensures { result ≡ min (used_size (elf file.now).sections) (2 ^ 64 - 1) }
 {
     match units(file) {
@@ -68,29 +61,19 @@ pub(crate) fn units<'a>(file: &ElfFile<'a>) -> Option<Section<'a>>
     None
 }
 
-/// The first section of a kind that has bytes.
+/// The size of the first section of a kind that has bytes; 0 where there is none.
 #[tactic(auto, using(dwp_base::proofs::Finds::find_hit, dwp_base::proofs::Finds::find_miss, dwp_base::proofs::Finds::slice_get_none))]
-pub(crate) fn first<'a>(file: &ElfFile<'a>, kind: SectionKind) -> Option<Section<'a>>
-    ensures { option_map view.section result ≡ find (holds kind) (elf file.now).sections }
+fn first_size(file: &ElfFile<'_>, kind: SectionKind) -> u64
+    ensures { result ≡ first_size kind (elf file.now).sections }
 {
     for i in 0..file.section_count() {
         if let Some(section) = file.section(i) {
             if section.holds(kind) {
-                return Some(section);
+                return section.size();
             }
         }
     }
-    None
-}
-
-/// Its size; 0 where there is none.
-fn first_size(file: &ElfFile<'_>, kind: SectionKind) -> u64
-    ensures { result ≡ first_size kind (elf file.now).sections }
-{
-    match first(file, kind) {
-        Some(section) => section.size(),
-        None => 0,
-    }
+    0
 }
 
 /// How many bytes of a section are used if each of its kind is.

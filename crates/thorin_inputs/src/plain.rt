@@ -1,15 +1,18 @@
 //! Files with plain sections in place of compressed ones.
 
-ghost use Rattle.std.specs.Prelude.{◌≡◌, Err, IfOk, IfErr};
+ghost use Rattle.std.specs.Prelude.{◌≡◌, Err, IfOk, IfErr, OnOk, false, true};
 ghost use Rattle.dwp_elf_read.specs.Elf.{elf_of};
 ghost use Rattle.dwp_decompress.specs.Compressed.{HasCompressed};
 ghost use Rattle.dwp_decompress.specs.Result.{decompressed_of};
+ghost use Rattle.dwp_decompress.specs.Sizes.{overlaps};
 ghost use Rattle.dwp_decompress.specs.declared.asked.Asked.TheVariants.{OfUnits};
-ghost use Rattle.thorin_inputs.specs.Plain.{IsPlain, LeavesUnread, or_content};
+ghost use Rattle.thorin_inputs.specs.Plain.{IsPlain, IsPlainOf, LeavesUnread, or_content};
 ghost use Rattle.thorin_inputs.specs.declared.plain.PlainError.TheVariants.{TooLarge};
 
+use crate::compression::Compression;
+use crate::overlaps::has_compressed_overlap;
 use dwp_decompress::{Asked, DecompressError, decompressed};
-use std::alloc::Global;
+use std::alloc::{AllocError, Global};
 
 /// Why plain sections can't be put in place of compressed ones.
 #[derive(Clone, Copy)]
@@ -39,5 +42,37 @@ pub fn plain_of(alloc: Global, file: &[u8]) -> Result<Option<Vec<u8>>, PlainErro
         Err(DecompressError::Memory) => Err(PlainError::Memory),
         Err(DecompressError::Unrepresentable) => Err(PlainError::TooLarge),
         Err(error) => Err(PlainError::Unread(error)),
+    }
+}
+
+/// Puts plain sections in place of a file's compressed ones, where that is done (`plain_of`). It
+/// stays as it is where one can't be read, where no file can have these, and where the compressed
+/// ones overlap, unless that is allowed. Answers what is left compressed.
+///
+/// # Errors
+/// Want of memory.
+#[tactic(auto, unfolding(crate::specs::Plain::IsPlainOf))]
+pub fn decompress(
+    alloc: Global,
+    file: &mut Vec<u8>,
+    allows_overlap: bool,
+) -> Result<Compression, AllocError>
+    ensures plain { OnOk result (IsPlainOf file.old.items file.new.items) }
+    ensures apart { allows_overlap ≡ false
+        → overlaps OfUnits file.old.items (elf_of file.old.items) ≡ true
+        → file.new.items ≡ file.old.items }
+{
+    if !allows_overlap && has_compressed_overlap(file) {
+        return Ok(Compression::Overlaps);
+    }
+    match plain_of(alloc, file) {
+        Ok(Some(plain)) => {
+            *file = plain;
+            Ok(Compression::None)
+        }
+        Ok(None) => Ok(Compression::None),
+        Err(PlainError::Unread(error)) => Ok(Compression::after(error)),
+        Err(PlainError::TooLarge) => Ok(Compression::Unread(DecompressError::Unrepresentable)),
+        Err(PlainError::Memory) => Err(AllocError),
     }
 }

@@ -1,7 +1,7 @@
 //! Prefixes of paths that others take the place of.
 
 ghost use Rattle.std.specs.Prelude.{◌≡◌, true, false, ℕ, List, [], ◌∷◌, ◌++◌, ◌+◌, ◌<◌, ◌≤◌, IfOk, OnOk};
-ghost use Rattle.std.specs.Prelude.{◌-◌, MatchOption, option_map, length, take, drop, string_bytes};
+ghost use Rattle.std.specs.Prelude.{◌-◌, MatchOption, option_map, length, take, string_bytes};
 ghost use Rattle.std.specs.Borrow.{Bor};
 ghost use Rattle.std.specs.List.Sorted.{IsNonDecreasingBy, IsPartitionPoint};
 ghost use Rattle.std.specs.List.Sorted.{IsStrictlySortedBy-prop};
@@ -62,14 +62,12 @@ impl<'a> Prefixes<'a> {
 
     /// What takes the place of the longest FROM that a path begins with, and what stands behind
     /// that.
-    #[tactic(auto, using(crate::proofs::Folding::counted, crate::proofs::Folding::none_counted))]
+    #[tactic(auto, using(crate::proofs::Folding::none_counted))]
     fn longest<'p>(&'p self, path: &'p str) -> Option<(&'p str, &'p str)>
         ensures { spec.nows result ≡ spec.longest self.now.words.now path.now }
     {
-        match self.counted(path.as_bytes()) {
-            Some(word) => replaced(path, word),
-            None => None,
-        }
+        let (from, to) = parts(self.counted(path.as_bytes())?)?;
+        Some((to, path.strip_prefix(from)?))
     }
 
     /// The last word of the longest FROM that a path begins with: of those that go on as the path
@@ -80,7 +78,7 @@ impl<'a> Prefixes<'a> {
         let mut best = None;
         let mut left = self.last.as_slice();
         for length in 0..path.len() + 1 {
-            best = further(best, self.word_of(left, path, length));
+            best = self.word_of(left, path, length).or(best);
             left = self.narrowed(left, path, length);
         }
         best
@@ -95,14 +93,8 @@ impl<'a> Prefixes<'a> {
             ≡ last_word self.now.words.now (take place path.now) }
     {
         match left.first() {
-            Some(entry) => {
-                if entry.0.len() == place {
-                    Some(entry.1)
-                } else {
-                    None
-                }
-            }
-            None => None,
+            Some(entry) if entry.0.len() == place => Some(entry.1),
+            _ => None,
         }
     }
 
@@ -123,24 +115,11 @@ impl<'a> Prefixes<'a> {
                 let key = u16::from(*byte) + 1;
                 let first = count_below(left, place, key);
                 let end = count_below(left, place, key + 1);
-                between(left, first, end)
+                &left[first..end]
             }
             None => left,
         }
     }
-}
-
-/// Those from a place to another.
-fn between<'l, 'a>(
-    left: &'l [(&'a [u8], &'a str)],
-    first: usize,
-    end: usize,
-) -> &'l [(&'a [u8], &'a str)]
-    requires order { first ≤ end }
-    requires inside { end ≤ length left.now }
-    ensures { result.now ≡ take (end - first) (drop first left.now) }
-{
-    &left[first..end]
 }
 
 /// How many FROMs have less than a key at a place, of some that rise there.
@@ -160,19 +139,6 @@ fn key_of(text: &[u8], place: usize) -> u16
     match text.get(place) {
         Some(byte) => u16::from(*byte) + 1,
         None => 0,
-    }
-}
-
-/// The word of a longer beginning, where it is a FROM, or that of the beginnings before.
-#[tactic(auto, using(crate::proofs::Marking::further, crate::proofs::Marking::no_further))]
-fn further<'a>(best: Option<&'a str>, found: Option<&'a str>) -> Option<&'a str>
-    ensures { (words : List (Bor (List ℕ))) (path : List ℕ) (k : ℕ) → Counts words path k best.entry
-        → option_map (λ word. word.now) found.entry ≡ last_word words (take k path)
-        → Counts words path (k + 1) result }
-{
-    match found {
-        Some(word) => Some(word),
-        None => best,
     }
 }
 
@@ -196,14 +162,4 @@ fn parts(word: &str) -> Option<(&str, &str)>
         × (parts.1.now ≡ spec.to_of word.now)) }
 {
     word.split_once('=')
-}
-
-/// What takes the place of a word's FROM in a path that begins with it, and what stands behind it.
-#[tactic(auto, unfolding(crate::specs::Prefixes::replaced), using(crate::proofs::Prefixing::not_stripped))]
-fn replaced<'p>(path: &'p str, word: &'p str) -> Option<(&'p str, &'p str)>
-    ensures { spec.nows result ≡ spec.replaced path.now word.now }
-{
-    let (from, to) = parts(word)?;
-    let rest = path.strip_prefix(from)?;
-    Some((to, rest))
 }

@@ -1,11 +1,10 @@
 //! The names of the types that type units define.
 
+use crate::counting::units_in;
 use crate::notes::shown_text;
 use crate::used::content;
-use dwp_base::SectionKind;
 use dwp_dwarf::{
-    Abbreviations, Reader, SliceReader, StringSections, UnitHeader, UnitHeaders, UnitSection,
-    UnitType, attr_string,
+    Abbreviations, Reader, SliceReader, StringSections, UnitHeader, UnitType, attr_string,
 };
 use dwp_elf::ElfFile;
 use std::alloc::{AllocError, Global};
@@ -48,31 +47,18 @@ struct Names {
 }
 
 impl Names {
-    /// Adds those of an object.
+    /// Adds those of an object, of each section up to the first unit that can't be read.
     fn add_all(&mut self, file: &ElfFile<'_>) -> Result<(), AllocError> {
         let tables = Tables::of(file);
         for section in file.sections() {
-            let kind = match section.section_kind() {
-                Some(SectionKind::Info) => UnitSection::Info,
-                Some(SectionKind::Types) => UnitSection::Types,
-                _ => continue,
+            let Some(units) = units_in(&section, file.endianness()) else {
+                continue;
             };
-            let reader = SliceReader::new(content(&section), file.endianness());
-            self.add_of(&tables, UnitHeaders::new(reader, kind))?;
-        }
-        Ok(())
-    }
-
-    /// Adds those of units, up to the first that can't be read.
-    fn add_of<'a>(
-        &mut self,
-        tables: &Tables<'a>,
-        units: UnitHeaders<SliceReader<'a>>,
-    ) -> Result<(), AllocError> {
-        for unit in units {
-            match unit {
-                Ok(unit) if self.spent < MOST_SPENT => self.add(tables, &unit)?,
-                _ => return Ok(()),
+            for unit in units {
+                match unit {
+                    Ok(unit) if self.spent < MOST_SPENT => self.add(&tables, &unit)?,
+                    _ => break,
+                }
             }
         }
         Ok(())

@@ -17,7 +17,7 @@ use dwp_elf::{ElfFile, Section};
 /// The sections of a file that its strings are named by. Of strings and of each index that is the
 /// first that has bytes: its content, or nothing where it is compressed, or can't be read.
 #[derive(Clone, Copy)]
-pub(crate) struct Used<'a> {
+pub(crate) struct UsedSections<'a> {
     pub(crate) strings: Option<&'a [u8]>,
     pub(crate) compilations: Option<&'a [u8]>,
     pub(crate) types: Option<&'a [u8]>,
@@ -27,9 +27,9 @@ pub(crate) struct Used<'a> {
     pub(crate) behind_offsets: usize,
 }
 
-impl<'a> Used<'a> {
+impl<'a> UsedSections<'a> {
     /// Those of a file.
-    pub(crate) fn of(file: &ElfFile<'a>) -> Used<'a>
+    pub(crate) fn of(file: &ElfFile<'a>) -> UsedSections<'a>
         ensures strings { option_copied result.strings
             ≡ first_content Str (elf file.now).sections }
         ensures compilations { option_copied result.compilations
@@ -42,7 +42,7 @@ impl<'a> Used<'a> {
             (drop result.behind_offsets (elf file.now).sections) ≡ false }
         ensures inside { result.behind_offsets ≤ length (elf file.now).sections }
     {
-        let mut used = Used {
+        let mut used = UsedSections {
             strings: None,
             compilations: None,
             types: None,

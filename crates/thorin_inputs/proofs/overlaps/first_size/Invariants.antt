@@ -1,7 +1,7 @@
 use Rattle.std.proofs.Common.{◌≡◌, find, drop}
 use Rattle.dwp_elf_read.specs.Elf.{holds}
 use Rattle.dwp_elf_read.specs.View.{elf}
-use Rattle.thorin_inputs.proofs.overlaps.first.Given as goal
+use Rattle.thorin_inputs.proofs.overlaps.first_size.Given as goal
 
 -- the first of those that are left is the first of all
 abbrev pub invariant-loop-i : goal.invariant-loop-i
