@@ -9,7 +9,6 @@ use Rattle.std.specs.Prelude.{drop}
 use Rattle.std.specs.Prelude.{Option, Some, None, Result, Ok, Err, IfErr, map}
 use Rattle.std.specs.Path.{path_bytes}
 use Rattle.std.specs.declared.path.Path.{Path}
-use Rattle.thorin_errors.specs.Answers.{MemoryAside}
 use Rattle.thorin_errors.specs.Errors.{error_of}
 use Rattle.thorin_errors.specs.declared.error.Error.{Error}
 use Rattle.thorin_errors.specs.declared.error.Error.TheVariants.{NoOutputObjectCreated}
@@ -24,7 +23,7 @@ use Rattle.thorin_errors.specs.declared.error.InputError.{InputError}
 use Rattle.thorin_join.specs.Builder.{State, start}
 use Rattle.thorin_builder.specs.Reading.{IsRead, OnDeclined, outcome_of, unread}
 use Rattle.thorin_builder.specs.declared.reader.NotTaken.{NotTaken}
-use Rattle.thorin.specs.Run.{DeclinesInput, RefusesToWrite, Took}
+use Rattle.thorin.specs.Run.{DeclinesInput, Took}
 use Rattle.thorin.specs.declared.packing.Input.{Input}
 use Rattle.thorin.specs.declared.packing.Input.TheVariants as inputs
 use Rattle.thorin_inputs.specs.declared.growth.Growth.{Growth}
@@ -41,13 +40,11 @@ use Rattle.thorin_commands.specs.Cause.{Stops, StopsAmong, StopsAt}
 use Rattle.thorin_commands.specs.Cause.{Among, Bad, IsMalformed, StopsIn, Tells, Told, Untaken}
 use Rattle.thorin_commands.specs.Cause.{Unfinished, refusal_text, told_text}
 use Rattle.thorin_commands.specs.Opened.{Fills, TookEach, TookInputs}
-use Rattle.thorin_commands.specs.Packing.{AreAsked, asked, asks, declines as why_declined}
-use Rattle.thorin_commands.specs.Packing.{manner_of}
-use Rattle.thorin_commands.specs.Packing.{paths_in, reads}
+use Rattle.thorin_commands.specs.Packing.{AreAsked, asked, asks, manner_of, paths_in}
 use Rattle.thorin_commands.specs.Taken.{IsTakenFor, Manner, Offer}
 use Rattle.thorin_commands.specs.declared.packing.Packing.{Packing}
-use Rattle.thorin_commands.specs.declared.refusal.Refusal.{Refusal}
-use Rattle.thorin_commands.specs.declared.refusal.Refusal.TheVariants as refusals
+use Rattle.thorin_commands.specs.declared.no_package.NoPackage.{NoPackage}
+use Rattle.thorin_commands.specs.declared.no_package.NoPackage.TheVariants as refusals
 use Rattle.thorin_commands.proofs.Opened.{each_append, each_none}
 
 -- a line wasn't taken, or memory ran out
@@ -59,7 +56,7 @@ stops_by X U _ h = absurd h
 module _ {W : Type 0} (contents : W → Option (List ℕ)) (failed : W → Type 0) (writer : W) where
   -- what is known of a refusal by causes that are others
   pub refuses_by : {P Q : Cause → Type 0} → ((cause : Cause) → P cause → Q cause)
-      → (refusal : Refusal) → Refuses contents failed writer P refusal
+      → (refusal : NoPackage) → Refuses contents failed writer P refusal
       → Refuses contents failed writer Q refusal
   refuses_by f refusals.Told t =
       record { cause = t.cause; is = f t.cause t.is; line = t.line }
@@ -70,7 +67,7 @@ module _ {W : Type 0} (contents : W → Option (List ℕ)) (failed : W → Type 
   refuses_by f (refusals.Command _) t = absurd t
 
   pub err_by : {X : Type 0} {P Q : Cause → Type 0} → ((cause : Cause) → P cause → Q cause)
-      → (r : Result X Refusal) → IfErr r (Refuses contents failed writer P)
+      → (r : Result X NoPackage) → IfErr r (Refuses contents failed writer P)
       → IfErr r (Refuses contents failed writer Q)
   err_by f (Ok x) t = tt
   err_by f (Err refusal) t = refuses_by f refusal t
@@ -216,7 +213,7 @@ module _ {W : Type 0} (contents : W → Option (List ℕ)) (failed : W → Type 
   module _ (opens : Bool) (manner : Manner) (list : List Input)
       (o : opens ≡ packing.opens_archives) (m : manner ≡ manner_of packing) where
     -- of those that were asked for; and where none of them began a package
-    pub told_for : map asked list ≡ asks packing → (refusal : Refusal)
+    pub told_for : map asked list ≡ asks packing → (refusal : NoPackage)
         → Refuses contents failed writer
         (IsCauseOf packing.partial opens manner offer declines list) refusal
         → Refuses contents failed writer (IsCauseFor offer declines packing) refusal
@@ -234,7 +231,7 @@ module _ {W : Type 0} (contents : W → Option (List ℕ)) (failed : W → Type 
     pub told_unsplit : (path : Bor (List ℕ)) → packing.lets_empty ≡ true
         → map asked list ≡ asks packing ++ Some (path.now, None) ∷ []
         → take 1 (paths_in packing.executables) ≡ path ∷ []
-        → {X : Type 0} (result : Result X Refusal)
+        → {X : Type 0} (result : Result X NoPackage)
         → IfErr result (Refuses contents failed writer
         (IsCauseOf packing.partial opens manner offer declines list))
         → IfErr result (Refuses contents failed writer (IsCauseFor offer declines packing))
@@ -248,17 +245,6 @@ module _ {W : Type 0} (contents : W → Option (List ℕ)) (failed : W → Type 
       → Told contents writer (IsCauseFor offer declines packing)
   told_empty is line =
       record { cause = Unfinished NoOutputObjectCreated; is = is; line = line }
-
--- causes of what is read, however that is written
-pub told_alike : {W X : Type 0} (contents : W → Option (List ℕ)) (failed : W → Type 0)
-    (writer : W) (offers : X → Offer) (x y : X) (reading packing : Packing) → x ≡ y
-    → reading ≡ packing
-    → (refusal : Refusal)
-    → Refuses contents failed writer (IsCauseFor (reads reading (offers x))
-    (why_declined reading (offers x)) packing) refusal
-    → Refuses contents failed writer (IsCauseFor (reads packing (offers y))
-    (why_declined packing (offers y)) packing) refusal
-told_alike contents failed writer offers x y reading packing f p refusal t = rw (f, p) at t
 
 -- what is taken for the content of a member was refused
 pub content_refused : {manner : Manner} {content taken : List ℕ} → IsTakenFor manner content taken

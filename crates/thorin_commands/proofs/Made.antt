@@ -5,7 +5,7 @@ use Rattle.std.specs.Prelude.{Option, Some, Result, Ok, Err, IfOk, IfErr, OnOk, 
 use Rattle.std.proofs.lemmas.List.{append_assoc}
 use Rattle.dwp_elf.specs.FileText.{Object as File, file_text}
 use Rattle.dwp_table.specs.declared.object.DebugTypeSignature.{DebugTypeSignature}
-use Rattle.thorin_errors.specs.Errors.{NoOutputObjectCreated as NoPackage}
+use Rattle.thorin_errors.specs.Errors.{NoOutputObjectCreated as NoneBegun}
 use Rattle.thorin_errors.specs.declared.error.Error.{Error}
 use Rattle.thorin_errors.specs.declared.error.Error.TheVariants.{NoOutputObjectCreated}
 use Rattle.thorin_join.specs.Builder.{State, differing_in, finish_test}
@@ -17,13 +17,13 @@ use Rattle.thorin_commands.specs.Cause.{IsUnfinished, Reasons, Refuses, StopsAt,
 use Rattle.thorin_commands.specs.Cause.{Unfinished, Unread}
 use Rattle.thorin_commands.specs.Made.{IsMade, IsMadeFor, IsReady}
 use Rattle.thorin_commands.specs.Opened.{added_in, left}
-use Rattle.thorin_commands.specs.Packing.{AreAsked, asked, asks, manner_of, out_of, reads}
+use Rattle.thorin_commands.specs.Packing.{AreAsked, asked, asks, manner_of, out_of}
 use Rattle.thorin_commands.specs.Taken.{Manner, Offer}
 use Rattle.thorin_commands.specs.Warned.{PacksTelling, TellsInputs, TellsMacros, TellsTaken, names}
 use Rattle.thorin_commands.specs.Warned.{TellsUnsplitRun, others}
 use Rattle.thorin_commands.specs.declared.packing.Packing.{Packing}
-use Rattle.thorin_commands.specs.declared.refusal.Refusal.{Refusal}
-use Rattle.thorin_commands.specs.declared.refusal.Refusal.TheVariants as refusals
+use Rattle.thorin_commands.specs.declared.no_package.NoPackage.{NoPackage}
+use Rattle.thorin_commands.specs.declared.no_package.NoPackage.TheVariants as refusals
 use Rattle.thorin_commands.proofs.Warned.{printed_as, printed_then}
 
 -- the type units that differ don't go where units that executables refer to do
@@ -51,7 +51,7 @@ module _ {opens : Bool} {manner : Manner} {offer : Offer} {declines : Reasons} w
 
 pub never_empty : (opens : Bool) (manner : Manner) (offer : Offer) (declines : Reasons)
     (list : List Input) (old : State) {W : Type 0} (contents : W → Option (List ℕ))
-    (failed : W → Type 0) (writer : W) {X : Type 0} (refusal : Refusal)
+    (failed : W → Type 0) (writer : W) {X : Type 0} (refusal : NoPackage)
     → Refuses contents failed writer (StopsAt opens manner offer declines list old) refusal
     → refusal ≡ refusals.Empty → X
 never_empty opens manner offer declines list old contents failed writer refusals.Empty h e =
@@ -63,7 +63,7 @@ never_empty opens manner offer declines list old contents failed writer (refusal
 
 -- a package that can't be finished since no input began it
 pub none_began : {state : State} → IsUnfinished state (Unfinished NoOutputObjectCreated)
-    → finish_test state ≡ Err NoPackage
+    → finish_test state ≡ Err NoneBegun
 none_began u =
     let same : u.error ≡ NoOutputObjectCreated = cc in
     elim ((rw same at u.refuses) (λ m. absurd cc)) [ inl h ↦ h | inr h ↦ absurd cc ]
@@ -134,21 +134,18 @@ made_twice {offer} packing list a b c o m lets are p made = record {
 }
 
 -- with the lines of sections of macros
-pub made_ready : {X : Type 0} (offers : X → Offer) (x y : X) (reading packing : Packing)
-    {a b : Option (List ℕ)} {object : File} {differing : List DebugTypeSignature}
-    (named lines : List ℕ) → x ≡ y → reading ≡ packing
-    → IsMadeFor (TellsInputs (reads reading (offers x)) packing) (reads reading (offers x)) packing
-    a b object differing named
-    → (macros : List ℕ) × TellsMacros reading.warns_of_macros macros × (lines ≡ macros ++ named)
-    → IsReady (reads packing (offers y)) packing a b object differing lines
-made_ready offers x y reading packing {a} {b} {object} {differing} named lines f p made more =
-    record {
-      named = named;
-      made = rw (f, p) at made;
-      macros = more.0;
-      macros_are = rw p at more.1;
-      lines_are = more.2;
-    }
+pub made_ready : {offer : Offer} (packing : Packing) {a b : Option (List ℕ)} {object : File}
+    {differing : List DebugTypeSignature} (named macros lines : List ℕ)
+    → TellsMacros packing.warns_of_macros macros → lines ≡ macros ++ named
+    → IsMadeFor (TellsInputs offer packing) offer packing a b object differing named
+    → IsReady offer packing a b object differing lines
+made_ready packing named macros lines are is made = record {
+  named = named;
+  made = made;
+  macros = macros;
+  macros_are = are;
+  lines_are = is;
+}
 
 -- and the warnings behind the package
 pub packs_telling : (offer : Offer) (packing : Packing) (Puts : (name text : List ℕ) → Type 0)

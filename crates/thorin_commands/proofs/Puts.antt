@@ -8,8 +8,8 @@ use Rattle.thorin_print.specs.declared.output.Failure.{Failure}
 use Rattle.thorin_output.specs.Files.{IsOfWriting}
 use Rattle.thorin_commands.specs.Packing.{out_of, IsPackageFor, Packs}
 use Rattle.thorin_commands.specs.Packing.{Comes, Fails}
-use Rattle.thorin_commands.specs.declared.refusal.Refusal.{Refusal}
-use Rattle.thorin_commands.specs.declared.refusal.Refusal.TheVariants as refusals
+use Rattle.thorin_commands.specs.declared.no_package.NoPackage.{NoPackage}
+use Rattle.thorin_commands.specs.declared.no_package.NoPackage.TheVariants as refusals
 use Rattle.thorin_commands.specs.declared.packing.Packing.{Packing}
 
 -- the first of a list, alone
@@ -43,7 +43,7 @@ module _ (N X : Type 0) (offer : List ℕ → Result (List ℕ) IoError → Type
 
 module _ (N B D : Type 0) where
   -- where nothing was written, any refusal says so
-  pub stopped : (refusal : Refusal) → N → Comes (Err refusal) N B D
+  pub stopped : (refusal : NoPackage) → N → Comes (Err refusal) N B D
   unfolding Comes Fails
   stopped refusals.Empty n = n
   stopped refusals.Told n = n

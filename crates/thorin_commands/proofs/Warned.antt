@@ -158,11 +158,11 @@ module _ {verbose opens : Bool} {manner : Manner} {offer : Offer} {a : Option (L
 
 -- ---- inputs without split units
 
-pub unsplit_told : (path : Option (List ℕ)) (name why : List ℕ) (a b : Option (List ℕ))
-    → path ≡ Some name → Appends a b (unsplit_line name why)
-    → IsPrinted a b (TellsUnsplit (Unit {0}) path)
-unsplit_told path name why a b e h =
-    record { text = unsplit_line name why; is = inr (tt, name, why, e, refl); added = h }
+pub unsplit_told : {may : Type 0} (path : Option (List ℕ)) (name why : List ℕ)
+    (a b : Option (List ℕ)) → may → path ≡ Some name → Appends a b (unsplit_line name why)
+    → IsPrinted a b (TellsUnsplit may path)
+unsplit_told path name why a b it e h =
+    record { text = unsplit_line name why; is = inr (it, name, why, e, refl); added = h }
 
 pub unsplit_none : (may : Type 0) (path : Option (List ℕ)) (a : Option (List ℕ))
     → IsPrinted a a (TellsUnsplit may path)
@@ -172,10 +172,6 @@ unsplit_as : {M N : Type 0} → (M → N) → (path : Option (List ℕ)) (text :
     → TellsUnsplit M path text → TellsUnsplit N path text
 unsplit_as f path text (inl e) = inl e
 unsplit_as f path text (inr h) = inr (f h.0, h.1, h.2, h.3, h.4)
-
-pub unsplit_for : {may : Type 0} (path : Option (List ℕ)) (a b : Option (List ℕ)) → may
-    → IsPrinted a b (TellsUnsplit (Unit {0}) path) → IsPrinted a b (TellsUnsplit may path)
-unsplit_for path a b it p = printed_as (λ x t. unsplit_as (λ u. it) path x t) p
 
 pub unsplit_next : (none : Type 0) (list : List Input) (lacks : List Lack) (i : ℕ) (d : Input)
     (e : Lack) (a b c : Option (List ℕ)) → i < length list → length lacks ≡ length list

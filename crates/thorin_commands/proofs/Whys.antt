@@ -13,8 +13,8 @@ use Rattle.thorin_commands.specs.Failing.{IsWhy}
 use Rattle.thorin_commands.specs.Naming.{IsNameless, IsUncounted}
 use Rattle.thorin_commands.specs.Packing.{IsPackageFor, Packs, out_of}
 use Rattle.thorin_commands.specs.declared.packing.Packing.{Packing}
-use Rattle.thorin_commands.specs.declared.refusal.Refusal.{Refusal}
-use Rattle.thorin_commands.specs.declared.refusal.Refusal.TheVariants as refusals
+use Rattle.thorin_commands.specs.declared.no_package.NoPackage.{NoPackage}
+use Rattle.thorin_commands.specs.declared.no_package.NoPackage.TheVariants as refusals
 
 -- the units of a file couldn't be counted, where nothing is split
 pub uncounted : (X U : Type 0) (failure : Failure) → IsUncounted failure → U → Stops X U failure
@@ -50,7 +50,7 @@ module _ (known : List ℕ → Identity → Type 0) (packing : Packing) (N W C X
   why_stopped failures.Input h = h
   why_stopped _ h = absurd h
 
-  pub ends : (told : Type 0) (refusal : Refusal) → Ends told N (Stops X N) refusal
+  pub ends : (told : Type 0) (refusal : NoPackage) → Ends told N (Stops X N) refusal
       → Ends told N (IsWhy known packing N W (C ⊎ X)) refusal
   ends told refusals.Told h = h
   ends told refusals.Empty h = h

@@ -35,8 +35,8 @@ use Rattle.thorin_commands.specs.Opened.{TookEach, TookInputs, left}
 use Rattle.thorin_commands.specs.Packing.{AreAsked, manner_of}
 use Rattle.thorin_commands.specs.Taken.{DeclinesBytes, IsTakenFor, Manner, Offer}
 use Rattle.thorin_commands.specs.declared.packing.Packing.{Packing}
-use Rattle.thorin_commands.specs.declared.refusal.Refusal.{Refusal}
-use Rattle.thorin_commands.specs.declared.refusal.Refusal.TheVariants as refusals
+use Rattle.thorin_commands.specs.declared.no_package.NoPackage.{NoPackage}
+use Rattle.thorin_commands.specs.declared.no_package.NoPackage.TheVariants as refusals
 
 -- ---- the line
 
@@ -215,14 +215,14 @@ Stops failed unsplit _ = ⊥
 
 -- what is known of a refusal: a cause was told; or no input began a package, which isn't told yet;
 -- or a step failed
-abbrev pub Ends : (told unsplit : Type 0) → (Why : Failure → Type 0) → Refusal → Type 0
+abbrev pub Ends : (told unsplit : Type 0) → (Why : Failure → Type 0) → NoPackage → Type 0
 Ends told unsplit Why refusals.Told = told
 Ends told unsplit Why refusals.Empty = unsplit
 Ends told unsplit Why (refusals.Command failure) = Why failure
 
 -- before anything was written, by the causes that there may be
 abbrev pub Refuses : {W : Type 0} → (contents : W → Option (List ℕ)) → (failed : W → Type 0) → W
-    → (Cause → Type 0) → Refusal → Type 0
+    → (Cause → Type 0) → NoPackage → Type 0
 Refuses contents failed writer Causes refusal = Ends (Told contents writer Causes)
     (Causes (Unfinished errors.NoOutputObjectCreated)) (Stops (failed writer)
     (Causes (Unfinished errors.NoOutputObjectCreated))) refusal

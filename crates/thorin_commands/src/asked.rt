@@ -1,7 +1,9 @@
 //! The inputs that a command asks for, in order: objects and packages, then executables.
 
-ghost use Rattle.std.specs.Prelude.{◌≡◌, ◌++◌, ◌∷◌, [], Some, None, map, IfOk};
-ghost use Rattle.thorin_commands.specs.Packing.{asked, object_asked, executable_asked};
+ghost use Rattle.std.specs.Prelude.{◌≡◌, map, option_map, IfOk};
+ghost use Rattle.std.specs.Path.{path_bytes};
+ghost use Rattle.thorin_commands.specs.Packing.{asked, asks, executable_asked};
+ghost use Rattle.thorin_commands.specs.Warned.{path_of};
 
 use crate::packing::{Packing, paths_in};
 use std::alloc::{AllocError, Global};
@@ -25,6 +27,18 @@ fn executable_input(
     }
 }
 
+/// The path of an input; none where no path names it.
+pub(crate) fn path_of(input: Input<'_>) -> Option<Path<'_>>
+    ensures { option_map path_bytes result ≡ path_of input.entry }
+{
+    match input {
+        Input::Object(path)
+        | Input::Executable(path, _)
+        | Input::ExecutableSkippingNameless(path, _) => Some(path),
+        Input::Bytes(_) => None,
+    }
+}
+
 /// The path of an input that is an executable.
 pub(crate) fn executable_of(input: Input<'_>) -> Option<Path<'_>> {
     match input {
@@ -36,39 +50,19 @@ pub(crate) fn executable_of(input: Input<'_>) -> Option<Path<'_>> {
 /// The objects, and then the executables.
 pub(crate) fn inputs_of<'a>(
     alloc: Global,
-    objects: &[&'a str],
-    executables: &[&'a str],
-    missing: MissingReferencedObjectBehaviour,
-    nameless: NamelessUnits,
+    packing: &Packing<'_, 'a>,
 ) -> Result<Vec<Input<'a>>, AllocError>
-    ensures { IfOk result (λ inputs. map asked inputs.items ≡ map object_asked objects.now
-        ++ map (executable_asked (missing, nameless)) executables.now) }
+    ensures { IfOk result (λ inputs. map asked inputs.items ≡ asks packing.now) }
 {
+    let objects = paths_in(packing.inputs);
+    let executables = paths_in(packing.executables);
     let mut inputs = Vec::new(alloc);
     for object in objects {
         inputs.push(Input::Object(Path::new(*object)))?;
     }
     for executable in executables {
-        inputs.push(executable_input(*executable, missing, nameless))?;
+        inputs.push(executable_input(*executable, packing.missing, packing.nameless))?;
     }
-    Ok(inputs)
-}
-
-/// The same, and behind them one more object.
-pub(crate) fn inputs_with<'a>(
-    alloc: Global,
-    objects: &[&'a str],
-    executables: &[&'a str],
-    missing: MissingReferencedObjectBehaviour,
-    nameless: NamelessUnits,
-    last: &'a str,
-) -> Result<Vec<Input<'a>>, AllocError>
-    ensures { IfOk result (λ inputs. map asked inputs.items ≡ (map object_asked objects.now
-        ++ map (executable_asked (missing, nameless)) executables.now)
-        ++ Some (last.entry.now, None) ∷ []) }
-{
-    let mut inputs = inputs_of(alloc, objects, executables, missing, nameless)?;
-    inputs.push(Input::Object(Path::new(last)))?;
     Ok(inputs)
 }
 

@@ -1,12 +1,12 @@
 //! Type units that differ from the ones kept: which inputs brought both, and the type's name.
 
-ghost use Rattle.std.specs.Prelude.{◌≡◌, ◌++◌, ℕ, List, IfOk, OnOk, string_bytes};
+ghost use Rattle.std.specs.Prelude.{IfOk, string_bytes};
 ghost use Rattle.thorin_join.specs.Builder.{differing_in};
-ghost use Rattle.thorin_commands.specs.Warned.{TellNamed, TellsNamed, named_line};
+ghost use Rattle.thorin_commands.specs.Warned.{TellsNamed};
 
 use crate::origins::{Origin, Origins, printed_origin};
 use crate::reading::Inputs;
-use crate::telling::{Telling, unit_line};
+use crate::telling::{ReportOptions, unit_line};
 use dwp_bytes::RelocationEntry;
 use dwp_table::{DebugTypeSignature, DwarfObject};
 use std::alloc::{AllocError, Global};
@@ -26,14 +26,14 @@ pub(crate) struct Differences {
     alloc: Global,
     is_asked: bool,
     /// The names of the types of the file that was read last, by their signatures.
-    last: Cell<Option<BTreeMap<u64, String>>>,
+    names: Cell<BTreeMap<u64, String>>,
     /// What is told of those so far; none where there was no memory for it.
-    told: Cell<Option<Told>>,
+    texts: Cell<Option<Texts>>,
 }
 
 /// For each of them the type's name and the input, and how many bytes these have.
 #[derive(Drop)]
-struct Told {
+struct Texts {
     texts: Vec<String>,
     size: usize,
 }
@@ -46,74 +46,40 @@ pub(crate) struct Difference {
 }
 
 /// The lines of all, which are printed once the package is written, where that is asked for.
-#[tactic(auto, using(crate::proofs::Warned::with_names, crate::proofs::Warned::without_names))]
+#[tactic(auto, using(crate::proofs::Warned::without_names))]
 pub(crate) fn lines_of_differing<'o, 's: 'o, Sess: Session<RelocationEntry>, I: Inputs>(
     inputs: &I,
     builder: &DwarfPackage<'o, 's, Sess>,
-    telling: Telling,
+    options: ReportOptions,
 ) -> Result<String, AllocError>
-    ensures { IfOk result (λ lines. TellsNamed telling.names (differing_in builder.now.state)
+    ensures { IfOk result (λ lines. TellsNamed options.names (differing_in builder.now.state)
         (string_bytes lines)) }
 {
-    if telling.names {
-        named_lines(inputs, builder, telling.alloc)
-    } else {
-        Ok(String::new(telling.alloc))
-    }
-}
-
-/// The line of each.
-fn named_lines<'o, 's: 'o, Sess: Session<RelocationEntry>, I: Inputs>(
-    inputs: &I,
-    builder: &DwarfPackage<'o, 's, Sess>,
-    alloc: Global,
-) -> Result<String, AllocError>
-    ensures { IfOk result (λ lines. TellNamed (differing_in builder.now.state)
-        (string_bytes lines)) }
-{
+    let alloc = options.alloc;
     let mut lines = String::new(alloc);
+    if !options.names {
+        return Ok(lines);
+    }
     let differing = builder.differing_types();
     for number in 0..differing.len() {
+        let signature = differing[number];
         let more = if lines.len() < MOST {
-            known_of(inputs, builder, number, differing[number])?
+            let unit = DwarfObject::TypeUnit(signature);
+            let kept = builder.contained_units().get_index_of(&unit);
+            inputs.difference(Difference { number, kept })?
         } else {
             String::new(alloc)
         };
-        put_named(alloc, differing[number], more.as_str(), &mut lines)?;
+        let line = unit_line(
+            alloc,
+            "warning: type unit 0x",
+            signature.0,
+            " differs from the one kept",
+            more.as_str(),
+        )?;
+        lines.push_str(line.as_str())?;
     }
     Ok(lines)
-}
-
-/// What is known of one, by its place among them.
-fn known_of<'o, 's: 'o, Sess: Session<RelocationEntry>, I: Inputs>(
-    inputs: &I,
-    builder: &DwarfPackage<'o, 's, Sess>,
-    number: usize,
-    signature: DebugTypeSignature,
-) -> Result<String, AllocError> {
-    let unit = DwarfObject::TypeUnit(signature);
-    let kept = builder.contained_units().get_index_of(&unit);
-    inputs.difference(Difference { number, kept })
-}
-
-/// Adds the line of one, with what is known of it.
-fn put_named(
-    alloc: Global,
-    signature: DebugTypeSignature,
-    more: &str,
-    lines: &mut String,
-) -> Result<(), AllocError>
-    ensures { OnOk result (string_bytes lines.new ≡ string_bytes lines.old
-        ++ named_line signature.0 more.now) }
-{
-    let line = unit_line(
-        alloc,
-        "warning: type unit 0x",
-        signature.0,
-        " differs from the one kept",
-        more,
-    )?;
-    lines.push_str(line.as_str())
 }
 
 impl Differences {
@@ -123,15 +89,16 @@ impl Differences {
         Differences {
             alloc,
             is_asked,
-            last: Cell::new(None),
-            told: Cell::new(Some(Told { texts, size: 0 })),
+            names: Cell::new(BTreeMap::new(alloc)),
+            texts: Cell::new(Some(Texts { texts, size: 0 })),
         }
     }
 
     /// Looks for the names of the types of a file that is read.
     pub(crate) fn look_at(&self, file: &[u8]) {
         if self.is_asked {
-            self.last.set(type_names(self.alloc, file).ok());
+            let names = type_names(self.alloc, file);
+            self.names.set(names.unwrap_or(BTreeMap::new(self.alloc)));
         }
     }
 
@@ -140,13 +107,13 @@ impl Differences {
         if !self.is_asked {
             return;
         }
-        let last = self.last.replace(None);
-        if let Some(mut told) = self.told.replace(None) {
-            if told.add(self.alloc, origin, differing, &last).is_ok() {
-                self.told.set(Some(told));
+        let names = self.names.replace(BTreeMap::new(self.alloc));
+        if let Some(mut texts) = self.texts.replace(None) {
+            if texts.add(self.alloc, origin, differing, &names).is_ok() {
+                self.texts.set(Some(texts));
             }
         }
-        self.last.set(last);
+        self.names.set(names);
     }
 
     /// What is known of one, by what brought the package's units.
@@ -155,24 +122,24 @@ impl Differences {
     /// Want of memory.
     pub(crate) fn of(&self, it: Difference, origins: &Origins) -> Result<String, AllocError> {
         let mut text = String::new(self.alloc);
-        let told = self.told.replace(None);
-        put_more(&told, it, origins, &mut text)?;
-        self.told.set(told);
+        let texts = self.texts.replace(None);
+        put_more(&texts, it, origins, &mut text)?;
+        self.texts.set(texts);
         Ok(text)
     }
 }
 
 /// Adds what is known of one to its line.
 fn put_more(
-    told: &Option<Told>,
+    texts: &Option<Texts>,
     it: Difference,
     origins: &Origins,
     line: &mut String,
 ) -> Result<(), AllocError> {
-    let Some(told) = told else {
+    let Some(texts) = texts else {
         return Ok(());
     };
-    match told.texts.get(it.number) {
+    match texts.texts.get(it.number) {
         Some(text) if !text.is_empty() => line.push_str(text.as_str())?,
         _ => return Ok(()),
     }
@@ -182,14 +149,14 @@ fn put_more(
     }
 }
 
-impl Told {
-    /// Adds those that aren't told of yet, which this brought.
+impl Texts {
+    /// Adds those that have no text yet, which this brought.
     fn add(
         &mut self,
         alloc: Global,
         origin: Origin<'_>,
         differing: &[DebugTypeSignature],
-        names: &Option<BTreeMap<u64, String>>,
+        names: &BTreeMap<u64, String>,
     ) -> Result<(), AllocError> {
         if self.texts.len() >= differing.len() {
             return Ok(());
@@ -197,7 +164,7 @@ impl Told {
         let place = printed_origin(alloc, origin)?;
         for signature in &differing[self.texts.len()..] {
             let text = if self.size < MOST {
-                text_of(alloc, name_of(names, *signature), place.as_str())?
+                text_of(alloc, names.get(&signature.0), place.as_str())?
             } else {
                 String::new(alloc)
             };
@@ -208,22 +175,10 @@ impl Told {
     }
 }
 
-/// The name of a type, empty where it isn't known.
-fn name_of(names: &Option<BTreeMap<u64, String>>, signature: DebugTypeSignature) -> &str {
-    match names {
-        Some(names) => match names.get(&signature.0) {
-            Some(name) => name.as_str(),
-            None => "",
-        },
-        None => "",
-    }
-}
-
-/// What is told of a type unit of a name and an input.
-fn text_of(alloc: Global, name: &str, place: &str) -> Result<String, AllocError> {
-    if name.is_empty() {
-        format!(in alloc; ": in {place}")
-    } else {
-        format!(in alloc; ": {name} in {place}")
+/// What is told of a type unit of a name, where that is known, and an input.
+fn text_of(alloc: Global, name: Option<&String>, place: &str) -> Result<String, AllocError> {
+    match name {
+        Some(name) if !name.is_empty() => format!(in alloc; ": {name} in {place}"),
+        _ => format!(in alloc; ": in {place}"),
     }
 }

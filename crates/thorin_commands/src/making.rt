@@ -12,16 +12,16 @@ ghost use Rattle.thorin_join.specs.Represents.{units_in};
 ghost use Rattle.thorin_commands.specs.Cause.{IsCauseOf, IsUnfinished, Refuses, StopsAt};
 ghost use Rattle.thorin_commands.specs.Cause.{Unfinished};
 ghost use Rattle.thorin_commands.specs.Made.{FillsTelling, IsMade};
-ghost use Rattle.thorin_commands.specs.declared.refusal.Refusal.TheVariants.{Empty};
+ghost use Rattle.thorin_commands.specs.declared.no_package.NoPackage.TheVariants.{Empty};
 ghost use Rattle.thorin_commands.specs.Warned.{TellsUnsplitRun};
 ghost use Rattle.thorin_output.specs.Warnings.{IsPrinted};
 
 use crate::differences::lines_of_differing;
 use crate::missing::leave_out;
+use crate::no_package::NoPackage;
 use crate::reading::Inputs;
-use crate::refusal::Refusal;
 use crate::taking::take_all;
-use crate::telling::{Telling, tell_unfinished, warn_unsplit};
+use crate::telling::{ReportOptions, tell_unfinished, warn_unsplit};
 use bumpalo::Bump;
 use dwp_bytes::RelocationEntry;
 use dwp_elf::WritableObject;
@@ -39,48 +39,26 @@ use thorin_sessions::Session;
 pub(crate) fn packed_inputs<I: Inputs, E: LineOutput>(
     inputs: &I,
     list: &[Input<'_>],
-    telling: Telling,
+    options: ReportOptions,
     err: &mut E,
-) -> Result<(WritableObject, Vec<DebugTypeSignature>, String), Refusal>
-    ensures made { IfOk result (λ made. IsMade telling.verbose telling.warns telling.partial
-        telling.names (I.opens inputs.now) (I.manner inputs.now) (I.offer inputs.now) list.now
+) -> Result<(WritableObject, Vec<DebugTypeSignature>, String), NoPackage>
+    ensures made { IfOk result (λ made. IsMade options.verbose options.warns options.partial
+        options.names (I.opens inputs.now) (I.manner inputs.now) (I.offer inputs.now) list.now
         (E.contents err.old) (E.contents err.new) made.0 made.1.items (string_bytes made.2)) }
     ensures tried { IfErr result (λ refusal. refusal ≡ Empty
         → IsPrinted (E.contents err.old) (E.contents err.new)
-        (TellsUnsplitRun telling.verbose telling.warns telling.partial (I.opens inputs.now)
+        (TellsUnsplitRun options.verbose options.warns options.partial (I.opens inputs.now)
         (I.manner inputs.now) (I.offer inputs.now) list.now)) }
-    ensures told { IfErr result (Refuses E.contents E.failed err.new (IsCauseOf telling.partial
-        (I.opens inputs.now) (I.manner inputs.now) (I.offer inputs.now) (I.declines inputs.now)
-        list.now)) }
-{
-    let bump = Bump::new(telling.alloc);
-    let session = BytesSession::new(&bump);
-    packed_over(&session, inputs, list, telling, err)
-}
-
-/// The same, over a session that holds what is read.
-fn packed_over<'s, Sess: Session<RelocationEntry>, I: Inputs, E: LineOutput>(
-    session: &'s Sess,
-    inputs: &I,
-    list: &[Input<'_>],
-    telling: Telling,
-    err: &mut E,
-) -> Result<(WritableObject, Vec<DebugTypeSignature>, String), Refusal>
-    ensures made { IfOk result (λ made. IsMade telling.verbose telling.warns telling.partial
-        telling.names (I.opens inputs.now) (I.manner inputs.now) (I.offer inputs.now) list.now
-        (E.contents err.old) (E.contents err.new) made.0 made.1.items (string_bytes made.2)) }
-    ensures tried { IfErr result (λ refusal. refusal ≡ Empty
-        → IsPrinted (E.contents err.old) (E.contents err.new)
-        (TellsUnsplitRun telling.verbose telling.warns telling.partial (I.opens inputs.now)
-        (I.manner inputs.now) (I.offer inputs.now) list.now)) }
-    ensures told { IfErr result (Refuses E.contents E.failed err.new (IsCauseOf telling.partial
+    ensures told { IfErr result (Refuses E.contents E.failed err.new (IsCauseOf options.partial
         (I.opens inputs.now) (I.manner inputs.now) (I.offer inputs.now) (I.declines inputs.now)
         list.now)) }
 {
     runs_go_on(inputs);
-    let mut builder = DwarfPackage::new(telling.alloc, session);
-    match fill(inputs, &mut builder, list, telling, err) {
-        Ok(lines) => finished(telling.alloc, inputs, builder, lines, err),
+    let bump = Bump::new(options.alloc);
+    let session = BytesSession::new(&bump);
+    let mut builder = DwarfPackage::new(options.alloc, &session);
+    match fill(inputs, &mut builder, list, options, err) {
+        Ok(lines) => finished(options.alloc, inputs, builder, lines, err),
         Err(refusal) => {
             drop(builder);
             Err(refusal)
@@ -95,21 +73,21 @@ fn fill<'o, 's: 'o, Sess: Session<RelocationEntry>, I: Inputs, E: LineOutput>(
     inputs: &I,
     builder: &mut DwarfPackage<'o, 's, Sess>,
     list: &[Input<'_>],
-    telling: Telling,
+    options: ReportOptions,
     err: &mut E,
-) -> Result<String, Refusal>
-    ensures fills { IfOk result (λ lines. FillsTelling telling.verbose telling.warns telling.partial
-        telling.names (I.opens inputs.now) (I.manner inputs.now) (I.offer inputs.now) list.now
+) -> Result<String, NoPackage>
+    ensures fills { IfOk result (λ lines. FillsTelling options.verbose options.warns options.partial
+        options.names (I.opens inputs.now) (I.manner inputs.now) (I.offer inputs.now) list.now
         builder.old.state builder.new.state (E.contents err.old) (E.contents err.new)
         (string_bytes lines)) }
     ensures told { IfErr result (Refuses E.contents E.failed err.new (StopsAt (I.opens inputs.now)
         (I.manner inputs.now) (I.offer inputs.now) (I.declines inputs.now) list.now
         builder.old.state)) }
 {
-    let lacks = take_all(inputs, builder, list, telling, err)?;
-    warn_unsplit(inputs, builder, list, lacks.as_slice(), telling, err)?;
-    let lines = lines_of_differing(inputs, builder, telling)?;
-    leave_out(inputs, builder, telling, err)?;
+    let lacks = take_all(inputs, builder, list, options, err)?;
+    warn_unsplit(inputs, builder, list, lacks.as_slice(), options, err)?;
+    let lines = lines_of_differing(inputs, builder, options)?;
+    leave_out(inputs, builder, options, err)?;
     Ok(lines)
 }
 
@@ -121,7 +99,7 @@ fn finished<'o, 's: 'o, Sess: Session<RelocationEntry>, I: Inputs, E: LineOutput
     builder: DwarfPackage<'o, 's, Sess>,
     lines: String,
     err: &mut E,
-) -> Result<(WritableObject, Vec<DebugTypeSignature>, String), Refusal>
+) -> Result<(WritableObject, Vec<DebugTypeSignature>, String), NoPackage>
     ensures finished { IfOk result (λ made. (finish_test builder.entry.state ≡ Ok tt)
         × IsFinishedState builder.entry.state made.0) }
     ensures packaged { IfOk result (λ made.
@@ -151,17 +129,17 @@ fn unfinished<I: Inputs, E: LineOutput>(
     inputs: &I,
     error: &Error,
     err: &mut E,
-) -> Refusal
+) -> NoPackage
     ensures told { Refuses E.contents E.failed err.new (λ cause. cause ≡ Unfinished error.now)
         result }
     ensures empty { result ≡ Empty → err.new ≡ err.old }
 {
     if let Error::NoOutputObjectCreated = error {
-        return Refusal::Empty;
+        return NoPackage::Empty;
     }
     match tell_unfinished(alloc, inputs, error, err) {
-        Ok(()) => Refusal::Told,
-        Err(failure) => Refusal::Command(failure),
+        Ok(()) => NoPackage::Told,
+        Err(failure) => NoPackage::Command(failure),
     }
 }
 

@@ -5,16 +5,16 @@ ghost use Rattle.std.specs.Prelude.{◌≡◌, ◌≤◌, OnOk, IfOk, IfErr};
 ghost use Rattle.thorin_output.specs.Warnings.{IsPrinted};
 ghost use Rattle.thorin_print.specs.Answers.{FailsBy};
 ghost use Rattle.thorin_commands.specs.Opened.{left};
-ghost use Rattle.thorin_commands.specs.Warned.{IsLeftLine, TellLeft, TellsLeft, missing_in};
+ghost use Rattle.thorin_commands.specs.Warned.{TellLeft, TellsLeft, missing_in};
 
 use crate::packing::{Packing, paths_in};
 use crate::plain::InputFiles;
 use crate::reading::Inputs;
-use crate::telling::{Telling, tell_why, text_in, unit_line};
+use crate::telling::{ReportOptions, tell_why, unit_line};
 use bumpalo::Bump;
 use dwp_bytes::RelocationEntry;
-use dwp_table::{Bucketable, DwarfObject};
-use std::alloc::{AllocError, Global};
+use dwp_table::Bucketable;
+use std::alloc::Global;
 use std::collections::HashSet;
 use std::io::Write;
 use std::path::Path;
@@ -33,18 +33,18 @@ use thorin_sessions::Session;
 pub(crate) fn leave_out<'o, 's: 'o, Sess: Session<RelocationEntry>, I: Inputs, E: LineOutput>(
     inputs: &I,
     builder: &mut DwarfPackage<'o, 's, Sess>,
-    telling: Telling,
+    options: ReportOptions,
     err: &mut E,
 ) -> Result<(), Failure>
-    ensures left { OnOk result (builder.new.state ≡ left telling.partial builder.old.state) }
+    ensures left { OnOk result (builder.new.state ≡ left options.partial builder.old.state) }
     ensures lines { OnOk result (IsPrinted (E.contents err.old) (E.contents err.new)
-        (TellsLeft telling.partial builder.old.state)) }
+        (TellsLeft options.partial builder.old.state)) }
     ensures blamed { IfErr result (FailsBy (E.failed err.new)) }
 {
-    if !telling.partial {
+    if !options.partial {
         return Ok(());
     }
-    tell_missing(telling.alloc, builder, &inputs.absent_units(), err)?;
+    tell_missing(options.alloc, builder, &inputs.absent_units(), err)?;
     builder.forget_targets();
     Ok(())
 }
@@ -61,26 +61,12 @@ fn tell_missing<'o, 's: 'o, Sess: Session<RelocationEntry>, E: LineOutput>(
     ensures blamed { IfErr result (FailsBy (E.failed err.new)) }
 {
     for target in builder.missing_targets() {
-        tell_one(alloc, target, absent, err)?;
+        let unit = target.index();
+        let reason = absent.reason(unit).unwrap_or("not found");
+        let line = unit_line(alloc, "warning: unit 0x", unit, ": ", reason)?;
+        err.print_text(line.as_str())?;
     }
     Ok(())
-}
-
-/// Warns of one of them.
-fn tell_one<E: LineOutput>(
-    alloc: Global,
-    target: DwarfObject,
-    absent: &AbsentUnits,
-    err: &mut E,
-) -> Result<(), Failure>
-    ensures line { OnOk result (IsPrinted (E.contents err.old) (E.contents err.new)
-        (IsLeftLine target)) }
-    ensures blamed { IfErr result (FailsBy (E.failed err.new)) }
-{
-    let unit = target.index();
-    let reason = absent.reason(unit).unwrap_or("not found");
-    let line = unit_line(alloc, "warning: unit 0x", unit, ": ", reason)?;
-    err.print_text(line.as_str())
 }
 
 /// Prints the path of each object that executables name and that can't be read, one a line, each
@@ -114,7 +100,7 @@ fn list_over<I: Inputs, O: Write>(
     executables: &[&str],
     nameless: NamelessUnits,
     out: &mut O,
-) -> Result<bool, Unlisted> {
+) -> Result<bool, ListFailure> {
     let mut lines = buffer(alloc, out)?;
     let listed = list_all(alloc, inputs, executables, nameless, &mut lines);
     flush(&mut lines)?;
@@ -125,7 +111,7 @@ fn list_over<I: Inputs, O: Write>(
 fn status_of<I: Inputs, E: Write>(
     alloc: Global,
     inputs: &I,
-    listed: Result<bool, Unlisted>,
+    listed: Result<bool, ListFailure>,
     err: &mut E,
 ) -> Result<u8, Failure>
     ensures { IfOk result (λ status. status ≤ 1) }
@@ -133,32 +119,32 @@ fn status_of<I: Inputs, E: Write>(
     match listed {
         Ok(false) => Ok(0),
         Ok(true) => Ok(1),
-        Err(Unlisted::Refused(why, place)) => {
-            tell_why(alloc, inputs, &why, text_in(&place), None, err)?;
+        Err(ListFailure::Refused(why, place)) => {
+            tell_why(alloc, inputs, &why, place.as_deref(), None, err)?;
             Ok(1)
         }
-        Err(Unlisted::Failed(failure)) => Err(failure),
+        Err(ListFailure::Command(failure)) => Err(failure),
     }
 }
 
 /// Why no more is listed.
 #[derive(Drop)]
-enum Unlisted {
+enum ListFailure {
     /// An executable is refused: why, and which, as it is printed.
     Refused(NotTaken<Error, Growth>, Option<String>),
     /// What the command was given can't be done.
-    Failed(Failure),
+    Command(Failure),
 }
 
-impl From<Error> for Unlisted {
-    fn from(error: Error) -> Unlisted {
-        Unlisted::Refused(NotTaken::Failed(error), None)
+impl From<Error> for ListFailure {
+    fn from(error: Error) -> ListFailure {
+        ListFailure::Refused(NotTaken::Failed(error), None)
     }
 }
 
-impl From<Failure> for Unlisted {
-    fn from(failure: Failure) -> Unlisted {
-        Unlisted::Failed(failure)
+impl From<Failure> for ListFailure {
+    fn from(failure: Failure) -> ListFailure {
+        ListFailure::Command(failure)
     }
 }
 
@@ -169,7 +155,7 @@ fn list_all<I: Inputs, W: Write>(
     executables: &[&str],
     nameless: NamelessUnits,
     lines: &mut W,
-) -> Result<bool, Unlisted> {
+) -> Result<bool, ListFailure> {
     let mut seen = HashSet::new(alloc);
     let mut is_one_missing = false;
     for executable in executables {
@@ -188,18 +174,18 @@ fn list_of<I: Inputs, W: Write>(
     nameless: NamelessUnits,
     seen: &mut HashSet<String>,
     lines: &mut W,
-) -> Result<bool, Unlisted> {
+) -> Result<bool, ListFailure> {
     let path = Path::new(executable);
     let mut room = Vec::new(alloc);
     inputs.begin(Input::Executable(path, MissingReferencedObjectBehaviour::Skip));
     let listed = match inputs.read_into(true, path, &mut room) {
         Ok(bytes) => list_read(alloc, inputs, bytes, nameless, seen, lines),
-        Err(why) => Err(Unlisted::Refused(NotTaken::from(why), None)),
+        Err(why) => Err(ListFailure::Refused(NotTaken::from(why), None)),
     };
     match listed {
-        Err(Unlisted::Refused(why, _)) => {
+        Err(ListFailure::Refused(why, _)) => {
             let place = place_of(alloc, executable, None).ok();
-            Err(Unlisted::Refused(why, place))
+            Err(ListFailure::Refused(why, place))
         }
         listed => listed,
     }
@@ -213,7 +199,7 @@ fn list_read<I: Inputs, W: Write>(
     nameless: NamelessUnits,
     seen: &mut HashSet<String>,
     lines: &mut W,
-) -> Result<bool, Unlisted> {
+) -> Result<bool, ListFailure> {
     let bump = Bump::new(alloc);
     let session = BytesSession::new(&bump);
     match NamedUnits::read_by(alloc, &session, bytes, nameless) {
@@ -222,7 +208,7 @@ fn list_read<I: Inputs, W: Write>(
             drop(units);
             listed
         }
-        Err(error) => Err(Unlisted::from(error)),
+        Err(error) => Err(ListFailure::from(error)),
     }
 }
 
@@ -233,26 +219,20 @@ fn list_each<I: Inputs, W: Write>(
     units: &mut NamedUnits<'_>,
     seen: &mut HashSet<String>,
     lines: &mut W,
-) -> Result<bool, Unlisted> {
+) -> Result<bool, ListFailure> {
     let mut is_one_missing = false;
     while let Some(unit) = units.next()? {
         if unit.is_repeated {
             continue;
         }
-        admit(inputs, units.path())?;
+        if let Err(why) = admit_path(inputs, units.path()) {
+            return Err(ListFailure::Refused(NotTaken::Declined(why), None));
+        }
         if list_path(alloc, inputs, units.path(), seen, lines)? {
             is_one_missing = true;
         }
     }
     Ok(is_one_missing)
-}
-
-/// Whether a path may be tried.
-fn admit<I: Inputs>(inputs: &I, path: &str) -> Result<(), Unlisted> {
-    match admit_path(inputs, path) {
-        Ok(()) => Ok(()),
-        Err(why) => Err(Unlisted::Refused(NotTaken::Declined(why), None)),
-    }
 }
 
 /// Prints the path of an object that an executable names where it can't be read, unless the path
@@ -269,29 +249,10 @@ fn list_path<I: Inputs, W: Write>(
     if seen.contains(&told) {
         return Ok(false);
     }
-    let is_missing = put_missing(inputs, path.as_str(), told.as_str(), lines)?;
-    keep(seen, told)?;
+    let is_missing = inputs.is_unreadable(path.as_str())?;
+    if is_missing && writeln!(lines, "{told}").is_err() {
+        return Err(Failure::Line);
+    }
+    seen.insert(told)?;
     Ok(is_missing)
-}
-
-/// Prints a path as it is told, where the object there can't be read.
-fn put_missing<I: Inputs, W: Write>(
-    inputs: &I,
-    path: &str,
-    told: &str,
-    lines: &mut W,
-) -> Result<bool, Failure> {
-    if inputs.unreadable(path)?.is_none() {
-        return Ok(false);
-    }
-    match writeln!(lines, "{told}") {
-        Ok(()) => Ok(true),
-        Err(_) => Err(Failure::Line),
-    }
-}
-
-/// Keeps a path that was looked for, as it is told.
-fn keep(seen: &mut HashSet<String>, path: String) -> Result<(), AllocError> {
-    seen.insert(path)?;
-    Ok(())
 }

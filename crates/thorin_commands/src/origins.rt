@@ -81,16 +81,14 @@ impl Origins {
         }
     }
 
-    /// What brought the unit at a place among the package's; none where that isn't known. Asked for
-    /// once.
+    /// What brought the unit at a place among the package's; none where that isn't known.
     pub(crate) fn of(&self, place: usize) -> Option<String> {
-        let taken = self.taken.replace(None)?;
-        for (count, origin) in taken {
-            if place < count {
-                return Some(origin);
-            }
+        let mut origin = String::new(self.alloc);
+        self.put("", place, &mut origin).ok()?;
+        if origin.is_empty() {
+            return None;
         }
-        None
+        Some(origin)
     }
 
     /// Adds words and what brought the unit at a place to a line, where that is known.
@@ -104,8 +102,8 @@ impl Origins {
         line: &mut String,
     ) -> Result<(), AllocError> {
         let taken = self.taken.replace(None);
-        let put = match &taken {
-            Some(taken) => put_origin(words, origin_at(taken.as_slice(), place), line),
+        let put = match origin_at(&taken, place) {
+            Some(origin) => write!(line, "{words}{origin}"),
             None => Ok(()),
         };
         self.taken.set(taken);
@@ -113,29 +111,12 @@ impl Origins {
     }
 }
 
-/// Adds words and what brought a unit to a line, where that is known.
-fn put_origin(words: &str, origin: Option<&str>, line: &mut String) -> Result<(), AllocError> {
-    match origin {
-        Some(origin) => write!(line, "{words}{origin}"),
-        None => Ok(()),
-    }
-}
-
 /// What brought the unit at a place: the first behind which the package has more units than stand
-/// before it. Their numbers grow, so half of those that are left are put aside in turn.
-fn origin_at(taken: &[(usize, String)], place: usize) -> Option<&str> {
-    let mut rest = taken;
-    for _ in 0..usize::BITS {
-        let (front, back) = rest.split_at(rest.len() / 2);
-        rest = match front.last() {
-            Some((count, _)) if place < *count => front,
-            _ => back,
-        };
-    }
-    match rest.first() {
-        Some((count, origin)) if place < *count => Some(origin.as_str()),
-        _ => None,
-    }
+/// before it. Their numbers grow.
+fn origin_at(taken: &Option<Vec<(usize, String)>>, place: usize) -> Option<&str> {
+    let taken = taken.as_ref()?.as_slice();
+    let (_, origin) = taken.get(taken.partition_point(|entry| entry.0 <= place))?;
+    Some(origin.as_str())
 }
 
 /// Adds what is taken now to what was taken, where the package has more units than before.

@@ -1,7 +1,6 @@
 //! `thorin pack`.
 
-ghost use Rattle.std.specs.Prelude.{◌≡◌, ◌⊎◌, ◌≤◌, ◌++◌, ℕ, List, Ok, Some, IfOk, IfErr, map};
-ghost use Rattle.std.specs.Prelude.{string_bytes};
+ghost use Rattle.std.specs.Prelude.{◌≡◌, ◌⊎◌, ◌≤◌, Ok, Some, IfOk, IfErr, map, string_bytes};
 ghost use Rattle.std.specs.Prelude.{true, false, IsTrue, OnOk};
 ghost use Rattle.thorin_output.specs.Files.{Put, Begins};
 ghost use Rattle.thorin_commands.specs.Cause.{Ends, IsCauseFor, Refuses, Told, Unfinished};
@@ -12,20 +11,20 @@ ghost use Rattle.thorin_commands.specs.Made.{IsMadeFor, IsReady};
 ghost use Rattle.thorin_commands.specs.Packing.{out_of, Packs, Comes};
 ghost use Rattle.thorin_commands.specs.Packing.{AllApart, Fails, IsNoInput, asked, asks};
 ghost use Rattle.thorin_commands.specs.Packing.{declines, manner_of, paths_in, reads};
-ghost use Rattle.thorin_commands.specs.Warned.{PacksTelling, TellsInputs, TellsMacros, TellsTaken};
-ghost use Rattle.thorin_commands.specs.Warned.{names, others};
+ghost use Rattle.thorin_commands.specs.Warned.{PacksTelling, TellsTaken, names, others};
 
-use crate::asked::{inputs_of, inputs_with};
+use crate::asked::inputs_of;
 use crate::making::packed_inputs;
+use crate::no_package::NoPackage;
 use crate::plain::InputFiles;
 use crate::reading::Inputs;
-use crate::refusal::Refusal;
-use crate::telling::{Telling, print_error};
+use crate::telling::{ReportOptions, print_error};
 use dwp_elf::WritableObject;
 use dwp_macros::KeptMacros;
 use dwp_table::DebugTypeSignature;
 use std::alloc::{AllocError, Global};
 use std::io::Write;
+use std::path::Path;
 use thorin::{Input, NamelessUnits};
 use thorin_errors::{Error, MissingReferencedObjectBehaviour};
 use thorin_output::{FileSystem, Warned, Warnings, write_then_warn};
@@ -154,7 +153,7 @@ fn has_file<F: FileSystem>(files: &F, names: &[&str], file: &str) -> bool
 /// `Output` where the package's file can't be written, `Overwrites` where it is an input;
 /// `BadCommand` where there is no name for it; `Line` or `Memory`; `Input` where nothing is split,
 /// and the executable can't be read a second time.
-#[tactic(auto, using(crate::proofs::Puts::when_done, crate::proofs::Puts::when_empty, crate::proofs::Puts::when_told, crate::proofs::Puts::when_failed, crate::proofs::Puts::early, crate::proofs::Causes::told_empty, crate::proofs::Whys::why_printing))]
+#[tactic(auto, using(crate::proofs::Puts::when_done, crate::proofs::Puts::when_empty, crate::proofs::Puts::when_told, crate::proofs::Puts::when_failed, crate::proofs::Puts::early, crate::proofs::Causes::told_empty, crate::proofs::Whys::why_printing, crate::proofs::Whys::why_nameless))]
 pub fn pack<F: FileSystem, O: Write, E: LineOutput>(
     alloc: Global,
     files: &mut F,
@@ -181,50 +180,19 @@ pub fn pack<F: FileSystem, O: Write, E: LineOutput>(
     ensures apart { packing.now.force ≡ false
         → (files.new ≡ files.old) ⊎ IsNoInput (F.known files.old) packing.now }
 {
-    match pack_all(alloc, files, packing, out, err) {
+    let output = packing.output_name(alloc)?;
+    match pack_under(alloc, files, packing, output.as_str(), out, err) {
         Ok(()) => Ok(0),
-        Err(Refusal::Empty) => match print_error(alloc, &Error::NoOutputObjectCreated, err) {
+        Err(NoPackage::Empty) => match print_error(alloc, &Error::NoOutputObjectCreated, err) {
             Ok(()) => Ok(1),
             Err(failure) => Err(failure),
         },
-        Err(Refusal::Told) => Ok(1),
-        Err(Refusal::Command(failure)) => Err(failure),
+        Err(NoPackage::Told) => Ok(1),
+        Err(NoPackage::Command(failure)) => Err(failure),
     }
 }
 
-/// The same, but for the line that says that no input began a package.
-#[tactic(auto, using(crate::proofs::Puts::stopped, crate::proofs::Whys::why_nameless))]
-fn pack_all<F: FileSystem, O: Write, E: LineOutput>(
-    alloc: Global,
-    files: &mut F,
-    packing: &Packing<'_, '_>,
-    out: &mut O,
-    err: &mut E,
-) -> Result<(), Refusal>
-    ensures apart { packing.now.force ≡ false
-        → (files.new ≡ files.old) ⊎ IsNoInput (F.known files.old) packing.now }
-    ensures comes { Comes result ((files.new ≡ files.old) × (out.new ≡ out.old))
-        (Packs (reads packing.now (F.offer files.old)) packing.now
-        (Begins F.begun O.contents files.old files.new out.old out.new))
-        (Packs (reads packing.now (F.offer files.old)) packing.now
-        (Put F.begun O.contents files.old files.new out.old out.new)) }
-    ensures warned { OnOk result (PacksTelling (reads packing.now (F.offer files.old)) packing.now
-        (Put F.begun O.contents files.old files.new out.old out.new)
-        (E.contents err.old) (E.contents err.new)) }
-    ensures told { IfErr result (Ends (Told E.contents err.new (IsCauseFor
-        (reads packing.now (F.offer files.old)) (declines packing.now (F.offer files.old))
-        packing.now)) (IsCauseFor (reads packing.now (F.offer files.old)) (declines packing.now
-        (F.offer files.old)) packing.now (Unfinished NoOutputObjectCreated))
-        (FailsPacking F.offer F.known F.begun O.contents
-        packing.now files.old files.new out.old out.new (E.failed err.new))) }
-{
-    match packing.output_name(alloc) {
-        Ok(output) => pack_under(alloc, files, packing, output.as_str(), out, err),
-        Err(failure) => Err(Refusal::Command(failure)),
-    }
-}
-
-/// Packs what is asked for under a name.
+/// The same under a name, but for the line that says that no input began a package.
 #[tactic(auto, using(crate::proofs::Puts::stopped, crate::proofs::Whys::ends))]
 fn pack_under<F: FileSystem, O: Write, E: LineOutput>(
     alloc: Global,
@@ -233,7 +201,7 @@ fn pack_under<F: FileSystem, O: Write, E: LineOutput>(
     output: &str,
     out: &mut O,
     err: &mut E,
-) -> Result<(), Refusal>
+) -> Result<(), NoPackage>
     requires { out_of packing.now ≡ Some output.now }
     ensures apart { packing.now.force ≡ false
         → (files.new ≡ files.old) ⊎ IsNoInput (F.known files.old) packing.now }
@@ -253,7 +221,7 @@ fn pack_under<F: FileSystem, O: Write, E: LineOutput>(
         packing.now files.old files.new out.old out.new (E.failed err.new))) }
 {
     if packing.overwrites(files, output) {
-        return Err(Refusal::Command(Failure::Overwrites));
+        return Err(NoPackage::Command(Failure::Overwrites));
     }
     match packed(alloc, files, packing, err) {
         Ok((object, differing, lines)) => {
@@ -265,7 +233,7 @@ fn pack_under<F: FileSystem, O: Write, E: LineOutput>(
             };
             match write_then_warn(files, &object, warned, output, out, err) {
                 Ok(()) => Ok(()),
-                Err(failure) => Err(Refusal::Command(failure)),
+                Err(failure) => Err(NoPackage::Command(failure)),
             }
         }
         Err(refusal) => Err(refusal),
@@ -280,76 +248,19 @@ fn packed<F: FileSystem, E: LineOutput>(
     files: &F,
     packing: &Packing<'_, '_>,
     err: &mut E,
-) -> Result<(WritableObject, Vec<DebugTypeSignature>, String), Refusal>
+) -> Result<(WritableObject, Vec<DebugTypeSignature>, String), NoPackage>
     ensures ready { IfOk result (λ made. IsReady (reads packing.now (F.offer files.now)) packing.now
         (E.contents err.old) (E.contents err.new) made.0 made.1.items (string_bytes made.2)) }
     ensures told { IfErr result (Refuses E.contents E.failed err.new (IsCauseFor
         (reads packing.now (F.offer files.now)) (declines packing.now (F.offer files.now))
         packing.now)) }
 {
-    let objects = paths_in(packing.inputs);
-    let executables = paths_in(packing.executables);
-    let list = inputs_of(
-        alloc,
-        objects,
-        executables,
-        packing.missing,
-        packing.nameless,
-    )?;
-    packed_from(alloc, files, packing, list.as_slice(), err)
-}
-
-/// The same of the list of what is asked for.
-#[tactic(auto, using(crate::proofs::Causes::told_alike))]
-fn packed_from<F: FileSystem, E: LineOutput>(
-    alloc: Global,
-    files: &F,
-    packing: &Packing<'_, '_>,
-    list: &[Input<'_>],
-    err: &mut E,
-) -> Result<(WritableObject, Vec<DebugTypeSignature>, String), Refusal>
-    requires { map asked list.now ≡ asks packing.now }
-    ensures ready { IfOk result (λ made. IsReady (reads packing.now (F.offer files.now)) packing.now
-        (E.contents err.old) (E.contents err.new) made.0 made.1.items (string_bytes made.2)) }
-    ensures told { IfErr result (Refuses E.contents E.failed err.new (IsCauseFor
-        (reads packing.now (F.offer files.now)) (declines packing.now (F.offer files.now))
-        packing.now)) }
-{
+    let list = inputs_of(alloc, packing)?;
     let inputs = InputFiles::new(alloc, files, packing)?;
-    match packed_by(alloc, &inputs, packing, list, err) {
-        Ok((object, differing, lines, is_split)) => {
-            let warnings = lines_behind(alloc, &inputs, lines, is_split)?;
-            Ok((object, differing, warnings))
-        }
-        Err(refusal) => Err(refusal),
-    }
+    packed_by(alloc, &inputs, packing, list.as_slice(), err)
 }
 
-/// Lines that are printed behind a package: where something is split the warnings of sections of
-/// macros, and these.
-///
-/// # Errors
-/// Want of memory.
-#[tactic(auto, using(crate::proofs::Warned::no_macros))]
-fn lines_behind<F: FileSystem>(
-    alloc: Global,
-    inputs: &InputFiles<'_, F>,
-    named: String,
-    is_split: bool,
-) -> Result<String, AllocError>
-    ensures { IfOk result (λ lines. (macros : List ℕ)
-        × TellsMacros inputs.now.packing.now.warns_of_macros macros
-        × (string_bytes lines ≡ macros ++ string_bytes named)) }
-{
-    if !is_split {
-        return Ok(named);
-    }
-    let mut lines = inputs.warnings();
-    lines.push_str(named.as_str())?;
-    Ok(lines)
-}
-
-/// The same by these inputs, and whether something is split.
+/// The same by these inputs, of the list of what is asked for.
 #[tactic(auto, using(crate::proofs::Causes::told_for, crate::proofs::Causes::empty_for))]
 fn packed_by<I: Inputs, E: LineOutput>(
     alloc: Global,
@@ -357,31 +268,30 @@ fn packed_by<I: Inputs, E: LineOutput>(
     packing: &Packing<'_, '_>,
     list: &[Input<'_>],
     err: &mut E,
-) -> Result<(WritableObject, Vec<DebugTypeSignature>, String, bool), Refusal>
+) -> Result<(WritableObject, Vec<DebugTypeSignature>, String), NoPackage>
     requires asked { map asked list.now ≡ asks packing.now }
     requires opens { I.opens inputs.now ≡ packing.now.opens_archives }
     requires manner { I.manner inputs.now ≡ manner_of packing.now }
-    ensures made { IfOk result (λ made. IsMadeFor
-        (TellsInputs (I.offer inputs.now) packing.now) (I.offer inputs.now) packing.now
+    requires warns { I.warns_of_macros inputs.now ≡ packing.now.warns_of_macros }
+    ensures ready { IfOk result (λ made. IsReady (I.offer inputs.now) packing.now
         (E.contents err.old) (E.contents err.new) made.0 made.1.items (string_bytes made.2)) }
     ensures told { IfErr result (Refuses E.contents E.failed err.new (IsCauseFor
         (I.offer inputs.now) (I.declines inputs.now) packing.now)) }
 {
-    let telling = Telling {
+    let options = ReportOptions {
         alloc,
         verbose: packing.verbose,
         warns: true,
         partial: packing.partial,
         names: packing.tells_differences(),
     };
-    match packed_inputs(inputs, list, telling, err) {
-        Ok((object, differing, lines)) => Ok((object, differing, lines, true)),
-        Err(Refusal::Empty) if packing.lets_empty => {
-            match packed_unsplit(alloc, inputs, packing, err) {
-                Ok((object, differing, lines)) => Ok((object, differing, lines, false)),
-                Err(refusal) => Err(refusal),
-            }
+    match packed_inputs(inputs, list, options, err) {
+        Ok((object, differing, named)) => {
+            let mut lines = inputs.macro_warnings();
+            lines.push_str(named.as_str())?;
+            Ok((object, differing, lines))
         }
+        Err(NoPackage::Empty) if packing.lets_empty => packed_unsplit(alloc, inputs, packing, err),
         Err(refusal) => Err(refusal),
     }
 }
@@ -394,7 +304,7 @@ fn packed_unsplit<I: Inputs, E: LineOutput>(
     inputs: &I,
     packing: &Packing<'_, '_>,
     err: &mut E,
-) -> Result<(WritableObject, Vec<DebugTypeSignature>, String), Refusal>
+) -> Result<(WritableObject, Vec<DebugTypeSignature>, String), NoPackage>
     requires allowed { packing.now.lets_empty ≡ true }
     requires opens { I.opens inputs.now ≡ packing.now.opens_archives }
     requires manner { I.manner inputs.now ≡ manner_of packing.now }
@@ -406,30 +316,25 @@ fn packed_unsplit<I: Inputs, E: LineOutput>(
     ensures told { IfErr result (Refuses E.contents E.failed err.new (IsCauseFor
         (I.offer inputs.now) (I.declines inputs.now) packing.now)) }
 {
-    let objects = paths_in(packing.inputs);
-    let executables = paths_in(packing.executables);
-    let Some(executable) = executables.first() else {
-        return Err(Refusal::Empty);
+    let Some(executable) = paths_in(packing.executables).first() else {
+        return Err(NoPackage::Empty);
     };
     if inputs.unit_count(executable)? != Some(0) {
-        return Err(Refusal::Empty);
+        return Err(NoPackage::Empty);
     }
-    let list = inputs_with(
-        alloc,
-        objects,
-        executables,
-        packing.missing,
-        packing.nameless,
-        *executable,
-    )?;
-    let telling = Telling {
+    let mut list = inputs_of(alloc, packing)?;
+    match list.push(Input::Object(Path::new(*executable))) {
+        Ok(()) => {}
+        Err(_) => return Err(NoPackage::Command(Failure::Memory)),
+    }
+    let options = ReportOptions {
         alloc,
         verbose: false,
         warns: false,
         partial: packing.partial,
         names: packing.tells_differences(),
     };
-    packed_inputs(inputs, list.as_slice(), telling, err)
+    packed_inputs(inputs, list.as_slice(), options, err)
 }
 
 /// The paths of a list, none where there is no list.

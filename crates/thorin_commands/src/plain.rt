@@ -1,27 +1,24 @@
 //! The reader of the inputs of `pack`: files are read, decompressed, left with the macros that are
 //! kept, and tested for strings and sections that overlap; what can't be read is kept for notes.
 
-ghost use Rattle.std.specs.Prelude.{◌≡◌, ◌⊎◌, false, IsTrue, IfOk, IfErr, string_bytes};
+ghost use Rattle.std.specs.Prelude.{◌≡◌, ◌⊎◌, false, IsTrue, IfOk};
 ghost use Rattle.std.specs.Path.{path_bytes};
 ghost use Rattle.thorin_builder.specs.Reading.{OnDeclined, OnFailed};
 ghost use Rattle.thorin_sessions.specs.Sessions.{IsNoWantOfMemory};
 ghost use Rattle.thorin_errors.specs.declared.error.InputError.TheVariants.{Memory};
 ghost use Rattle.thorin_inputs.specs.Macros.{IsKeptOf};
 ghost use Rattle.thorin_inputs.specs.Plain as spec;
-ghost use Rattle.thorin_inputs.specs.Prefixes.{mapped as mapped_path};
 ghost use Rattle.thorin_commands.specs.Packing.{IsAmong, declines, manner_of, paths_in};
 ghost use Rattle.thorin_commands.specs.Packing.{read_through, reads};
 ghost use Rattle.thorin_commands.specs.Taken.{DeclinesBytes, DeclinesPlain, HasOverlap, IsPlainFor};
 ghost use Rattle.thorin_commands.specs.Taken.{IsReadInto, MayRepeat};
-ghost use Rattle.thorin_commands.specs.Warned.{TellsMacros};
 
-use crate::asked::{executable_of, given_places};
+use crate::asked::{executable_of, given_places, path_of};
 use crate::differences::{Difference, Differences};
 use crate::origins::{Holding, Origin, Origins};
 use crate::packing::{Packing, paths_in};
 use crate::reading::Inputs;
-use crate::repeated::Repeated;
-use crate::room::{or_content, put_over, read_file, unit_count_of};
+use crate::room::{or_content, put_over};
 use dwp_macros::{MacrosError, with_macros};
 use dwp_table::{DebugTypeSignature, DwarfObject, DwoId};
 use std::alloc::{AllocError, Global};
@@ -31,7 +28,8 @@ use thorin::{Input, InputReader, NotTaken, Repetition};
 use thorin_errors::InputError;
 use thorin_inputs::{
     AbsentUnits, Compression, Encodings, Growth, MacroWarnings, Places, PlainError, Prefixes,
-    has_compressed_overlap, has_inner_strings, has_overlap, plain_of, reason,
+    Repetitions, count_units, decompress, has_compressed_overlap, has_inner_strings, has_overlap,
+    plain_of, reason,
 };
 use thorin_output::FileSystem;
 use thorin_print::Failure;
@@ -49,11 +47,11 @@ pub(crate) struct InputFiles<'f, F> {
     places: Places<'f>,
     /// What is warned of where several of an object's sections of macros count.
     macros: MacroWarnings,
-    /// The input's own path; that of the object that it names and that was read last, unless it was
-    /// taken; and why the last read failed, if it did.
+    /// The path of the input, and whether that is an executable.
     own: Cell<Option<String>>,
-    named: Cell<Option<String>>,
-    failure: Cell<Option<String>>,
+    is_executable: Cell<bool>,
+    /// The object that the input names and that was read last, unless it was taken.
+    named: Cell<Option<NamedObject>>,
     /// What is left compressed of the file that was read last.
     compression: Cell<Compression>,
     /// What notes tell: what was taken, type units that differ, encodings, and absent units.
@@ -61,11 +59,17 @@ pub(crate) struct InputFiles<'f, F> {
     differences: Differences,
     encodings: Encodings,
     absent: Cell<AbsentUnits>,
-    /// Whether the input is an executable.
-    is_executable: Cell<bool>,
     /// What was counted of the files that were read.
-    repeated: Repeated,
+    repetitions: Cell<Repetitions>,
     ghost maps: { prefixes.words.now ≡ paths_in packing.now.prefix_maps },
+}
+
+/// An object that an executable names.
+#[derive(Drop)]
+struct NamedObject {
+    path: String,
+    /// Why it couldn't be read, if it couldn't.
+    unread: Option<String>,
 }
 
 impl<'f, F: FileSystem> InputFiles<'f, F> {
@@ -88,15 +92,14 @@ impl<'f, F: FileSystem> InputFiles<'f, F> {
             places,
             macros: MacroWarnings::new(alloc, packing.warns_of_macros),
             own: Cell::new(None),
+            is_executable: Cell::new(false),
             named: Cell::new(None),
-            failure: Cell::new(None),
             compression: Cell::new(Compression::None),
             origins: Origins::new(alloc),
             differences: Differences::new(alloc, packing.tells_differences()),
             encodings: Encodings::new(alloc),
             absent: Cell::new(AbsentUnits::new(alloc)),
-            is_executable: Cell::new(false),
-            repeated: Repeated::new(alloc),
+            repetitions: Cell::new(Repetitions::new(alloc)),
         })
     }
 
@@ -135,7 +138,7 @@ impl<'f, F: FileSystem> InputFiles<'f, F> {
         if is_own && self.is_given(path.path_text()) {
             return self.read_at(is_own, path, room);
         }
-        let mapped = self.with_prefix_replaced(path.path_text())?;
+        let mapped = self.prefixes.mapped(path.path_text())?;
         self.read_at(is_own, Path::new(mapped.as_str()), room)
     }
 
@@ -150,44 +153,50 @@ impl<'f, F: FileSystem> InputFiles<'f, F> {
             (MayRepeat self.now.packing.now.allows_overlap is_own) room.new.items result }
         ensures memory { OnFailed result IsNoWantOfMemory }
     {
-        self.keep_path(is_own, path.path_text());
-        match read_file(self.files, is_own, path, room) {
-            Ok(()) => {
-                if self.admits_file(is_own, path.path_text(), room)? {
-                    return Ok(());
-                }
-                Err(NotTaken::Declined(Growth::Repetition))
-            }
-            Err(InputError::Io(cause)) => {
-                self.failure.set(reason(self.alloc, &cause).ok());
-                Err(NotTaken::Failed(InputError::Io(cause)))
-            }
-            Err(InputError::Memory) => Err(NotTaken::Failed(InputError::Memory)),
+        let read = if is_own {
+            self.files.read_over(path, room)
+        } else {
+            self.files.read_regular_over(path, room)
+        };
+        if !is_own {
+            let unread = match &read {
+                Err(InputError::Io(cause)) => reason(self.alloc, cause).ok(),
+                _ => None,
+            };
+            self.keep_named(String::from_str(self.alloc, path.path_text()), unread);
         }
+        read?;
+        if self.packing.allows_overlap || self.admits_file(is_own, path.path_text(), room.len())? {
+            return Ok(());
+        }
+        Err(NotTaken::Declined(Growth::Repetition))
     }
 
     /// Whether a file that was read may be added: the input's own always; an object of an executable
     /// may be one that was read before by another path.
-    ///
-    /// # Errors
-    /// Want of memory.
-    fn admits_file(&self, is_own: bool, path: &str, file: &[u8]) -> Result<bool, AllocError>
-        ensures { IfOk result (λ admits.
-            admits ≡ false → MayRepeat self.now.packing.now.allows_overlap is_own) }
+    fn admits_file(&self, is_own: bool, path: &str, size: usize) -> Result<bool, AllocError>
+        ensures { IfOk result (λ admits. admits ≡ false → is_own ≡ false) }
     {
-        if self.packing.allows_overlap {
-            return Ok(true);
-        }
-        self.repeated.admits_file(self.files, is_own, path, file)
+        let mut repetitions = self.repetitions.replace(Repetitions::new(self.alloc));
+        let admits = if is_own {
+            match repetitions.count_own(self.files.identity(path), size) {
+                Ok(()) => Ok(true),
+                Err(e) => Err(e),
+            }
+        } else {
+            repetitions.admits_object(self.files.object_identity(path), size)
+        };
+        self.repetitions.set(repetitions);
+        admits
     }
 
-    /// A path that an executable names, with its prefix replaced.
-    fn with_prefix_replaced(&self, path: &str) -> Result<String, AllocError>
-        ensures { IfOk result (λ mapped.
-            string_bytes mapped
-            ≡ mapped_path (paths_in self.now.packing.now.prefix_maps) path.now) }
-    {
-        self.prefixes.mapped(path)
+    /// Keeps for notes an object that an executable names: where there is no memory for it, they do
+    /// without.
+    fn keep_named(&self, path: Result<String, AllocError>, unread: Option<String>) {
+        self.named.set(match path {
+            Ok(path) => Some(NamedObject { path, unread }),
+            Err(_) => None,
+        });
     }
 
     /// Whether the sections of a file overlap that are used, or those that would be decompressed. Of
@@ -260,8 +269,7 @@ impl<'f, F: FileSystem> InputFiles<'f, F> {
         }
     }
 
-    /// Plain bytes of which only the macros that are kept are left; none where they stay as they
-    /// are.
+    /// Plain bytes with the macros that are kept alone; none where they stay as they are.
     ///
     /// # Errors
     /// `Memory`; `Declined` where the others can't be left out.
@@ -280,65 +288,33 @@ impl<'f, F: FileSystem> InputFiles<'f, F> {
         }
     }
 
-    /// Keeps a path that is read, for notes: where there is no memory for it, they do without.
-    fn keep_path(&self, is_own: bool, path: &str) {
-        let path = String::from_str(self.alloc, path).ok();
-        if is_own {
-            self.own.set(path);
-            self.named.set(None);
+    /// Looks at a file of the input, at a member of it or at an object that it names by a path: at its
+    /// encoding, for notes, and for several sections of macros, where that is to be warned of.
+    fn inspect(&self, file: &[u8], named: &str, is_member: bool) -> Result<(), AllocError> {
+        let named = if named.is_empty() { None } else { Some(named) };
+        self.differences.look_at(file);
+        let Some(own) = self.own.replace(None) else {
+            return Ok(());
+        };
+        self.encodings.keep_new(file, own.as_str(), named);
+        let looked = if is_member {
+            Ok(())
         } else {
-            self.named.set(path);
-        }
+            self.macros.look_for_several(file, own.as_str(), named)
+        };
+        self.own.set(Some(own));
+        looked
     }
 
     /// Keeps for notes a unit that isn't there once its object was taken, or passed over.
-    fn keep_absent(&self, unit: DwoId, executable: &str, object: Option<String>) {
-        let mut absent = self.absent_units();
-        let _ = absent.add(unit.0, executable, object, self.last_failure());
-        self.absent.set(absent);
-    }
-}
-
-impl<F: FileSystem> InputFiles<'_, F> {
-    /// Looks at the file at a path: at its encoding, for notes, and for several sections of macros,
-    /// where that is to be warned of.
-    fn inspect(&self, path: &str, file: &[u8]) -> Result<(), AllocError> {
-        let own = self.own.replace(None);
-        let inspected = match &own {
-            Some(own) if own.as_str() != path => self.inspect_for(own.as_str(), Some(path), file),
-            _ => self.inspect_for(path, None, file),
+    fn keep_absent(&self, unit: DwoId, executable: &str, object: Option<NamedObject>) {
+        let (path, unread) = match object {
+            Some(NamedObject { path, unread }) => (Some(path), unread),
+            None => (None, None),
         };
-        self.own.set(own);
-        inspected
-    }
-
-    /// The same of a file of an input, which may be named by another.
-    fn inspect_for(&self, own: &str, named: Option<&str>, file: &[u8]) -> Result<(), AllocError> {
-        self.encodings.keep_new(file, own, named);
-        self.differences.look_at(file);
-        self.macros.look_for_several(file, own, named)
-    }
-
-    /// The same of a member of the input, which is told of by the input's path.
-    fn inspect_member(&self, content: &[u8]) {
-        let own = self.own.replace(None);
-        if let Some(own) = &own {
-            self.encodings.keep_new(content, own.as_str(), None);
-        }
-        self.differences.look_at(content);
-        self.own.set(own);
-    }
-
-    /// The warnings of sections of macros, where these are asked for.
-    #[tactic(auto, using(crate::proofs::Warned::no_macros))]
-    pub(crate) fn warnings(&self) -> String
-        ensures { TellsMacros self.now.packing.now.warns_of_macros (string_bytes result) }
-    {
-        if self.packing.warns_of_macros {
-            self.macros.take()
-        } else {
-            String::new(self.alloc)
-        }
+        let mut absent = self.absent_units();
+        let _ = absent.add(unit.0, executable, path, unread);
+        self.absent.set(absent);
     }
 }
 
@@ -360,19 +336,26 @@ impl<F: FileSystem> InputReader for InputFiles<'_, F> {
         let plain = self.plain(is_executable, room)?;
         put_over(room, plain);
         self.test_strings(is_executable, room)?;
-        self.inspect(path.path_text(), room)?;
+        let named = if is_own { "" } else { path.path_text() };
+        self.inspect(room, named, false)?;
         let kept = self.kept(room)?;
         put_over(room, kept);
         Ok(room.as_slice())
     }
 
     fn admit(&self, repetition: Repetition<'_>) -> Result<(), Growth> {
-        self.named.set(self.with_prefix_replaced(repetition.path.path_text()).ok());
-        let (bytes, differing) = (repetition.bytes, repetition.differing);
-        if self.packing.allows_overlap || self.repeated.admits(bytes, differing) {
+        self.keep_named(self.mapped(repetition.path.path_text()), None);
+        if self.packing.allows_overlap {
             return Ok(());
         }
-        Err(Growth::Repetition)
+        let mut repetitions = self.repetitions.replace(Repetitions::new(self.alloc));
+        let admits = repetitions.admits(repetition.bytes, repetition.differing);
+        self.repetitions.set(repetitions);
+        if admits {
+            Ok(())
+        } else {
+            Err(Growth::Repetition)
+        }
     }
 
     fn after_unit(
@@ -382,13 +365,16 @@ impl<F: FileSystem> InputReader for InputFiles<'_, F> {
         unit_count: usize,
         differing: &[DebugTypeSignature],
     ) {
-        let object = self.last_named();
+        let object = self.named.replace(None);
         let own = self.own.replace(None);
         if let Some(executable) = &own {
             if let Some(object) = &object {
-                let origin = Origin::Named(executable.as_str(), object.as_str());
-                self.origins.keep(origin, unit_count);
-                self.differences.keep(origin, differing);
+                let taken = Origin::Named(executable.as_str(), object.path.as_str());
+                let now = Holding {
+                    units: unit_count,
+                    differing,
+                };
+                self.keep_taken(taken, now);
             }
             match unit {
                 DwarfObject::Compilation(unit) if !is_there => {
@@ -398,7 +384,6 @@ impl<F: FileSystem> InputReader for InputFiles<'_, F> {
             }
         }
         self.own.set(own);
-        self.failure.set(None);
     }
 }
 
@@ -406,6 +391,8 @@ impl<F: FileSystem> Inputs for InputFiles<'_, F> {
     ghost opens = { λ inputs. inputs.packing.now.opens_archives };
 
     ghost manner = { λ inputs. manner_of inputs.packing.now };
+
+    ghost warns_of_macros = { λ inputs. inputs.packing.now.warns_of_macros };
 
     fn opens_archives(&self) -> bool {
         self.packing.opens_archives
@@ -415,7 +402,7 @@ impl<F: FileSystem> Inputs for InputFiles<'_, F> {
         let plain = self.plain(false, content)?;
         let bytes = or_content(content, &plain);
         self.test_strings(false, bytes)?;
-        self.inspect_member(bytes);
+        self.inspect(bytes, "", true)?;
         match self.kept(bytes)? {
             Some(kept) => Ok(Some(kept)),
             None => Ok(plain),
@@ -423,14 +410,19 @@ impl<F: FileSystem> Inputs for InputFiles<'_, F> {
     }
 
     fn begin(&self, input: Input<'_>) {
+        self.own.set(match path_of(input) {
+            Some(path) => String::from_str(self.alloc, path.path_text()).ok(),
+            None => None,
+        });
+        self.is_executable.set(executable_of(input).is_some());
         self.named.set(None);
-        self.failure.set(None);
         let mut absent = self.absent_units();
         absent.begin();
         self.absent.set(absent);
         self.macros.begin();
-        self.repeated.begin();
-        self.is_executable.set(executable_of(input).is_some());
+        let mut repetitions = self.repetitions.replace(Repetitions::new(self.alloc));
+        repetitions.begin();
+        self.repetitions.set(repetitions);
     }
 
     fn compression(&self) -> Compression {
@@ -442,27 +434,47 @@ impl<F: FileSystem> Inputs for InputFiles<'_, F> {
     }
 
     fn unit_count(&self, path: &str) -> Result<Option<usize>, Failure> {
-        unit_count_of(self.alloc, self.files, self.packing, path)
+        if !self.files.is_regular(path) {
+            return Ok(None);
+        }
+        let mut room = Vec::new(self.alloc);
+        match self.files.read_over(Path::new(path), &mut room) {
+            Ok(()) => {}
+            Err(InputError::Io(_)) => return Err(Failure::Input),
+            Err(InputError::Memory) => return Err(Failure::Memory),
+        }
+        if self.packing.decompresses {
+            decompress(self.alloc, &mut room, self.packing.allows_overlap)?;
+        }
+        Ok(count_units(room.as_slice()))
     }
 
-    fn last_named(&self) -> Option<String> {
-        self.named.replace(None)
-    }
-
-    fn mapped(&self, named: &str) -> Result<String, AllocError> {
-        self.with_prefix_replaced(named)
-    }
-
-    fn unreadable(&self, path: &str) -> Result<Option<String>, AllocError> {
-        match self.files.try_regular(Path::new(path)) {
-            Ok(()) => Ok(None),
-            Err(InputError::Io(cause)) => Ok(Some(reason(self.alloc, &cause)?)),
-            Err(InputError::Memory) => Err(AllocError),
+    #[tactic(auto, using(crate::proofs::Warned::no_macros))]
+    fn macro_warnings(&self) -> String {
+        if self.packing.warns_of_macros {
+            self.macros.take()
+        } else {
+            String::new(self.alloc)
         }
     }
 
-    fn last_failure(&self) -> Option<String> {
-        self.failure.replace(None)
+    fn last_named(&self) -> Option<String> {
+        match self.named.replace(None) {
+            Some(NamedObject { path, .. }) => Some(path),
+            None => None,
+        }
+    }
+
+    fn mapped(&self, named: &str) -> Result<String, AllocError> {
+        self.prefixes.mapped(named)
+    }
+
+    fn is_unreadable(&self, path: &str) -> Result<bool, AllocError> {
+        match self.files.try_regular(Path::new(path)) {
+            Ok(()) => Ok(false),
+            Err(InputError::Io(_)) => Ok(true),
+            Err(InputError::Memory) => Err(AllocError),
+        }
     }
 
     fn absent_units(&self) -> AbsentUnits {

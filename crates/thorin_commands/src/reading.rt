@@ -1,11 +1,12 @@
 //! What `pack` asks of the reader of its inputs, as a trait: `plain` has the reader.
 
-ghost use Rattle.std.specs.Prelude.{◌≡◌, Bool, IfOk, IfErr};
+ghost use Rattle.std.specs.Prelude.{◌≡◌, Bool, IfOk, IfErr, string_bytes};
 ghost use Rattle.thorin_builder.specs.Reading.{OnDeclined, OnFailed};
 ghost use Rattle.thorin_errors.specs.declared.error.InputError.TheVariants.{Memory};
 ghost use Rattle.thorin_inputs.specs.Plain.{or_content};
 ghost use Rattle.thorin_commands.specs.Naming.{IsUncounted};
 ghost use Rattle.thorin_commands.specs.Taken.{DeclinesBytes, IsTakenFor, Manner};
+ghost use Rattle.thorin_commands.specs.Warned.{TellsMacros};
 
 use crate::differences::Difference;
 use crate::origins::{Holding, Origin};
@@ -22,10 +23,12 @@ pub(crate) trait Inputs: InputReader<Refusal = Growth> {
     /// for ever.
     fn begin(&self, input: Input<'_>);
 
-    // Whether archives are opened, and how inputs are taken.
+    // Whether archives are opened, how inputs are taken, and whether sections of macros are warned of.
     ghost opens: { Self → Bool };
 
     ghost manner: { Self → Manner };
+
+    ghost warns_of_macros: { Self → Bool };
 
     /// Whether archives are opened.
     fn opens_archives(&self) -> bool
@@ -56,6 +59,10 @@ pub(crate) trait Inputs: InputReader<Refusal = Growth> {
     fn unit_count(&self, path: &str) -> Result<Option<usize>, Failure>
         ensures { IfErr result IsUncounted };
 
+    /// The warnings of sections of macros, where these are asked for. Asked for once.
+    fn macro_warnings(&self) -> String
+        ensures { TellsMacros (warns_of_macros self.now) (string_bytes result) };
+
     /// The path of the object that the input names and that was read last; none where none was, and
     /// where it was taken. Asked for once.
     fn last_named(&self) -> Option<String>;
@@ -63,11 +70,8 @@ pub(crate) trait Inputs: InputReader<Refusal = Growth> {
     /// The path at which an object is read that an executable names: its prefix is replaced.
     fn mapped(&self, named: &str) -> Result<String, AllocError>;
 
-    /// Why an object can't be read at a path, none where it can: it must be a regular file.
-    fn unreadable(&self, path: &str) -> Result<Option<String>, AllocError>;
-
-    /// Why the last read failed; none where it didn't. Asked for once.
-    fn last_failure(&self) -> Option<String>;
+    /// Whether an object can't be read at a path: it must be a regular file.
+    fn is_unreadable(&self, path: &str) -> Result<bool, AllocError>;
 
     /// The units that executables name and that weren't there once their objects were taken. Asked
     /// for once.
@@ -83,7 +87,7 @@ pub(crate) trait Inputs: InputReader<Refusal = Growth> {
     fn difference(&self, it: Difference) -> Result<String, AllocError>;
 
     /// What brought the unit at a place among the package's, as it is printed; none where that
-    /// isn't known. Asked for once.
+    /// isn't known.
     fn origin_of(&self, place: usize) -> Option<String>;
 
     /// A line `note: ` for each encoding of the files that were read, where there are several, with

@@ -14,4 +14,8 @@ returns-clause-told g c = err_by g.E.LineOutput.contents g.E.LineOutput.failed c
     c.settle.result c.settle.ensures.told
 
 pub returns-clause-line : goal.returns-clause-line
-returns-clause-line g c = rw c.unit_count-before.ensures at c.settle.ensures.line
+returns-clause-line g c = rw (
+  c.attempt.ensures.input,
+  c.attempt.ensures.before,
+  c.unit_count-before.ensures,
+) at c.settle.ensures.line

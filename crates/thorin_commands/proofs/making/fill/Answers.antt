@@ -12,7 +12,7 @@ returns-clause-fills g c =
         took = so.took;
         rest = c.in_ok-leave_out.ensures.left;
       };
-      told = taken_told c.args.telling.verbose c.args.telling.warns c.args.telling.partial
+      told = taken_told c.args.options.verbose c.args.options.warns c.args.options.partial
           c.args.list.now _ c.take_all.new.builder.state _ _ _ _ _ so.told
           (rw c.as_slice.ensures.value at c.in_ok-warn_unsplit.ensures.lines)
           c.in_ok-leave_out.ensures.lines;

@@ -1,4 +1,5 @@
-use Rattle.std.proofs.Common.{◌≡◌, [], ◌∷◌, ◌++◌, false, inr, map, rules}
+use Rattle.std.proofs.Common.{◌≡◌, [], ◌∷◌, ◌++◌, arith, false, inr, map}
+use Rattle.std.proofs.lemmas.Grind.{common_steps}
 use Rattle.std.specs.Prelude.{None, Some}
 use Rattle.thorin_commands.specs.Packing.{asked, asks, paths_in}
 use Rattle.thorin_commands.specs.Warned.{TellsTaken}
@@ -10,9 +11,9 @@ use Rattle.thorin_commands.proofs.packing.packed_unsplit.Goals as goal
 pub returns-clause-made : goal.returns-clause-made
 returns-clause-made g c =
     let first = first_of (paths_in c.args.packing.now.executables) c.in-Some.executable.now
-    (rw c.paths_in-executables.ensures at c.in-Some.ensures.value) in
+    (rw c.paths_in.ensures at c.in-Some.ensures.value) in
     let are : map asked c.as_slice.result.now ≡ asks c.args.packing.now
-    ++ Some (c.in-Some.executable.now.now, None) ∷ [] = search rules in
+    ++ Some (c.in-Some.executable.now.now, None) ∷ [] = grind (arith, common_steps) in
     if_ok_as c.packed_inputs.result (λ made it. made_for
     (TellsTaken false false c.args.packing.now.partial) c.args.packing.now c.as_slice.result.now
     c.requires.opens c.requires.manner c.tells_differences.ensures
@@ -25,7 +26,7 @@ returns-clause-told g c = told_unsplit g.E.LineOutput.contents g.E.LineOutput.fa
     (g.I.InputReader.offer c.args.inputs.now) (g.I.InputReader.declines c.args.inputs.now)
     c.args.packing.now (g.I.Inputs.opens c.args.inputs.now) (g.I.Inputs.manner c.args.inputs.now)
     c.as_slice.result.now c.requires.opens c.requires.manner c.in-Some.executable.now
-    c.requires.allowed (search rules)
+    c.requires.allowed (grind (arith, common_steps))
     (first_of (paths_in c.args.packing.now.executables) c.in-Some.executable.now
-    (rw c.paths_in-executables.ensures at c.in-Some.ensures.value)) c.packed_inputs.result
+    (rw c.paths_in.ensures at c.in-Some.ensures.value)) c.packed_inputs.result
     c.packed_inputs.ensures.told

@@ -8,6 +8,6 @@ returns-in_ok-tell_refused-in-Err-clause-told g c =
     c.in-Err.why c.in-Err.is
     c.in_ok-tell_refused-in-Err.ensures.told
 
-pub returns-in_ok-accept-in-Ok-clause-line : goal.returns-in_ok-accept-in-Ok-clause-line
-returns-in_ok-accept-in-Ok-clause-line g c = rw c.now_in.ensures at
-    c.in_ok-accept-in-Ok.ensures.line
+pub returns-in_ok-tell_added-in-Ok-clause-line : goal.returns-in_ok-tell_added-in-Ok-clause-line
+returns-in_ok-tell_added-in-Ok-clause-line g c = rw c.now_in-now.ensures at
+    c.in_ok-tell_added-in-Ok.ensures.line

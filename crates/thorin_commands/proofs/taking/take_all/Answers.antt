@@ -17,9 +17,9 @@ loop-input-init g c =
 pub loop-input-preserved : goal.loop-input-preserved
 loop-input-preserved g c = taking_more
     (take_more c.args.list.now c.loop-input.input-index none c.loop-input-test.true)
-    c.in_ok-keep_lack.ensures
+    c.in-Ok.ensures.items
     (rw (c.saturating_sub-added.ensures, c.unit_count.ensures, c.unit_count-before.ensures) at
-    c.lack_behind.ensures)
+    c.lack_of.ensures)
     c.loop-input.invariant c.in_ok-take.ensures.took c.in_ok-take.ensures.line
 
 pub returns-clause-took : goal.returns-clause-took

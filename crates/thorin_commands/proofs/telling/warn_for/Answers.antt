@@ -1,9 +1,25 @@
-use Rattle.std.proofs.Common.{inl, arith}
-use Rattle.std.proofs.lemmas.Result.{on_ok_weaker}
-use Rattle.thorin_commands.proofs.Warned.{unsplit_for}
+use Rattle.std.proofs.Common.{◌≡◌, ◌⊎◌, arith, inl, inr, rules, string_bytes, sym}
+use Rattle.std.specs.Path.{path_bytes}
+use Rattle.thorin_inputs.specs.declared.notes.Lack.TheVariants.{Types}
+use Rattle.thorin_print.specs.Shown.{shown}
+use Rattle.thorin_commands.specs.Warned.{path_of, unsplit_line}
+use Rattle.thorin_commands.proofs.Warned.{printed_ok, unsplit_told}
 use Rattle.thorin_commands.proofs.telling.warn_for.Goals as goal
+use Rattle.thorin_commands.proofs.telling.warn_for.Goals.{in-Types, in_default-3, in_default-3-2}
 
 pub returns-clause-line : goal.returns-clause-line
 returns-clause-line g c =
-    on_ok_weaker c.warn_of-2.result (unsplit_for _ _ _ (inl (omega arith)))
-    c.warn_of-2.ensures.line
+    let name = path_bytes c.in-Some.path in
+    let why = string_bytes c.in_ok-why.why in
+    let its : string_bytes c.in_ok-name.name ≡ shown name =
+    rw c.path_text.ensures.bytes at c.in_ok-name.ensures in
+    let line : string_bytes c.in_ok-line.line ≡ unsplit_line name why = search (rules, its) in
+    let may : (c.args.count ≡ 0) ⊎ (c.args.lack ≡ Types) = elim c.match-lack.branch [
+      | in-Types w ↦ inr w.in-Types.is
+      | in_default-3 w ↦ inl (omega (arith, w.if-count-gt0.false))
+      | in_default-3-2 w ↦ inl (omega (arith, w.if-count-gt0.false))
+    ] in
+    printed_ok (string_bytes c.in_ok-line.line) _ _ c.print_text.result
+    (λ h. unsplit_told (path_of c.args.input) name why _ _ may (sym c.in-Some.ensures)
+    (rw line at h))
+    (rw c.as_str.ensures.value at c.print_text.ensures.printed)

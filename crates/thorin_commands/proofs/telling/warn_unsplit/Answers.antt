@@ -11,6 +11,6 @@ loop-i-preserved g c = unsplit_next _ c.args.list.now c.args.lacks.now c.loop-i.
 
 pub returns-clause-lines : goal.returns-clause-lines
 returns-clause-lines g c =
-    let warns : c.args.telling.warns ≡ true = search rules in
-    unsplit_all c.args.telling.warns _ _ c.args.list.now c.args.lacks.now c.loop-i.i _ _ warns
+    let warns : c.args.options.warns ≡ true = search rules in
+    unsplit_all c.args.options.warns _ _ c.args.list.now c.args.lacks.now c.loop-i.i _ _ warns
     c.unit_count-count.ensures c.loop-i-test.false c.requires c.loop-i.invariant

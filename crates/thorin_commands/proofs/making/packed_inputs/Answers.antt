@@ -7,7 +7,7 @@ use Rattle.thorin_commands.proofs.Made.{differing_left, if_made, if_refused, nev
 use Rattle.thorin_commands.proofs.Made.{none_began}
 use Rattle.thorin_commands.proofs.Opened.{all_joined}
 use Rattle.thorin_commands.proofs.Warned.{printed_as}
-use Rattle.thorin_commands.proofs.making.packed_over.Goals as goal
+use Rattle.thorin_commands.proofs.making.packed_inputs.Goals as goal
 
 -- a package without the list of units that executables refer to has the same units
 units_left : (partial : Bool) (state : State) → units_in (left partial state) ≡ units_in state
@@ -20,7 +20,7 @@ returns-in-Ok-clause-made g c =
     let took = filled.fills.took in
     let state = filled.fills.state in
     let done = c.fill.new.builder.state in
-    let partial = c.args.telling.partial in
+    let partial = c.args.options.partial in
     let now : done ≡ left partial state = filled.fills.rest in
     let units : units_in done ≡ units_in state = ap units_in now ∙ units_left partial state in
     let differ : differing_in done ≡ differing_in state =
@@ -58,18 +58,18 @@ pub returns-in-Ok-clause-told : goal.returns-in-Ok-clause-told
 returns-in-Ok-clause-told g c =
     let filled = rw c.new-builder.ensures.state at c.in-Ok.ensures.fills in
     err_by g.E.LineOutput.contents g.E.LineOutput.failed c.finished.new.err
-    (finishing {declines = g.I.InputReader.declines c.args.inputs.now} c.args.telling.partial
+    (finishing {declines = g.I.InputReader.declines c.args.inputs.now} c.args.options.partial
     c.args.list.now c.fill.new.builder.state filled.fills)
     c.finished.result c.finished.ensures.told
 
-pub returns-in-Err-clause-tried : goal.returns-in-Err-clause-tried
-returns-in-Err-clause-tried g c = never_empty (g.I.Inputs.opens c.args.inputs.now)
+pub returns-clause-tried : goal.returns-clause-tried
+returns-clause-tried g c = never_empty (g.I.Inputs.opens c.args.inputs.now)
     (g.I.Inputs.manner c.args.inputs.now) (g.I.InputReader.offer c.args.inputs.now)
     (g.I.InputReader.declines c.args.inputs.now) c.args.list.now _ g.E.LineOutput.contents
     g.E.LineOutput.failed c.fill.new.err c.in-Err.refusal c.in-Err.ensures.told
 
-pub returns-in-Err-clause-told : goal.returns-in-Err-clause-told
-returns-in-Err-clause-told g c = refuses_by g.E.LineOutput.contents
+pub returns-clause-told : goal.returns-clause-told
+returns-clause-told g c = refuses_by g.E.LineOutput.contents
     g.E.LineOutput.failed c.fill.new.err
-    (taking c.args.telling.partial c.args.list.now) c.in-Err.refusal
+    (taking c.args.options.partial c.args.list.now) c.in-Err.refusal
     (rw c.new-builder.ensures.state at c.in-Err.ensures.told)
