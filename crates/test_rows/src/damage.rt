@@ -1,6 +1,6 @@
 //! Numbers that a seed determines, and damage to bytes by them.
 
-ghost use Rattle.std.specs.Prelude.{◌<◌, ◌≤◌, IfSome, length};
+ghost use Rattle.std.specs.Prelude.{◌<◌, length};
 
 use std::alloc::Global;
 
@@ -67,112 +67,74 @@ fn damage(generator: &mut Generator, bytes: &mut Vec<u8>) {
     }
 }
 
-fn damage_once(generator: &mut Generator, bytes: &mut Vec<u8>) {
-    match generator.below(8) {
-        0 => cut(generator, bytes),
-        1 => raise(generator, bytes),
-        2 => copy_over(generator, bytes),
-        3 => repeat(generator, bytes),
-        4 => swap_headers(generator, bytes),
-        kind => change(kind, generator, bytes),
-    }
-}
-
-/// A place in so many bytes; None where there are none.
-fn place(generator: &mut Generator, length: usize) -> Option<usize>
-    ensures { IfSome result (λ at. at < length) }
+/// The end is cut off; four bytes become a number at a limit; up to 64 bytes are written over
+/// others, as a section's header over another's; the bytes from a place on come again at the end,
+/// where there is memory for them; two of the last section headers change places; or a byte becomes
+/// another.
+fn damage_once(generator: &mut Generator, bytes: &mut Vec<u8>)
+    requires { 0 < length bytes.old.items }
 {
-    if length == 0 {
-        return None;
-    }
-    Some(generator.below(length))
-}
-
-/// A byte becomes another, or is raised by one to four, as a count of entries, or has a bit turned.
-fn change(kind: usize, generator: &mut Generator, bytes: &mut Vec<u8>) {
-    let by = generator.below(256) as u8;
-    if let Some(at) = place(generator, bytes.len()) {
-        bytes[at] = match kind {
-            5 => by,
-            6 => bytes[at].wrapping_add(by % 4 + 1),
-            _ => bytes[at] ^ (1u8 << (by % 8)),
-        };
-    }
-}
-
-/// Whether bytes begin as a 32-bit ELF file (ELF gABI, e_ident).
-fn is_narrow(bytes: &[u8]) -> bool {
-    bytes.get(4) == Some(&1)
-}
-
-/// The place of one of the last eight section headers, in a file that ends with them.
-fn header_place(generator: &mut Generator, bytes: &[u8]) -> usize
-    ensures { result ≤ length bytes.now }
-{
-    let number = generator.below(8) + 1;
-    let size = if is_narrow(bytes) {
-        number * 40
-    } else {
-        number * 64
-    };
-    bytes.len().saturating_sub(size)
-}
-
-/// Two of the last section headers change places.
-fn swap_headers(generator: &mut Generator, bytes: &mut Vec<u8>) {
-    let one = header_place(generator, bytes);
-    let other = header_place(generator, bytes);
-    let size: usize = if is_narrow(bytes) { 40 } else { 64 };
-    for i in 0..64 {
-        if i < size && one + i < bytes.len() && other + i < bytes.len() {
-            bytes.swap(one + i, other + i);
+    let kind = generator.below(8);
+    let (at, other) = (generator.below(bytes.len()), generator.below(bytes.len()));
+    match kind {
+        0 => bytes.truncate(at),
+        1 => raise(generator, bytes, at),
+        2 => copy_over(generator, bytes, at, other),
+        3 => {
+            let _ = bytes.extend_from_within(at..);
         }
+        4 => swap_headers(generator, bytes),
+        kind => bytes[at] = changed(kind, bytes[at], generator.below(256) as u8),
     }
 }
 
-/// The end is cut off.
-fn cut(generator: &mut Generator, bytes: &mut Vec<u8>) {
-    if let Some(at) = place(generator, bytes.len()) {
-        bytes.truncate(at);
+/// Another byte, or this one raised by one to four, as a count of entries, or with a bit turned.
+fn changed(kind: usize, byte: u8, by: u8) -> u8 {
+    match kind {
+        5 => by,
+        6 => byte.wrapping_add(by % 4 + 1),
+        _ => byte ^ (1u8 << (by % 8)),
     }
 }
 
-/// Four bytes become a number at a limit, in either order.
-fn raise(generator: &mut Generator, bytes: &mut Vec<u8>) {
+/// Four bytes become a number at a limit, in either order, as far as they are there.
+fn raise(generator: &mut Generator, bytes: &mut [u8], at: usize)
+    requires { at < length bytes.old }
+{
     let number = LIMITS[generator.below(8)];
     let parts = if generator.below(2) == 0 {
         number.to_le_bytes()
     } else {
         number.to_be_bytes()
     };
-    if let Some(at) = place(generator, bytes.len()) {
-        for i in 0..4 {
-            if at + i < bytes.len() {
-                bytes[at + i] = parts[i];
-            }
+    for i in 0..4 {
+        if at + i < bytes.len() {
+            bytes[at + i] = parts[i];
         }
     }
 }
 
-/// Up to 64 bytes are written over others, as a section's header over another's.
-fn copy_over(generator: &mut Generator, bytes: &mut Vec<u8>) {
-    let length = generator.below(64) + 1;
-    let Some(source) = place(generator, bytes.len()) else {
-        return
-    };
-    let Some(target) = place(generator, bytes.len()) else {
-        return
-    };
-    for i in 0..length {
-        if source + i < bytes.len() && target + i < bytes.len() {
-            bytes[target + i] = bytes[source + i];
+/// Copies up to 64 bytes from one place to another, as far as both are there.
+fn copy_over(generator: &mut Generator, bytes: &mut [u8], from: usize, to: usize)
+    requires from { from < length bytes.old }
+    requires to { to < length bytes.old }
+{
+    for i in 0..generator.below(64) + 1 {
+        if from + i < bytes.len() && to + i < bytes.len() {
+            bytes[to + i] = bytes[from + i];
         }
     }
 }
 
-/// The bytes from a place on come again at the end, where there is memory for them.
-fn repeat(generator: &mut Generator, bytes: &mut Vec<u8>) {
-    if let Some(at) = place(generator, bytes.len()) {
-        let _ = bytes.extend_from_within(at..);
+/// Two of the last eight section headers change places, in a file that ends with them: of 40 bytes
+/// each in a 32-bit ELF file (ELF gABI, e_ident), else of 64.
+fn swap_headers(generator: &mut Generator, bytes: &mut [u8]) {
+    let size: usize = if bytes.get(4) == Some(&1) { 40 } else { 64 };
+    let one = bytes.len().saturating_sub(size * (generator.below(8) + 1));
+    let other = bytes.len().saturating_sub(size * (generator.below(8) + 1));
+    for i in 0..size {
+        if one + i < bytes.len() && other + i < bytes.len() {
+            bytes.swap(one + i, other + i);
+        }
     }
 }

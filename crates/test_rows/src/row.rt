@@ -264,6 +264,17 @@ impl Said {
         }
     }
 
+    /// Notes that memory was refused, if it was for other answers.
+    pub fn note_said(&mut self, other: &Said) {
+        self.note_that(!other.is_refused);
+    }
+
+    /// Adds other answers as they stand.
+    pub fn add_said(&mut self, other: &Said) {
+        self.add(other.text.as_str());
+        self.note_said(other);
+    }
+
     /// Adds a text as it stands.
     pub fn add(&mut self, text: &str) {
         let is_done = self.text.push_str(text).is_ok();
