@@ -20,7 +20,7 @@ fn call_of_tables<R: Reader>(words: &[R; 5], row: Row<'_>, said: &mut Said) {
         "remembered" | "declares_within" => remembered(row, words[0], said),
         "sizes" => sizes(row.bytes(1), row.rest(2), said),
         "object" => object(words, row, said),
-        _ => crate::elf_read::call(row, said),
+        _ => crate::formats::call(row, said),
     }
 }
 

@@ -8,12 +8,10 @@ use test_rows::{Hex, Row, Said, place};
 /// Makes the call of a row.
 pub fn call(row: Row<'_>, said: &mut Said) {
     match row.word(0) {
-        "file" | "symbol" | "section_named" | "section" | "is_called" | "is_of" | "relocations" =>
-            of_file(row, said),
         "file_kind" => said.put(&FileKind::parse(row.bytes(1))),
         "cuts" => cuts(row.bytes(1), said),
         "texts_of_elf" => texts(said),
-        _ => crate::formats::call(row, said),
+        _ => of_file(row, said),
     }
 }
 

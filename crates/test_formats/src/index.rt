@@ -19,7 +19,8 @@ pub fn call(row: Row<'_>, said: &mut Said) {
         "decompressed" | "asked" | "plain_length" | "overlaps" => crate::decompressed::call(
             row, said,
         ),
-        _ => of_index(row, said),
+        "index" | "column" | "look_up" | "range" => of_index(row, said),
+        _ => crate::elf_read::call(row, said),
     }
 }
 
@@ -38,8 +39,7 @@ fn in_index(index: &UnitIndex<'_>, row: Row<'_>, said: &mut Said) {
         "index" => said.ok(&(index.version(), index.unit_count(), index.slot_count())),
         "column" => said.ok(&index.has_column(row.kind(3))),
         "look_up" => look_up(index, row.number(3), said),
-        "range" => range(index, row, said),
-        _ => said.word("no such call"),
+        _ => range(index, row, said),
     }
 }
 
