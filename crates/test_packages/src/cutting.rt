@@ -1,6 +1,6 @@
 //! Files that are cut off, or in which bytes are others.
 
-use crate::packing::{packed, tell_alone};
+use crate::packing::make_alone;
 use crate::reading::found;
 use std::alloc::Global;
 use test_rows::{Said, Table, part};
@@ -9,7 +9,8 @@ use thorin::{DwarfObject, DwoId};
 /// Adds what a builder answers of a file, and whether the reader finds its unit 5.
 fn tell_answers(alloc: Global, file: &[u8], said: &mut Said) {
     said.add("builder ");
-    tell_alone(&packed(alloc, &[file]), false, said);
+    let made = make_alone(alloc, "damage", file, said);
+    said.add_said(&made.steps);
     said.add(", reader ");
     match &found(file, DwarfObject::Compilation(DwoId(5))) {
         Ok((Some(_unit), _slots)) => said.add("Ok(true)"),

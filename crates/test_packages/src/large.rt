@@ -1,10 +1,10 @@
 //! Packages of many objects and of many strings.
 
-use crate::packing::{accepted, grouped, packed};
+use crate::packing::{Job, Made, make};
 use crate::reading::found;
 use std::alloc::Global;
 use test_rows::{Said, Table, part, place};
-use thorin::{DwarfObject, DwoId, Endianness, Error, Packed};
+use thorin::{DwarfObject, DwoId, Endianness, Input};
 
 /// `many FILE OBJECT FROM TO COUNT`: packs that many objects, at once and each in a group of its
 /// own. They are copies of one whose unit stands at a place and ends with its identifier of 8
@@ -31,12 +31,38 @@ fn packed_often(
     for number in 0..count {
         let from = number.saturating_mul(object.len());
         let copy = part(&copies, from, from.saturating_add(object.len()));
-        said.note_that(inputs.push(copy).is_ok() && starts.push(number).is_ok());
+        said.note_that(inputs.push(Input::Bytes(copy)).is_ok() && starts.push(number).is_ok());
     }
-    let file = told_file(alloc, packed(alloc, &inputs), said);
-    tell_found(&file, &inputs, unit, said);
-    tell_grouped(&grouped(alloc, &inputs, &starts), &file, said);
-    file
+    let files = Table::new(alloc);
+    tell_packed(alloc, &files, unit, &inputs, &starts, said)
+}
+
+/// The package of inputs, which are also packed each in a group of its own.
+fn tell_packed(
+    alloc: Global,
+    files: &Table<'_>,
+    unit: (usize, usize),
+    inputs: &[Input<'_>],
+    starts: &[usize],
+    said: &mut Said,
+) -> Vec<u8> {
+    let job = Job::new(alloc, files, "pack", inputs, starts);
+    let made = make(job, said);
+    said.number("", made.taken.len() as u64);
+    said.number(" accepted, ", made.file.len() as u64);
+    said.add(" bytes\n");
+    tell_found(&made.file, inputs, unit, said);
+    tell_grouped(job, &made, said);
+    made.file
+}
+
+/// Tells whether packing each copy in a group of its own gives the file.
+fn tell_grouped(mut job: Job<'_>, made: &Made, said: &mut Said) {
+    job.how = "groups";
+    let grouped = make(job, said);
+    said.add("groups ");
+    said.debug(&grouped.is_file_of(made));
+    said.add("\n");
 }
 
 /// The copies of an object whose identifiers, from 1 on, end at a place, one behind another.
@@ -51,31 +77,17 @@ fn copies(alloc: Global, object: &[u8], behind: usize, count: usize, said: &mut 
     copies
 }
 
-/// The file, with how many inputs are accepted and its length.
-fn told_file(alloc: Global, packed: Packed, said: &mut Said) -> Vec<u8> {
-    said.number("", accepted(&packed) as u64);
-    let file = packed.file.unwrap_or(Vec::new(alloc));
-    said.number(" accepted, ", file.len() as u64);
-    said.add(" bytes\n");
-    file
-}
-
-/// Tells whether packing each copy in a group of its own gives this file.
-fn tell_grouped(grouped: &Result<Vec<u8>, Error>, file: &[u8], said: &mut Said) {
-    match grouped {
-        Ok(other) if other.as_slice() == file => said.add("groups true\n"),
-        _ => said.add("groups false\n"),
-    }
-}
-
 /// Tells how many of these objects have their units in the file, each of its own bytes and in the
 /// slot that is looked at first.
-fn tell_found(file: &[u8], inputs: &[&[u8]], unit: (usize, usize), said: &mut Said) {
+fn tell_found(file: &[u8], inputs: &[Input<'_>], unit: (usize, usize), said: &mut Said) {
     let mut count: u64 = 0;
     for i in 0..inputs.len() {
+        let Input::Bytes(copy) = inputs[i] else {
+            return
+        };
         let name = DwarfObject::Compilation(DwoId((i as u64).saturating_add(1)));
         if let Ok((Some(found), 1)) = found(file, name) {
-            if found.bytes() == part(inputs[i], unit.0, unit.1) {
+            if found.bytes() == part(copy, unit.0, unit.1) {
                 count = count.saturating_add(1);
             }
         }

@@ -169,12 +169,10 @@ fn ask_packing<'n>(
     said: &mut Said,
 ) {
     match command {
-        "pack" => packing::pack_named(alloc, table, words, said),
-        "groups" => packing::pack_grouped(alloc, table, words, said),
-        "builder" => builders::build(alloc, table, words, said),
-        "session" => sessions::session(alloc, table, words, said),
-        "session_groups" => sessions::groups(alloc, table, words, said),
-        "retried" | "once" | "packed" => sessions::refused(alloc, table, command, words, said),
+        "pack" | "groups" | "builder" | "session" | "session_groups" => packing::pack_named(
+            alloc, table, command, words, said,
+        ),
+        "retried" | "once" | "packed" => packing::refused(alloc, table, command, words, said),
         "damage" => cutting::damage(alloc, table, words, said),
         "every_cut" => cutting::every_cut(alloc, table, words, said),
         "random" => random::random(alloc, table, false, words, said),

@@ -27,6 +27,7 @@ pub fn random(alloc: Global, table: &Table<'_>, counts: bool, words: &[&str], sa
             executable,
             &samples,
             &mut tally,
+            said,
         );
         tally.tell(counts, said);
     }
@@ -40,13 +41,14 @@ fn tally_all(
     executable: &[u8],
     samples: &[&[u8]],
     tally: &mut Tally,
+    said: &mut Said,
 ) {
     for _ in 0..rounds {
         let bytes = generator.one_of(alloc, samples, true);
         reading::read_all(alloc, &bytes, tally);
     }
     for _ in 0..rounds / 4 {
-        building::build(alloc, generator, samples, tally);
-        executables::refer(alloc, generator, executable, samples, tally);
+        building::build(alloc, generator, samples, tally, said);
+        executables::refer(alloc, generator, executable, samples, tally, said);
     }
 }

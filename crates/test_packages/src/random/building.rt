@@ -1,16 +1,21 @@
 //! Damaged inputs for the builder: objects and packages.
 
-use crate::builders::{Built, build_bytes};
-use crate::packing::{accepted, grouped, is_file, packed_inputs, tell_outcomes};
+use crate::packing::{Job, Made, make};
 use crate::random::reading::read_packaged;
 use crate::tally::{self, Tally};
 use std::alloc::Global;
-use test_rows::{Generator, Said};
-use thorin::{DwarfObject, Error, Input, PackageFile, Packed};
+use test_rows::{Generator, Said, Table};
+use thorin::{DwarfObject, Input, PackageFile};
 
 /// Gives a few samples, some of them damaged, to the builder, to `pack` and to `pack_groups`, and
 /// holds what they answer against one another.
-pub fn build(alloc: Global, generator: &mut Generator, samples: &[&[u8]], tally: &mut Tally) {
+pub fn build(
+    alloc: Global,
+    generator: &mut Generator,
+    samples: &[&[u8]],
+    tally: &mut Tally,
+    said: &mut Said,
+) {
     let mut few = Vec::new(alloc);
     for _ in 0..generator.below(5) + 1 {
         let input = generator.one_of(alloc, samples, false);
@@ -20,49 +25,74 @@ pub fn build(alloc: Global, generator: &mut Generator, samples: &[&[u8]], tally:
     for i in 0..few.len() {
         tally.expect(inputs.push(Input::Bytes(few[i].as_slice())).is_ok());
     }
-    compare(alloc, &inputs, tally);
+    let files = Table::new(alloc);
+    compare(alloc, &files, &inputs, tally, said);
 }
 
-fn compare(alloc: Global, inputs: &[Input<'_>], tally: &mut Tally) {
-    let built = build_each(alloc, inputs, tally);
-    let whole = packed_inputs(alloc, inputs);
-    let mut answers = Said::new(alloc);
-    tell_outcomes(&[], &whole, &mut answers);
-    tally.expect(answers.as_str() == built.answers.as_str());
-    hold_packed(alloc, &whole, &built, tally);
-    let again = packed_inputs(alloc, &built.accepted);
-    tally.expect(accepted(&again) == again.outcomes.len());
-    hold_packed(alloc, &again, &built, tally);
-    if let Ok(file) = &built.file {
-        read_back(file, &built.end.units, tally);
-        if built.end.again {
-            pack_again(alloc, file, &built.end.units, tally);
-        }
+fn compare(
+    alloc: Global,
+    files: &Table<'_>,
+    inputs: &[Input<'_>],
+    tally: &mut Tally,
+    said: &mut Said,
+) {
+    let job = Job::new(alloc, files, "builder", inputs, &[]);
+    let built = build_noted(job, tally, said);
+    hold_packed(job, &built, tally, said);
+    let taken = job.taken(&built, said);
+    let halves = [0, taken.len() / 2];
+    let again = Job::new(alloc, files, "groups", &taken, &halves);
+    hold_packed(again, &built, tally, said);
+    if built.has_file() && built.packs_again {
+        pack_again(alloc, files, &built.file, &built.units, tally, said);
     }
-    compare_groups(alloc, &built, tally);
+    pack_in_groups(again, &built.units, tally, said);
 }
 
-fn build_each<'i>(alloc: Global, inputs: &[Input<'i>], tally: &mut Tally) -> Built<'i> {
-    build_bytes(alloc, (&[], inputs), tally, &mut Said::new(alloc))
-}
-
-/// What was packed at once: as many inputs are accepted as the builder accepts, and the file is
-/// that of the builder.
-fn hold_packed(alloc: Global, packed: &Packed, built: &Built<'_>, tally: &mut Tally) {
-    let accepted = accepted(packed);
-    for i in 0..packed.outcomes.len() {
-        tally.note(tally::PACKED, i < accepted);
+/// What a builder makes, and notes what it answers; a file has its units.
+pub fn build_noted(job: Job<'_>, tally: &mut Tally, said: &mut Said) -> Made {
+    let built = make(job, said);
+    note_outcomes(job, &built, tally);
+    tally.note(tally::FINISH, built.has_file());
+    tally.expect(!built.contradicts);
+    if built.has_file() {
+        read_back(&built.file, &built.units, tally);
     }
-    tally.expect(accepted == built.accepted.len());
-    tally.expect(is_file(alloc, &packed.file, &built.file));
+    built
+}
+
+/// Notes what was answered of each input.
+fn note_outcomes(job: Job<'_>, made: &Made, tally: &mut Tally) {
+    for number in 0..job.inputs.len() {
+        let input = job.inputs[number];
+        let call = if job.how == "pack" {
+            tally::PACKED
+        } else if matches!(input, Input::Bytes(_)) {
+            tally::OBJECT
+        } else {
+            tally::EXECUTABLE
+        };
+        tally.note(call, made.taken.contains(&number));
+    }
+}
+
+/// Packs at once: as many inputs are accepted as the builder accepts, with the same answers where
+/// the inputs are the same, and the file is that of the builder.
+fn hold_packed(mut job: Job<'_>, built: &Made, tally: &mut Tally, said: &mut Said) {
+    job.how = "pack";
+    let packed = make(job, said);
+    note_outcomes(job, &packed, tally);
+    tally.expect(packed.taken.len() == built.taken.len() && packed.is_file_of(built));
+    let is_part = packed.taken.len() == job.inputs.len();
+    tally.expect(is_part || packed.answers.as_str() == built.answers.as_str());
 }
 
 /// Reads a written package: it has these units and no others.
-pub fn read_back(file: &[u8], units: &[DwarfObject], tally: &mut Tally) {
+fn read_back(file: &[u8], units: &[DwarfObject], tally: &mut Tally) {
     match PackageFile::parse(file) {
         Ok(package) => {
-            for i in 0..units.len() {
-                let is_whole = read_packaged(&package, units[i], tally);
+            for unit in units {
+                let is_whole = read_packaged(&package, *unit, tally);
                 tally.expect(is_whole);
             }
             for entry in package.units() {
@@ -75,31 +105,29 @@ pub fn read_back(file: &[u8], units: &[DwarfObject], tally: &mut Tally) {
 
 /// Packs a file alone that may be an input again: it is taken, and has the same units, unless a
 /// section is in no row of it.
-fn pack_again(alloc: Global, file: &[u8], units: &[DwarfObject], tally: &mut Tally) {
-    let again = build_each(alloc, &[Input::Bytes(file)], tally);
-    tally.expect(if again.accepted.is_empty() {
-        again.is_outside
-    } else {
-        again.file.is_ok()
-    });
-    if let Ok(file) = &again.file {
-        read_back(file, units, tally);
-    }
+fn pack_again(
+    alloc: Global,
+    files: &Table<'_>,
+    file: &[u8],
+    units: &[DwarfObject],
+    tally: &mut Tally,
+    said: &mut Said,
+) {
+    let inputs = [Input::Bytes(file)];
+    let job = Job::new(alloc, files, "builder", &inputs, &[]);
+    let again = build_noted(job, tally, said);
+    let is_outside = again.answers.as_str() == "?: SectionNotInRow\n";
+    tally.expect(is_outside || !again.taken.is_empty() && again.has_file());
+    tally.expect(is_outside || again.units.as_slice() == units);
 }
 
 /// Packs the accepted inputs in two groups, half of them each: where there is a file, it has these
 /// units.
-fn compare_groups(alloc: Global, built: &Built<'_>, tally: &mut Tally) {
-    let mut accepted = Vec::new(alloc);
-    for i in 0..built.accepted.len() {
-        if let Input::Bytes(bytes) = built.accepted[i] {
-            tally.expect(accepted.push(bytes).is_ok());
-        }
+fn pack_in_groups(job: Job<'_>, units: &[DwarfObject], tally: &mut Tally, said: &mut Said) {
+    let grouped = make(job, said);
+    tally.note(tally::GROUPS, grouped.has_file());
+    if grouped.has_file() {
+        read_back(&grouped.file, units, tally);
     }
-    let file = grouped(alloc, &accepted, &[0, accepted.len() / 2]);
-    tally.note(tally::GROUPS, file.is_ok());
-    match &file {
-        Ok(file) => read_back(file, &built.end.units, tally),
-        Err(error) => tally.expect(!matches!(error, Error::Memory)),
-    }
+    tally.expect(grouped.error.as_str() != "Memory");
 }

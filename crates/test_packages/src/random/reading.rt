@@ -2,8 +2,8 @@
 
 use crate::tally::{self, Tally};
 use dwp_dwarf::{
-    Abbreviation, AbbreviationCache, Abbreviations, Attribute, Format, ReadError, SliceReader,
-    StringSections, UnitHeader, UnitHeaders, UnitSection, attr_string, root,
+    Abbreviation, AbbreviationCache, Abbreviations, Attribute, Format, ReadError, Reader,
+    SliceReader, StringSections, UnitHeader, UnitHeaders, UnitSection, attr_string, root,
 };
 use dwp_elf_read::{ElfFile, FileKind, Section};
 use dwp_index::CONTRIBUTION_KINDS;
@@ -79,7 +79,8 @@ fn read_dwarf(alloc: Global, file: &ElfFile<'_>, tally: &mut Tally) {
     }
 }
 
-/// Reads the units of the first section of a name, with abbreviations of another.
+/// Reads the units of the first section of a name, with abbreviations of another. All readers are
+/// made here, since one place that makes them costs least.
 fn read_named(
     alloc: Global,
     file: &ElfFile<'_>,
@@ -88,35 +89,46 @@ fn read_named(
     abbreviations: &str,
     tally: &mut Tally,
 ) {
-    let units = UnitHeaders::new(reader_of(file, name), section);
-    let mut cache = AbbreviationCache::new(alloc, reader_of(file, abbreviations));
-    read_units(units, &mut cache, &strings_of(file), tally);
+    let strings = [
+        reader_of(file, ".debug_str.dwo"),
+        reader_of(file, ".debug_line_str"),
+        reader_of(file, ".debug_str_offsets.dwo"),
+    ];
+    let units = reader_of(file, name);
+    read_units(
+        alloc,
+        units,
+        section,
+        reader_of(file, abbreviations),
+        strings,
+        tally,
+    );
 }
 
-fn strings_of<'a>(file: &ElfFile<'a>) -> StringSections<SliceReader<'a>> {
-    StringSections {
-        debug_str: reader_of(file, ".debug_str.dwo"),
-        debug_line_str: reader_of(file, ".debug_line_str"),
-        debug_str_offsets: reader_of(file, ".debug_str_offsets.dwo"),
-    }
-}
-
-fn read_units(
-    units: UnitHeaders<SliceReader<'_>>,
-    cache: &mut AbbreviationCache<SliceReader<'_>>,
-    strings: &StringSections<SliceReader<'_>>,
+fn read_units<R: Reader>(
+    alloc: Global,
+    units: R,
+    section: UnitSection,
+    abbreviations: R,
+    [debug_str, debug_line_str, debug_str_offsets]: [R; 3],
     tally: &mut Tally,
 ) {
-    for header in units {
+    let mut cache = AbbreviationCache::new(alloc, abbreviations);
+    let strings = StringSections {
+        debug_str,
+        debug_line_str,
+        debug_str_offsets,
+    };
+    for header in UnitHeaders::new(units, section) {
         tally.note(tally::UNIT, header.is_ok());
         if let Ok(header) = header {
-            read_root(&header, cache, strings, tally);
+            read_root(&header, &mut cache, &strings, tally);
         }
     }
 }
 
-fn tag_of(
-    found: Result<Option<Abbreviation<SliceReader<'_>>>, ReadError>,
+fn tag_of<R: Reader>(
+    found: Result<Option<Abbreviation<R>>, ReadError>,
 ) -> Result<Option<u64>, ReadError> {
     match found {
         Ok(Some(abbreviation)) => Ok(Some(abbreviation.tag())),
@@ -125,10 +137,10 @@ fn tag_of(
     }
 }
 
-fn read_root(
-    header: &UnitHeader<SliceReader<'_>>,
-    cache: &mut AbbreviationCache<SliceReader<'_>>,
-    strings: &StringSections<SliceReader<'_>>,
+fn read_root<R: Reader>(
+    header: &UnitHeader<R>,
+    cache: &mut AbbreviationCache<R>,
+    strings: &StringSections<R>,
     tally: &mut Tally,
 ) {
     let offset = header.abbrev_offset();
@@ -141,10 +153,10 @@ fn read_root(
     read_entry(header, &table, strings, tally);
 }
 
-fn read_entry(
-    header: &UnitHeader<SliceReader<'_>>,
-    table: &Abbreviations<SliceReader<'_>>,
-    strings: &StringSections<SliceReader<'_>>,
+fn read_entry<R: Reader>(
+    header: &UnitHeader<R>,
+    table: &Abbreviations<R>,
+    strings: &StringSections<R>,
     tally: &mut Tally,
 ) {
     let entry = root(header, table);
@@ -159,10 +171,10 @@ fn read_entry(
     }
 }
 
-fn read_attribute(
-    attribute: &Attribute<SliceReader<'_>>,
+fn read_attribute<R: Reader>(
+    attribute: &Attribute<R>,
     format: Format,
-    strings: &StringSections<SliceReader<'_>>,
+    strings: &StringSections<R>,
     tally: &mut Tally,
 ) {
     let _ = attribute.number();
