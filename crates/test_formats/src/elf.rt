@@ -59,7 +59,7 @@ fn append(
     }
 }
 
-/// The same, and says only why it is refused.
+/// Appends a content, and says only why it is refused.
 fn add(object: &mut WritableObject, row: Row<'_>, word: &str, said: &mut Said) {
     if let Err(error) = append(row.alloc, object, word) {
         said.put(&error);
@@ -158,7 +158,7 @@ fn put_written(writer: &Limited, said: &mut Said) {
     said.put(&(writer.bytes.len(), Hex(&writer.bytes)));
 }
 
-/// The same of a writer that is watched, behind the error that was seen.
+/// What came of writing to a writer that is watched, behind the error that was seen.
 fn watched(object: &WritableObject, row: Row<'_>, said: &mut Said) {
     let mut watched = Watched {
         writer: make_writer(row, said),

@@ -10,7 +10,7 @@ pub fn inflated(row: Row<'_>, said: &mut Said) {
     said.bytes(&inflate(row.alloc, row.bytes(1), place(row.word(2))));
 }
 
-/// The same of a stream of zstd.
+/// A stream of zstd's and how many bytes it gives: these bytes, or its error.
 pub fn decoded(row: Row<'_>, said: &mut Said) {
     said.bytes(&decompress(row.alloc, row.bytes(1), place(row.word(2))));
 }

@@ -78,7 +78,7 @@ fn bytes(row: Row<'_>, said: &mut Said) {
     put_session_alone(&session, bytes, said);
 }
 
-/// The same of a session that reads the files of the system, or of any other.
+/// What a session answers that reads the files of the system, or of any other.
 pub fn arena<R: Files>(files: &R, row: Row<'_>, said: &mut Said) {
     let bump = Bump::new(row.alloc);
     put_session(&ArenaSession::new(files, &bump), row, said);

@@ -134,7 +134,7 @@ fn again(
     table.remap_repeating(repeats, &range, offsets.len() as u64)
 }
 
-/// The same, and says what comes of it.
+/// Rewrites a range by what is remembered, and says what comes of it.
 fn put_again(
     table: &mut PackageStringTable,
     repeats: &mut Repeats,

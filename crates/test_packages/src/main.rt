@@ -160,7 +160,7 @@ fn ask<'n>(
     }
 }
 
-/// The same of lines that pack, or damage files.
+/// Says what a line answers that packs, or damages files.
 fn ask_packing<'n>(
     alloc: Global,
     table: &mut Table<'n>,

@@ -44,7 +44,7 @@ pub(crate) struct UnitPlace {
     is_in_types: bool,
     /// Where these begin, and their size.
     own: (u64, u64),
-    /// The same of its abbreviations.
+    /// Where its abbreviations begin, and their size.
     abbreviations: (u64, u64),
 }
 
@@ -160,7 +160,7 @@ fn read<'a>(
     }
 }
 
-/// The same of a unit with this header, by its abbreviations.
+/// The identifier that a unit with this header says itself, by its abbreviations.
 fn read_behind<'a>(
     alloc: Global,
     tables: &mut TablesByTurns<'a>,

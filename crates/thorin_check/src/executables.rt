@@ -113,7 +113,7 @@ fn check_executable<F: FileReader, O: Write>(
     )
 }
 
-/// The same of the bytes of an executable; the session holds what is made of them.
+/// Checks what the bytes of an executable name; the session holds what is made of them.
 fn check_named<'s, Sess: Session<RelocationEntry>, O: Write>(
     session: &'s Sess,
     naming: Naming<'_, '_>,
@@ -136,7 +136,7 @@ fn check_named<'s, Sess: Session<RelocationEntry>, O: Write>(
     }
 }
 
-/// The same of the units that an executable names, with room for so many bytes of long paths but the
+/// Checks the units that an executable names, with room for so many bytes of long paths but the
 /// first; where there is none left for the next, this is told.
 fn check_listed<O: Write>(
     naming: Naming<'_, '_>,

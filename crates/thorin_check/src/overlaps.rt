@@ -108,7 +108,7 @@ impl Overlaps {
         Ok(clash)
     }
 
-    /// The same of the ranges of one section, sorted by their places.
+    /// Marks those of the ranges of one section, sorted by their places; whether two clash.
     fn mark_twins(&mut self, kind: SectionKind, ranges: &[Placed]) -> bool
         ensures { result ≡ false → AllPairs IsApart ranges.now }
     {

@@ -93,7 +93,7 @@ pub fn list_missing<F: FileSystem, O: Write, E: Write>(
     status_of(alloc, &inputs, listed, err)
 }
 
-/// The same, where there are executables: whether there is a line.
+/// Lists what executables lack, of which there are some: whether there is a line.
 fn list_over<I: Inputs, O: Write>(
     alloc: Global,
     inputs: &I,
@@ -191,7 +191,7 @@ fn list_of<I: Inputs, W: Write>(
     }
 }
 
-/// The same of the bytes of an executable.
+/// Lists what an executable of these bytes lacks.
 fn list_read<I: Inputs, W: Write>(
     alloc: Global,
     inputs: &I,

@@ -192,7 +192,7 @@ pub fn pack<F: FileSystem, O: Write, E: LineOutput>(
     }
 }
 
-/// The same under a name, but for the line that says that no input began a package.
+/// Packs under a name, but for the line that says that no input began a package.
 #[tactic(auto, using(crate::proofs::Puts::stopped, crate::proofs::Whys::ends))]
 fn pack_under<F: FileSystem, O: Write, E: LineOutput>(
     alloc: Global,
@@ -260,7 +260,7 @@ fn packed<F: FileSystem, E: LineOutput>(
     packed_by(alloc, &inputs, packing, list.as_slice(), err)
 }
 
-/// The same by these inputs, of the list of what is asked for.
+/// What `packed` gives, by these inputs, of the list of what is asked for.
 #[tactic(auto, using(crate::proofs::Causes::told_for, crate::proofs::Causes::empty_for))]
 fn packed_by<I: Inputs, E: LineOutput>(
     alloc: Global,

@@ -59,7 +59,7 @@ pub fn has_inner_strings(alloc: Global, bytes: &[u8]) -> Result<bool, AllocError
     }
 }
 
-/// The same of a file of so many bytes that has units.
+/// What `has_inner_strings` says of a file of so many bytes that has units.
 fn has_inner_beside(alloc: Global, file: &ElfFile<'_>, size: usize) -> Result<bool, AllocError>
     ensures { IfOk result (λ has. let strings = or_nothing (first_content Str (elf file.now).sections) in
         has ≡ nat_lt (most_inner size) (sizes_at strings (is_inner (elf file.now) strings))) }
