@@ -1,7 +1,8 @@
 pub mod Writing
-pub mod Replacing
+pub mod Looking
 pub mod PlainFiles
 pub mod Taking
 pub mod ByIndex
+pub mod RowsTold
 pub mod PlacesRead
 pub mod SkeletonLists

@@ -1,37 +1,36 @@
-//! A package that is open: its rows, units and names, and what is told or lent of them.
+//! A package that is open: looking its units and rows up by identifier or slot.
 
 ghost use Rattle.std.specs.Prelude.{◌≡◌};
 ghost use Rattle.std.specs.Option.{option_copied};
 ghost use Rattle.dwp_base.specs.Reading.{Answers};
-ghost use Rattle.dwp_index.specs.Package.{index_for, found_counted, row_counted};
-ghost use Rattle.thorin_c.specs.ByIndex.{row_listed};
-ghost use Rattle.thorin_c.specs.Finding.{of_object, lent_of};
 ghost use Rattle.dwp_index.specs.Entries.{units_left, entries_from};
-ghost use Rattle.thorin_c.specs.OpenedFields.{row_held, unit_held};
+ghost use Rattle.dwp_index.specs.Package.{as_error, index_for, unit_in};
+ghost use Rattle.dwp_index.specs.Package.{found_counted};
+ghost use Rattle.dwp_index.specs.declared.error.PackageError.TheVariants as errors;
+ghost use Rattle.thorin_c.specs.ByIndex.{row_named, row_asked, row_encoding};
 ghost use Rattle.thorin_c.specs.Opening.{package_in, order_of};
 
+use crate::finding::object_of;
 use crate::sections::PlacedSections;
-use crate::status::{
-    ABSENT, MALFORMED_INDEX, MALFORMED_STRING, MALFORMED_UNIT, NO_SUCH_SECTION, NO_SUCH_STRING,
-    RANGE_OUTSIDE,
-};
+use crate::status::{ABSENT, RANGE_OUTSIDE, status_of};
 use crate::types::ThorinPackage;
+use crate::unit::{Found, encoding_of};
 use dwp_base::{Endianness, SectionKind};
-use dwp_bytes::{Encoding, StringOffsets};
-use dwp_index::{PackageError, Row, UnitIndex, Units, encoding_in, kind_of, place_of, read_index};
-use dwp_table::{Bucketable, CONTRIBUTION_KINDS, DwarfObject};
+use dwp_bytes::Encoding;
+use dwp_index::{PackageError, Row, UnitIndex, Units, kind_of, place_of, read_index, read_row};
+use dwp_table::{Bucketable, DwarfObject};
 use std::marker::Model;
 
 /// A package by the places of its sections: its indexes are read, and nothing else of it.
 #[derive(Drop)]
-pub(crate) struct OpenPackage<'p, 'a> {
+pub(crate) struct Opened<'p, 'a> {
     order: Endianness,
     sections: PlacedSections<'p, 'a>,
     compilations: Option<UnitIndex<'a>>,
     types: Option<UnitIndex<'a>>,
 }
 
-impl<'p, 'a> Model for OpenPackage<'p, 'a> {
+impl<'p, 'a> Model for Opened<'p, 'a> {
     ghost use Rattle.dwp_index.specs.Package.{Package};
 
     ghost Value = { Package };
@@ -41,40 +40,7 @@ impl<'p, 'a> Model for OpenPackage<'p, 'a> {
     ghost view = { package_held };
 }
 
-/// The row of a unit with its number, and how many slots were looked at.
-#[derive(Drop)]
-pub(crate) struct ListedRow<'a> {
-    pub(crate) number: u32,
-    pub(crate) ranges: Row<'a>,
-    pub(crate) slots: u32,
-}
-
-/// A unit by its row, and the encoding in its header.
-#[derive(Drop)]
-pub(crate) struct PlacedUnit<'a> {
-    pub(crate) row: ListedRow<'a>,
-    pub(crate) encoding: Encoding,
-}
-
-/// What is looked up of a name.
-#[derive(Clone, Copy)]
-pub(crate) enum Wanted {
-    /// The whole unit.
-    Unit,
-    /// Its row alone: nothing of the unit is read.
-    Row,
-}
-
-/// What is lent of a unit.
-#[derive(Clone, Copy)]
-pub(crate) enum Lent {
-    /// Its bytes in the section of a number.
-    Section(u8),
-    /// Its string of a number.
-    String(u64),
-}
-
-impl<'p, 'a> OpenPackage<'p, 'a> {
+impl<'p, 'a> Opened<'p, 'a> {
     /// The package whose sections are at these places, in the byte order that they say.
     #[tactic(auto, unfolding(crate::specs::Opening::package_in))]
     #[inline(always)]
@@ -82,19 +48,37 @@ impl<'p, 'a> OpenPackage<'p, 'a> {
         places: &'p ThorinPackage,
         bytes: &'a [u8],
         order: Endianness,
-    ) -> Result<OpenPackage<'p, 'a>, PackageError>
+    ) -> Result<Opened<'p, 'a>, PackageError>
         requires { order ≡ order_of places.now.big_endian }
         ensures { Answers (λ x. x) result (package_in places.now bytes.now) }
     {
         let sections = PlacedSections { places, bytes };
         let compilations = read_index(sections.of(SectionKind::CuIndex), order)?;
         let types = read_index(sections.of(SectionKind::TuIndex), order)?;
-        Ok(OpenPackage {
+        Ok(Opened {
             order,
             sections,
             compilations,
             types,
         })
+    }
+
+    /// The unit of an identifier, and how many slots were looked at.
+    #[tactic(auto, using(crate::proofs::ByIndex::unit_is))]
+    pub(crate) fn find_counted(
+        &self,
+        object: DwarfObject,
+    ) -> Result<(Option<Found<'p, 'a>>, u32), PackageError>
+        ensures { Answers (λ x. x) result (found_counted self.now object) }
+    {
+        let (found, count) = self.row_named(object)?;
+        match found {
+            None => Ok((None, count)),
+            Some((number, row)) => {
+                let unit = self.unit_in(object, number, row)?;
+                Ok((Some(unit), count))
+            }
+        }
     }
 
     /// The units that the slots of both indexes name, in order of slot, those of the compilation
@@ -105,109 +89,103 @@ impl<'p, 'a> OpenPackage<'p, 'a> {
         Units::new(self.compilations.as_ref(), self.types.as_ref())
     }
 
-    /// The row of an object in the index of its kind.
+    /// The row of a name in the index of its kind, with its number and how many slots were looked
+    /// at, behind the identifier that is asked for; or the status. Its ranges lie inside their
+    /// sections.
+    #[tactic(auto, unfolding(crate::specs::ByIndex::row_asked))]
     #[inline(always)]
-    pub(crate) fn listed(&self, object: DwarfObject) -> Result<ListedRow<'a>, i32>
-        ensures { Answers row_held result (row_listed object (index_for self.now object)) }
+    pub(crate) fn row_asked(
+        &self,
+        kind: u8,
+        id: u64,
+    ) -> Result<(DwarfObject, ((u32, Row<'a>), u32)), i32>
+        ensures { Answers (λ x. x) result (row_asked self.now kind id) }
+    {
+        let object = object_of(kind, id)?;
+        match self.row_named(object) {
+            Ok((found, count)) => match found {
+                None => Err(ABSENT),
+                Some((number, row)) => {
+                    if self.sections.first_outside(&row).is_some() {
+                        return Err(RANGE_OUTSIDE);
+                    }
+                    Ok((object, ((number, row), count)))
+                }
+            },
+            Err(error) => Err(status_of(error)),
+        }
+    }
+
+    /// The encoding of the unit of a row.
+    #[inline(always)]
+    pub(crate) fn row_encoding(
+        &self,
+        object: DwarfObject,
+        row: &Row<'a>,
+    ) -> Result<Encoding, PackageError>
+        ensures { Answers (λ x. x) result
+            (as_error errors.Unit (row_encoding self.now object row.now)) }
+    {
+        let place = place_of(object, row.range(SectionKind::Types));
+        let bytes = self.sections.row_bytes(row, kind_of(place));
+        encoding_of(bytes, self.order, place)
+    }
+
+    /// The row of an identifier in the index of its kind, and how many slots were looked at.
+    #[inline(always)]
+    fn row_named(&self, object: DwarfObject) -> Result<(Option<(u32, Row<'a>)>, u32), PackageError>
+        ensures { Answers (λ x. x) result (row_named object (index_for self.now object)) }
     {
         match object {
-            DwarfObject::Compilation(_) => listed_by(object, self.compilations.as_ref()),
-            DwarfObject::TypeUnit(_) => listed_by(object, self.types.as_ref()),
+            DwarfObject::Compilation(_) => row_by(object, self.compilations.as_ref()),
+            DwarfObject::TypeUnit(_) => row_by(object, self.types.as_ref()),
         }
     }
 
-    /// The row of an object, whose ranges lie inside their sections.
-    #[tactic(auto, using(crate::proofs::ByIndex::row_is))]
+    /// The unit of a row.
+    #[tactic(auto, unfolding(dwp_index::specs::Package::unit_in))]
     #[inline(always)]
-    pub(crate) fn row(&self, object: DwarfObject) -> Result<ListedRow<'a>, i32>
-        ensures { Answers row_held result (of_object row_counted self.now object) }
+    fn unit_in(
+        &self,
+        object: DwarfObject,
+        number: u32,
+        row: Row<'a>,
+    ) -> Result<Found<'p, 'a>, PackageError>
+        ensures { Answers (λ x. x) result (unit_in self.now object number row.entry) }
     {
-        let row = self.listed(object)?;
-        if self.sections.first_outside(&row.ranges).is_some() {
-            return Err(RANGE_OUTSIDE);
+        if let Some(kind) = self.sections.first_outside(&row) {
+            return Err(PackageError::Range(kind));
         }
-        Ok(row)
-    }
-
-    /// The unit of an object.
-    #[tactic(auto, using(crate::proofs::ByIndex::unit_is))]
-    #[inline(always)]
-    pub(crate) fn unit(&self, object: DwarfObject) -> Result<PlacedUnit<'a>, i32>
-        ensures { Answers (unit_held self.now object) result
-            (of_object found_counted self.now object) }
-    {
-        let row = self.row(object)?;
-        let place = place_of(object, row.ranges.range(SectionKind::Types));
-        let bytes = self.sections.row_bytes(&row.ranges, kind_of(place));
-        match encoding_in(bytes, self.order, place) {
-            Ok(encoding) => Ok(PlacedUnit { row, encoding }),
-            Err(_) => Err(MALFORMED_UNIT),
-        }
-    }
-
-    /// The first byte of the unit of an object, of which only that range is looked at; 0 where it
-    /// isn't there.
-    #[inline(always)]
-    pub(crate) fn first_byte(&self, object: DwarfObject) -> u8 {
-        let ranges = match self.listed(object) {
-            Ok(row) => row.ranges,
-            Err(_) => return 0,
-        };
-        let kind = kind_of(place_of(object, ranges.range(SectionKind::Types)));
-        match self.sections.row_bytes(&ranges, kind) {
-            [first, ..] => *first,
-            [] => 0,
-        }
-    }
-
-    /// What is lent of a unit.
-    pub(crate) fn lent(&self, unit: &PlacedUnit<'a>, lent: Lent) -> Result<&'a [u8], i32>
-        ensures { Answers (λ bytes. bytes.now) result (lent_of lent self.now.order
-            self.now.contents unit.now.row.ranges unit.now.encoding) }
-    {
-        let ranges = &unit.row.ranges;
-        match lent {
-            Lent::Section(number) => match CONTRIBUTION_KINDS.get(number as usize) {
-                Some(kind) => Ok(self.sections.row_bytes(ranges, *kind)),
-                None => Err(NO_SUCH_SECTION),
-            },
-            Lent::String(number) => {
-                let offsets = StringOffsets {
-                    strings: self.sections.of(SectionKind::Str),
-                    offsets: self.sections.row_bytes(ranges, SectionKind::StrOffsets),
-                    order: self.order,
-                    encoding: unit.encoding,
-                };
-                match offsets.string(number) {
-                    Ok(Some(string)) => Ok(string),
-                    Ok(None) => Err(NO_SUCH_STRING),
-                    Err(_) => Err(MALFORMED_STRING),
-                }
-            }
-        }
+        let place = place_of(object, row.range(SectionKind::Types));
+        let bytes = self.sections.row_bytes(&row, kind_of(place));
+        let encoding = encoding_of(bytes, self.order, place)?;
+        Ok(Found {
+            order: self.order,
+            sections: self.sections,
+            number,
+            row,
+            bytes,
+            encoding,
+        })
     }
 }
 
-/// The row of an object in an index.
+/// The row of an identifier in an index, and how many slots were looked at.
 #[inline(always)]
-fn listed_by<'a>(object: DwarfObject, index: Option<&UnitIndex<'a>>) -> Result<ListedRow<'a>, i32>
-    ensures { Answers row_held result (row_listed object (option_copied index.entry)) }
+fn row_by<'a>(
+    object: DwarfObject,
+    index: Option<&UnitIndex<'a>>,
+) -> Result<(Option<(u32, Row<'a>)>, u32), PackageError>
+    ensures { Answers (λ x. x) result (row_named object (option_copied index.entry)) }
 {
     let Some(index) = index else {
-        return Err(ABSENT);
+        return Ok((None, 0));
     };
-    let (found, slots) = index.find_counted(object.index());
+    let (found, count) = index.find_counted(object.index());
     let Some(number) = found else {
-        return Err(ABSENT);
+        return Ok((None, count));
     };
-    match index.row(number) {
-        Ok(ranges) => Ok(ListedRow {
-            number,
-            ranges,
-            slots,
-        }),
-        Err(_) => Err(MALFORMED_INDEX),
-    }
+    Ok((Some((number, read_row(index, number)?)), count))
 }
 
 /// The byte order of a number.

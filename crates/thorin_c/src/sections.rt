@@ -2,11 +2,12 @@
 
 ghost use Rattle.std.specs.Prelude.{◌≡◌};
 ghost use Rattle.dwp_index.specs.Contents.{content};
-ghost use Rattle.dwp_index.specs.Package.{row_bytes, first_outside};
-ghost use Rattle.thorin_c.specs.Opening.{sections_at};
+ghost use Rattle.dwp_index.specs.Index.{range_in};
+ghost use Rattle.dwp_index.specs.Package.{row_bytes, first_outside, is_outside};
+ghost use Rattle.thorin_c.specs.Opening.{bytes_at, sections_at};
 
-use crate::types::ThorinPackage;
-use dwp_base::{Contribution, ContributionOffset, SectionKind};
+use crate::types::{ThorinPackage, ThorinRange};
+use dwp_base::SectionKind;
 use dwp_index::{Row, lies_inside, part_of};
 use dwp_table::CONTRIBUTION_KINDS;
 
@@ -17,18 +18,26 @@ pub(crate) struct PlacedSections<'p, 'a> {
     pub(crate) bytes: &'a [u8],
 }
 
+/// The bytes of a place; none where it isn't inside.
+#[inline(always)]
+fn bytes_at(bytes: &[u8], place: ThorinRange) -> &[u8]
+    ensures { result.now ≡ bytes_at bytes.now place }
+{
+    let len = bytes.len() as u64;
+    if place.offset > len || place.size > len - place.offset {
+        return &[];
+    }
+    let start = place.offset as usize;
+    &bytes[start..start + place.size as usize]
+}
+
 impl<'p, 'a> PlacedSections<'p, 'a> {
-    /// The content of a kind; no bytes where its place isn't inside.
+    /// The content of a kind.
     #[inline(always)]
     pub(crate) fn of(&self, kind: SectionKind) -> &'a [u8]
         ensures { result.now ≡ content (sections_at self.now.places.now self.now.bytes.now) kind }
     {
-        let place = self.places.sections[kind.rank() as usize];
-        let part = Contribution {
-            offset: ContributionOffset(place.offset),
-            size: place.size,
-        };
-        part_of(self.bytes, Some(part))
+        bytes_at(self.bytes, self.places.sections[kind.rank() as usize])
     }
 
     /// The bytes of a row's range in a section; none where it has no such range.
@@ -51,9 +60,19 @@ impl<'p, 'a> PlacedSections<'p, 'a> {
         CONTRIBUTION_KINDS
             .iter()
             .copied()
-            .find(|kind| match row.range(*kind) {
-                None => false,
-                Some(range) => !lies_inside(self.of(*kind), range),
-            })
+            .find(|kind| self.is_outside(row, *kind))
+    }
+
+    /// Whether a row has a range of a kind that isn't inside the section.
+    #[inline(always)]
+    fn is_outside(&self, row: &Row<'_>, kind: SectionKind) -> bool
+        ensures { result
+            ≡ is_outside (content (sections_at self.now.places.now self.now.bytes.now) kind)
+            (range_in row.now kind) }
+    {
+        match row.range(kind) {
+            None => false,
+            Some(range) => !lies_inside(self.of(kind), range),
+        }
     }
 }
