@@ -1,8 +1,7 @@
 -- A map from numbers: what it has for each of them, where it has none, or one more than before.
 use Rattle.dwp_dwarf.proofs.Terms
-use Terms.{[], arith, BTreeMap, by-bool, common_steps, eqb, eqb-false, eqb-true, Err, false, get}
-use Terms.{IfSome, is_ok, nat_cmp, None, Ok, OnOk, Option, refl, Result, Some, true, ℕ, ◌≡◌, ◌≢◌}
-use Rattle.std.specs.BTreeMap.{is_at}
+use Terms.{[], Bool, BTreeMap, by-bool, eqb, eqb-false, eqb-true, false, get, IfSome, nat_cmp, None}
+use Terms.{Option, refl, Some, true, ℕ, ◌≡◌, ◌≢◌}
 
 -- by whether it is the key
 pub by_key : {P : Type 0} (k q : ℕ) → (q ≡ k → P) → (q ≢ k → P) → P
@@ -16,11 +15,15 @@ pub none_each : {V : Type 0} (P : ℕ → V → Type 0) (m : BTreeMap ℕ V) →
     → IfSome (get nat_cmp m q) (P q)
 none_each P m empty q = rw (none_there m q empty) tt
 
-pub one_more : {V : Type 0} (P : ℕ → V → Type 0) (old new : BTreeMap ℕ V) (k : ℕ) (v : V) → P k v
-    → get nat_cmp new k ≡ Some v → ((q : ℕ) → q ≢ k → get nat_cmp new q ≡ get nat_cmp old q)
+-- a value that was put under a key, where there was memory for it
+pub put_keeps : {V : Type 0} (P : ℕ → V → Type 0) (old new : BTreeMap ℕ V) (k : ℕ) (v : V)
+    (is_put : Bool) → P k v → (is_put ≡ true → get nat_cmp new k ≡ Some v)
+    → ((q : ℕ) → q ≢ k → get nat_cmp new q ≡ get nat_cmp old q)
+    → (is_put ≡ false → (q : ℕ) → get nat_cmp new q ≡ get nat_cmp old q)
     → ((q : ℕ) → IfSome (get nat_cmp old q) (P q)) → (q : ℕ) → IfSome (get nat_cmp new q) (P q)
-one_more P old new k v p here others has q = by_key k q (λ e. rw (e, here) p)
-    (λ apart. rw (others q apart) (has q))
+put_keeps P old new k v is_put p here others refused has q = by-bool _ is_put
+    (λ yes. by_key k q (λ e. rw (e, here yes) p) (λ apart. rw (others q apart) (has q)))
+    (λ no. rw (refused no q) (has q))
 
 pub if_map : {A : Type 0} (o : Option A) {P Q : A → Type 0} → ((x : A) → P x → Q x) → IfSome o P
     → IfSome o Q
@@ -31,11 +34,3 @@ pub if_both : {A : Type 0} (o : Option A) {P Q R : A → Type 0} → ((x : A) �
     → IfSome o P → IfSome o Q → IfSome o R
 if_both (Some x) f p q = f x p q
 if_both None f p q = tt
-
--- an insertion that succeeded has the key's new value, and the others as they were
-pub on_ok : {A E : Type 0} (P : Type 0) (r : Result A E) → is_ok r ≡ true → OnOk r P → P
-on_ok P (Ok x) e p = p
-on_ok P (Err f) e p = absurd cc
-
-pub key_apart : (k q : ℕ) → q ≢ k → is_at (nat_cmp k) q ≡ false
-key_apart k q other = grind (arith, common_steps)

@@ -4,8 +4,8 @@ use Terms.{◌%◌, ◌++◌, ◌-◌, ◌<◌, [], ap, append-nil, append_assoc
 use Terms.{eqb-false, eqb-true, length, length-append, List, lt-ltb, ltb, ltb-true, ne_eqb, Node}
 use Terms.{None, Option, refl, slice_get, Some, suc, sym, zero, ℕ, ◌∙◌, ◌∷◌, ◌≡◌, ◌≢◌, ◌≤◌}
 use Rattle.std.proofs.lemmas.Option.{slice_get_within}
-use Rattle.dwp_dwarf.specs.Versions.{node_of, held, side_of, half, older, copy_by, copy_of}
-use Rattle.dwp_dwarf.specs.Versions.{value_below, value_by, Grows}
+use Rattle.dwp_dwarf.specs.Versions.{node_of, held, side_of, with_side, half, older, copy_by}
+use Rattle.dwp_dwarf.specs.Versions.{copy_of, value_below, value_by, Grows}
 
 pub grows_none : (nodes : List Node) → Grows nodes nodes
 grows_none nodes = record { more = []; is = sym (append-nil nodes) }
@@ -150,11 +150,6 @@ halves_apart key other p q sides same = omega arith
 
 side_alike : (node : Node) (k j : ℕ) → k % 2 ≡ j % 2 → side_of node k ≡ side_of node j
 side_alike node k j e = ap (λ (m : ℕ). cond (eqb m 0) node.even node.odd) e
-
--- a node with another version on the side of a key
-abbrev pub with_side : Node → ℕ → ℕ → Node
-with_side node key low =
-    cond (eqb (key % 2) 0) (record node { even = low }) (record node { odd = low })
 
 value_with : (node : Node) (key low : ℕ) → (with_side node key low).value ≡ node.value
 value_with node key low = by-bool _ (eqb (key % 2) 0) (λ e. rw e refl) (λ e. rw e refl)

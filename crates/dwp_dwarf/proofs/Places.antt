@@ -1,21 +1,23 @@
 -- What is remembered of a place of a section of abbreviations, from what is remembered of the next.
 use Rattle.dwp_dwarf.proofs.Terms
-use Terms.{◌+◌, ◌-◌, [], Abbreviation, Answers, ap, arith, Bool, by-bool, Declaration, declaration}
-use Terms.{drop-take, false, found_of, from_at, front, get, Goes, IfSome, Input, length}
-use Terms.{length-drop, length-take, List, nat_cmp, next_at, Node, None, Ok, Option, ReadError}
-use Terms.{refl, RemembersPlaces, Result, Some, StandsAt, subst, sym, true, ℕ, ◌∙◌, ◌≡◌, ◌≢◌, ◌≤◌}
+use Terms.{◌+◌, ◌-◌, [], ap, arith, Bool, BTreeMap, Declaration, declaration}
+use Terms.{drop-take, false, from_at, front, get, Goes, Input, length}
+use Terms.{length-drop, length-take, List, nat_cmp, next_at, Node, None, Ok, Option}
+use Terms.{refl, RemembersPlaces, Some, subst, sym, true, ℕ, ◌∙◌, ◌≡◌, ◌≢◌, ◌≤◌}
 use Rattle.dwp_bytes.specs.Input.{after}
 use Rattle.dwp_dwarf.specs.Chains.{from_end, absent_by, DeclaredAt, SaidBy, EndsBefore, StaysBehind}
 use Rattle.dwp_dwarf.specs.Chains.{RemembersPlace, RemembersChains, FirstAt, first_by, first_in}
-use Rattle.dwp_dwarf.specs.Chains.{ListsPlaces, StaysBefore}
-use Rattle.dwp_dwarf.specs.Codes.{Numbered, KeptOrNew, GrowsCodes}
+use Rattle.dwp_dwarf.specs.Chains.{StaysBefore, said_at}
+use Rattle.dwp_dwarf.specs.Needed.{HasLists}
+use Rattle.dwp_dwarf.specs.declared.needed.NeededLists.{NeededLists}
+use Rattle.dwp_dwarf.specs.Versions.{Numbered, KeptOrNew, GrowsCodes}
 use Rattle.dwp_dwarf.specs.Versions.{value_in, Grows}
 use Rattle.dwp_dwarf.specs.declared.chains.Chains.{Chains}
 use Rattle.dwp_dwarf.specs.declared.chains.Place.{Place}
-use Rattle.dwp_dwarf.specs.declared.codes.Codes.{Codes}
-use Rattle.dwp_dwarf.proofs.Keys.{by_key, one_more, if_map, none_there}
+use Rattle.dwp_dwarf.specs.declared.versions.Codes.{Codes}
+use Rattle.dwp_dwarf.proofs.Keys.{by_key, put_keeps, if_map, none_there}
 use Rattle.dwp_units.proofs.Readings.{one_answer, goes_then, takes_front, size}
-use Rattle.dwp_dwarf.proofs.Tables.{Next, Found, look_up-here, look_up-other, next_shorter}
+use Rattle.dwp_dwarf.proofs.Tables.{Next, look_up-here, look_up-other, next_shorter}
 use Rattle.dwp_dwarf.proofs.Tables.{next_takes}
 use Rattle.dwp_dwarf.proofs.NewVersions.{value_stays, grows_length, none_below}
 use Rattle.dwp_dwarf.proofs.Offsets.{from_is, from_within}
@@ -131,45 +133,28 @@ places_stay {old = old} same g codes numbered r = record {
 }
 
 -- one more place, where there was memory for it
-pub place_put : {section : Input} {old new : Chains} {left : ℕ} {place : Place} {added : Bool}
-    → new.firsts ≡ old.firsts → new.codes ≡ old.codes
-    → (added ≡ true → get nat_cmp new.places left ≡ Some place)
-    → ((q : ℕ) → q ≢ left → get nat_cmp new.places q ≡ get nat_cmp old.places q)
-    → (added ≡ false → (q : ℕ) → get nat_cmp new.places q ≡ get nat_cmp old.places q)
-    → RemembersPlace section old.codes old.firsts.nodes.items left place
-    → RemembersPlaces section old → RemembersPlaces section new
-place_put {section} {old} {new} {left} {place} {added} firsts codes here others refused is r =
-    record {
-      numbered = rw codes r.numbered;
-      each = λ q. rw (firsts, codes) (by-bool _ added
-          (λ yes. one_more (RemembersPlace section old.codes old.firsts.nodes.items) old.places
-          new.places left place is (here yes) others r.each q)
-          (λ no. rw (refused no q) (r.each q)));
-    }
+pub place_put : {section : Input} (chains : Chains) {places : BTreeMap ℕ Place} {left : ℕ}
+    {place : Place} {is_put : Bool} → (is_put ≡ true → get nat_cmp places left ≡ Some place)
+    → ((q : ℕ) → q ≢ left → get nat_cmp places q ≡ get nat_cmp chains.places q)
+    → (is_put ≡ false → (q : ℕ) → get nat_cmp places q ≡ get nat_cmp chains.places q)
+    → RemembersPlace section chains.codes chains.firsts.nodes.items left place
+    → RemembersPlaces section chains → RemembersPlaces section (record chains { places = places })
+place_put {section} chains {places} {left} {place} {is_put} here others refused is r = record {
+  numbered = r.numbered;
+  each = put_keeps (RemembersPlace section chains.codes chains.firsts.nodes.items) chains.places
+      places left place is_put is here others refused r.each;
+}
 
--- more lists alone
-pub chains_listed : {section : Input} {old new : Chains} → new.places ≡ old.places
-    → new.firsts ≡ old.firsts → new.codes ≡ old.codes
-    → (ListsPlaces section old.lists → ListsPlaces section new.lists)
-    → RemembersChains section old → RemembersChains section new
-chains_listed places firsts codes kept r = record {
-  places = record {
-    numbered = rw codes r.places.numbered;
-    each = λ left. rw (places, firsts, codes) (r.places.each left);
-  };
-  lists = kept r.lists;
+-- other lists alone
+pub chains_listed : {section : Input} {chains : Chains} {lists : NeededLists}
+    → HasLists (said_at section) lists → RemembersChains section chains
+    → RemembersChains section (record chains { lists = lists })
+chains_listed has r = record {
+  places = record { numbered = r.places.numbered; each = r.places.each };
+  lists = has;
 }
 
 -- ---- what is remembered is said
-
--- at a place one declaration stands
-pub one_stands : {section : Input} {left : ℕ} {d e : Declaration} → StandsAt section left d
-    → StandsAt section left e → d ≡ e
-one_stands {d = d} {e = e} p q =
-    let next = rw (one_answer _ q.is p.is) at q.next in
-    let first = p.next in
-    let same : ((p.code, d), p.behind) ≡ ((q.code, e), q.behind) = cc in
-    ap (λ (x : Next). x.0.1) same
 
 -- what is remembered of a place is remembered of the table that begins there
 place_of : {section table : Input} {chains : Chains} {left : ℕ} {place : Place}
@@ -189,18 +174,12 @@ pub first_is : (section : Input) (chains : Chains) (offset size code first : ℕ
 first_is section chains offset size code first place is fits here some all =
     let p = rw here at (all.places.each (size - offset)) in
     let same : length section.bytes - (size - offset) ≡ offset = omega (arith, is) in
-    record { table = p.table; is = rw same at p.is; declares = rw some at (p.same code) }
-
--- a declaration that was found stands at the first place that the table has for its code
-pub stands_first : {section : Input} {offset code left : ℕ} {declared : Declaration}
-    → FirstAt section offset code left
-    → ((table : Input) → from_at offset section ≡ Ok table
-    → declaration code table ≡ Ok (Some declared)) → StandsAt section left declared
-stands_first {section} {offset} {code} {left} {declared} first is =
-    let one = is first.table first.is in
-    let says = first.declares.says in
-    let same : first.declares.declared ≡ declared = cc in
-    subst (StandsAt section left) same first.declares.stands
+    let declared : DeclaredAt section first (declaration code p.table) = rw some at (p.same code) in
+    record {
+      table = p.table;
+      is = rw same at p.is;
+      says = rw (declared.stands.is, declared.stands.next) (sym declared.says);
+    }
 
 -- where the first declaration of a code ends that a version has
 pub end_is : (section table : Input) (chains : Chains) (left code first : ℕ)
@@ -221,18 +200,12 @@ end_is section table chains left code first place declared here some there all i
       (inside said.declared stands).1,
     ))
 
-pub said_is : {R : Type 0} (input : R → Input)
-    (o : Option (Result (Option (Abbreviation R)) ReadError)) (section : Input) (chains : Chains)
-    (left code : ℕ) (place : Place) → get nat_cmp chains.places left ≡ Some place
-    → ((said : Found) → SaidBy section place.error (first_in chains.codes
-    chains.firsts.nodes.items place.version code) said
-    → IfSome o (λ r. Answers (found_of input) r said))
-    → IfSome o (λ r. RemembersPlaces section chains → (table : Input)
-    → from_end left section ≡ Ok table → Answers (found_of input) r (declaration code table))
-said_is input None section chains left code place here says = tt
-said_is input (Some r) section chains left code place here says = λ all table is.
-    let p = place_of here all is in
-    says (declaration code table) (rw p.1 at (p.0.same code))
+pub said_here : {section table : Input} {chains : Chains} (left code : ℕ) {place : Place}
+    → get nat_cmp chains.places left ≡ Some place → RemembersPlaces section chains
+    → from_end left section ≡ Ok table
+    → SaidBy section place.error (first_in chains.codes chains.firsts.nodes.items place.version
+    code) (declaration code table)
+said_here left code here all is = let p = place_of here all is in rw p.1 at (p.0.same code)
 
 -- ---- a place that is remembered now
 

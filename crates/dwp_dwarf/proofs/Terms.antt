@@ -33,13 +33,13 @@ unfoldable pub use Rattle.dwp_dwarf.specs.Entries.{attribute_at}
 pub use Rattle.dwp_dwarf.specs.Forms.{layout_of}
 unfoldable pub use Rattle.dwp_dwarf.specs.Forms.{named_form_at, past_value, value_at}
 unfoldable pub use Rattle.dwp_dwarf.specs.Grammar.{next_at}
-pub use Rattle.dwp_dwarf.specs.Needed.{is_needed, is_unmet, met, needed, none_met}
+pub use Rattle.dwp_dwarf.specs.Needed.{ListsNeeded, is_needed, is_unmet, met, needed, none_met}
 pub use Rattle.dwp_dwarf.specs.Numbers.{first_number, has_bytes, named_number, number_or}
 unfoldable pub use Rattle.dwp_dwarf.specs.Offsets.{from_at}
-pub use Rattle.dwp_dwarf.specs.Remembered.{ListsNeeded, known_or, remembered}
+pub use Rattle.dwp_dwarf.specs.Remembered.{known_or, remembered}
 pub use Rattle.dwp_dwarf.specs.Split.{SplitAttributes, attributes_of}
 unfoldable pub use Rattle.dwp_dwarf.specs.Split.{split_in}
 pub use Rattle.dwp_units.specs.Units.{Unit}
 pub use Rattle.dwp_dwarf.specs.declared.abbrev.Abbreviation.{Abbreviation}
-pub use Rattle.dwp_dwarf.specs.declared.form.Layout.TheVariants.{Fixed}
+pub use Rattle.dwp_dwarf.specs.declared.value.Layout.TheVariants.{Fixed}
 pub use Rattle.dwp_dwarf.specs.declared.versions.Node.{Node}

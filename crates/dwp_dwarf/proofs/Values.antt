@@ -17,10 +17,10 @@ use Rattle.dwp_units.proofs.Readings.{number_goes, reads_uleb, reads_sleb, goes,
 use Rattle.dwp_units.proofs.Readings.{by_step}
 use Rattle.dwp_dwarf.proofs.Tables.{code_goes}
 use Rattle.dwp_units.proofs.Units.{unit_takes, listed_ok, Onward}
-use Rattle.dwp_dwarf.specs.declared.form.Layout.{Layout}
-use Rattle.dwp_dwarf.specs.declared.form.Layout.TheVariants.{Block, Text, Unsigned, Signed}
-use Rattle.dwp_dwarf.specs.declared.form.BlockLength.{BlockLength}
-use Rattle.dwp_dwarf.specs.declared.form.BlockLength.TheVariants.{One, Two, Four, Leb}
+use Rattle.dwp_dwarf.specs.declared.value.Layout.{Layout}
+use Rattle.dwp_dwarf.specs.declared.value.Layout.TheVariants.{Block, Text, Unsigned, Signed}
+use Rattle.dwp_dwarf.specs.declared.value.BlockLength.{BlockLength}
+use Rattle.dwp_dwarf.specs.declared.value.BlockLength.TheVariants.{One, Two, Four, Leb}
 use Rattle.dwp_dwarf.specs.Forms.{block_length_at, text_at, named_within}
 
 -- ---- the names of forms

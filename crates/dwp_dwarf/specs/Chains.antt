@@ -1,23 +1,21 @@
 -- Tables of abbreviations (DWARF 5, 7.5.3) that overlap: what tables say that go on at a place of
 -- the section is remembered by the place. From a declaration on they all go on alike.
 use Rattle.std.specs.Prelude.{◌≡◌, ◌≤◌, ◌+◌, ◌-◌, ℕ, List, length, Option, Some, None, Result, Ok}
-use Rattle.std.specs.Prelude.{Err, IfSome, Vec, map}
-use Rattle.std.specs.declared.alloc.Global.{Global}
+use Rattle.std.specs.Prelude.{Err, IfSome, option_map}
 use Rattle.std.specs.Ordering.{nat_cmp}
-use Rattle.std.specs.BTreeMap.{BTreeMap, get}
+use Rattle.std.specs.BTreeMap.{get}
+use Rattle.dwp_base.specs.Reading.{◌>>=◌}
 use Rattle.dwp_bytes.specs.Input.{Input, front}
 use Rattle.dwp_bytes.specs.declared.error.ReadError.{ReadError}
 use Rattle.dwp_dwarf.specs.Abbreviations.{Declaration, declaration}
-use Rattle.dwp_dwarf.specs.Codes.{Numbered}
-use Rattle.dwp_dwarf.specs.Declarations.{specification_of}
+use Rattle.dwp_dwarf.specs.Versions.{Numbered}
 use Rattle.dwp_dwarf.specs.Grammar.{next_at}
-use Rattle.dwp_dwarf.specs.Needed.{none_met, needed}
+use Rattle.dwp_dwarf.specs.Needed.{HasLists}
 use Rattle.dwp_dwarf.specs.Offsets.{from_at}
 use Rattle.dwp_dwarf.specs.Versions.{value_in}
-use Rattle.dwp_dwarf.specs.declared.abbrev.AttributeSpecification.{AttributeSpecification}
 use Rattle.dwp_dwarf.specs.declared.chains.Chains.{Chains}
 use Rattle.dwp_dwarf.specs.declared.chains.Place.{Place}
-use Rattle.dwp_dwarf.specs.declared.codes.Codes.{Codes}
+use Rattle.dwp_dwarf.specs.declared.versions.Codes.{Codes}
 use Rattle.dwp_dwarf.specs.declared.versions.Node.{Node}
 
 -- what stands so many bytes before the end of a section
@@ -36,6 +34,11 @@ pub record StandsAt (section : Input) (left : ℕ) (declared : Declaration) : Ty
   pub code : ℕ
   pub behind : Input
   pub next : next_at start ≡ Ok (Some ((code, declared), behind))
+
+-- the declaration that stands so many bytes before the end of a section, if one does
+abbrev pub said_at : Input → ℕ → Result (Option Declaration) ReadError
+said_at section left = from_end left section >>= λ start. next_at start >>= λ next.
+    Ok (option_map (λ x. x.0.1) next)
 
 -- the declaration at a place is what is said
 pub record DeclaredAt (section : Input) (left : ℕ) (said : Result (Option Declaration) ReadError) :
@@ -102,24 +105,13 @@ pub record RemembersPlaces (section : Input) (chains : Chains) : Type 0 where
   pub each : (left : ℕ) → IfSome (get nat_cmp chains.places left)
       (RemembersPlace section chains.codes chains.firsts.nodes.items left)
 
--- a list of the attributes that are needed of the declaration at a place
-pub record ListedAt (section : Input) (left : ℕ) (list : Vec AttributeSpecification Global) : Type 0
-  where
-    pub declared : Declaration
-    pub stands : StandsAt section left declared
-    pub listed : map specification_of list.items ≡ needed none_met declared.specifications
-
--- each list is such a list of its place
-abbrev pub ListsPlaces : Input → BTreeMap ℕ (Vec AttributeSpecification Global) → Type 0
-ListsPlaces section lists = (left : ℕ) → IfSome (get nat_cmp lists left) (ListedAt section left)
-
 -- all that is remembered of a section by places
 pub record RemembersChains (section : Input) (chains : Chains) : Type 0 where
   pub places : RemembersPlaces section chains
-  pub lists : ListsPlaces section chains.lists
+  pub lists : HasLists (said_at section) chains.lists
 
--- what the table at an offset says of a code is the declaration at a place
+-- what the table at an offset says of a code is what is said of a place
 pub record FirstAt (section : Input) (offset code left : ℕ) : Type 0 where
   pub table : Input
   pub is : from_at offset section ≡ Ok table
-  pub declares : DeclaredAt section left (declaration code table)
+  pub says : said_at section left ≡ declaration code table

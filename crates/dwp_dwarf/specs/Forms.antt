@@ -10,10 +10,10 @@ use Rattle.dwp_bytes.specs.Leb.{uleb_at, sleb_at}
 use Rattle.dwp_bytes.specs.declared.encoding.Encoding.{Encoding}
 use Rattle.dwp_bytes.specs.declared.error.ReadError.{ReadError}
 use Rattle.dwp_bytes.specs.declared.error.ReadError.TheVariants.{UnexpectedEof, UnknownForm}
-use Rattle.dwp_dwarf.specs.declared.form.Layout.{Layout}
-use Rattle.dwp_dwarf.specs.declared.form.Layout.TheVariants.{Fixed, Block, Text, Unsigned, Signed}
-use Rattle.dwp_dwarf.specs.declared.form.BlockLength.{BlockLength}
-use Rattle.dwp_dwarf.specs.declared.form.BlockLength.TheVariants.{One, Two, Four, Leb}
+use Rattle.dwp_dwarf.specs.declared.value.Layout.{Layout}
+use Rattle.dwp_dwarf.specs.declared.value.Layout.TheVariants.{Fixed, Block, Text, Unsigned, Signed}
+use Rattle.dwp_dwarf.specs.declared.value.BlockLength.{BlockLength}
+use Rattle.dwp_dwarf.specs.declared.value.BlockLength.TheVariants.{One, Two, Four, Leb}
 
 abbrev pub is_one_of : List ℕ → ℕ → Bool
 is_one_of [] form = false

@@ -1,7 +1,6 @@
 pub mod Abbreviations
 pub mod Attributes
 pub mod Chains
-pub mod Codes
 pub mod Declarations
 pub mod Entries
 pub mod Forms

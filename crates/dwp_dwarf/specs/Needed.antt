@@ -1,9 +1,17 @@
 -- Which attributes of a declaration tell the numbers of an entry and what names its split object:
 -- those whose values have bytes, and of each name that may name the object the first.
-use Rattle.std.specs.Prelude.{ℕ, List, [], ◌∷◌, Bool, true, false, ◌==◌, ◌&&◌, ◌||◌, if◌then◌else◌}
-use Rattle.dwp_dwarf.specs.Abbreviations.{Specification}
+use Rattle.std.specs.Prelude.{◌≡◌, ℕ, List, [], ◌∷◌, map, Bool, true, false, ◌==◌, ◌&&◌, ◌||◌}
+use Rattle.std.specs.Prelude.{if◌then◌else◌, Option, Some, Result, Ok, IfSome, Vec}
+use Rattle.std.specs.declared.alloc.Global.{Global}
+use Rattle.std.specs.Ordering.{nat_cmp}
+use Rattle.std.specs.BTreeMap.{get}
+use Rattle.dwp_bytes.specs.declared.error.ReadError.{ReadError}
+use Rattle.dwp_dwarf.specs.Abbreviations.{Declaration, Specification}
+use Rattle.dwp_dwarf.specs.Declarations.{specification_of}
 use Rattle.dwp_dwarf.specs.Numbers.{has_bytes}
 use Rattle.dwp_dwarf.specs.Split.{DW_AT_comp_dir, DW_AT_dwo_name, DW_AT_GNU_dwo_name}
+use Rattle.dwp_dwarf.specs.declared.abbrev.AttributeSpecification.{AttributeSpecification}
+use Rattle.dwp_dwarf.specs.declared.needed.NeededLists.{NeededLists}
 use Rattle.dwp_dwarf.specs.declared.needed.UnmetNames.{UnmetNames}
 
 -- none of the names was met
@@ -33,3 +41,14 @@ abbrev pub needed : UnmetNames → List Specification → List Specification
 needed unmet [] = []
 needed unmet (s ∷ ss) = if is_needed unmet s then s ∷ needed (met unmet s.name) ss
     else needed unmet ss
+
+-- a list of the attributes that are needed of the declaration that is said to be a key's
+pub record ListsNeeded (said : ℕ → Result (Option Declaration) ReadError) (key : ℕ)
+    (list : Vec AttributeSpecification Global) : Type 0 where
+  pub declared : Declaration
+  pub is : said key ≡ Ok (Some declared)
+  pub listed : map specification_of list.items ≡ needed none_met declared.specifications
+
+-- each list is such a list of its key
+abbrev pub HasLists : (ℕ → Result (Option Declaration) ReadError) → NeededLists → Type 0
+HasLists said lists = (key : ℕ) → IfSome (get nat_cmp lists.by_key key) (ListsNeeded said key)

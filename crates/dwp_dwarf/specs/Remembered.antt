@@ -1,17 +1,15 @@
 -- Tables of abbreviations that are read once: what was read of each is remembered by code, beside
 -- what is left of it.
-use Rattle.std.specs.Prelude.{◌≡◌, ℕ, map, Option, Some, None, Result, Ok, IfSome, Vec}
-use Rattle.std.specs.declared.alloc.Global.{Global}
+use Rattle.std.specs.Prelude.{◌≡◌, ℕ, Option, Some, None, Result, Ok, IfSome}
 use Rattle.std.specs.Ordering.{nat_cmp}
 use Rattle.std.specs.BTreeMap.{BTreeMap, get}
 use Rattle.dwp_bytes.specs.Input.{Input}
 use Rattle.dwp_bytes.specs.declared.error.ReadError.{ReadError}
 use Rattle.dwp_dwarf.specs.Abbreviations.{Declaration, declaration}
-use Rattle.dwp_dwarf.specs.Declarations.{specification_of, declaration_of}
-use Rattle.dwp_dwarf.specs.Needed.{none_met, needed}
+use Rattle.dwp_dwarf.specs.Declarations.{declaration_of}
+use Rattle.dwp_dwarf.specs.Needed.{HasLists}
 use Rattle.dwp_dwarf.specs.Offsets.{from_at}
 use Rattle.dwp_dwarf.specs.declared.abbrev.Abbreviation.{Abbreviation}
-use Rattle.dwp_dwarf.specs.declared.abbrev.AttributeSpecification.{AttributeSpecification}
 use Rattle.dwp_dwarf.specs.declared.read_table.ReadTable.{ReadTable}
 
 -- a declaration that is remembered, or what the rest of the table says
@@ -25,17 +23,6 @@ abbrev pub remembered : {R : Type 0} → (R → Input) → BTreeMap ℕ (Abbrevi
     → Result (Option Declaration) ReadError
 remembered input known rest code = known_or input (get nat_cmp known code) (declaration code rest)
 
--- a list of the attributes that are needed of a table's declaration of a code
-pub record ListsNeeded (code : ℕ) (table : Input)
-    (list : Vec AttributeSpecification Global) : Type 0 where
-  pub declared : Declaration
-  pub is : declaration code table ≡ Ok (Some declared)
-  pub listed : map specification_of list.items ≡ needed none_met declared.specifications
-
--- each list is such a list of its code
-abbrev pub HasLists : Input → BTreeMap ℕ (Vec AttributeSpecification Global) → Type 0
-HasLists table lists = (code : ℕ) → IfSome (get nat_cmp lists code) (ListsNeeded code table)
-
 -- what is remembered and the rest say of each code what the table at an offset of the section says
 pub record RemembersTable {R : Type 0} (input : R → Input) (section : Input) (offset : ℕ)
     (read : ReadTable R) : Type 0 where
@@ -43,7 +30,7 @@ pub record RemembersTable {R : Type 0} (input : R → Input) (section : Input) (
   pub is : from_at offset section ≡ Ok table
   pub same : (code : ℕ) → remembered input read.known (input read.rest) code ≡
       declaration code table
-  pub lists : HasLists table read.lists
+  pub lists : HasLists (λ code. declaration code table) read.lists
 
 -- each of these tables is remembered so, at its offset
 abbrev pub RemembersTables : {R : Type 0} → (R → Input) → Input → BTreeMap ℕ (ReadTable R) → Type 0

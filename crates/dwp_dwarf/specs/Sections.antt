@@ -1,7 +1,7 @@
 -- The sections of strings, as readers show them.
 use Rattle.dwp_bytes.specs.Input.{Input}
 use Rattle.dwp_dwarf.specs.Strings.{Strings}
-use Rattle.dwp_dwarf.specs.declared.strings.StringSections.{StringSections}
+use Rattle.dwp_dwarf.specs.declared.value.StringSections.{StringSections}
 
 abbrev pub strings_of : {R : Type 0} → (R → Input) → StringSections R → Strings
 strings_of input s = record {

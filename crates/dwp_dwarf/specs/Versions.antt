@@ -2,8 +2,11 @@
 -- of tables of abbreviations by the numbers of their codes (DWARF 5, 7.5.3). Each version is made
 -- by path copying (Driscoll, Sarnak, Sleator and Tarjan 1989, Making Data Structures Persistent).
 -- It is 0, which has nothing, or the number of a node, counted from 1.
-use Rattle.std.specs.Prelude.{◌≡◌, ℕ, zero, suc, ◌%◌, ◌/◌, ◌-◌, ◌++◌, List, Option, Some, None}
-use Rattle.std.specs.Prelude.{slice_get, nat_lt, ◌==◌, if◌then◌else◌}
+use Rattle.std.specs.Prelude.{◌≡◌, ◌<◌, ◌≤◌, ℕ, zero, suc, ◌%◌, ◌/◌, ◌-◌, ◌++◌, List, Option, Some}
+use Rattle.std.specs.Prelude.{None, IfSome, slice_get, nat_lt, ◌==◌, if◌then◌else◌}
+use Rattle.std.specs.Ordering.{nat_cmp}
+use Rattle.std.specs.BTreeMap.{get}
+use Rattle.dwp_dwarf.specs.declared.versions.Codes.{Codes}
 use Rattle.dwp_dwarf.specs.declared.versions.Node.{Node}
 
 -- the node of a version
@@ -18,6 +21,11 @@ held value = if value == 0 then None else Some value
 -- the version of other keys that are even or odd as this one is
 abbrev pub side_of : Node → ℕ → ℕ
 side_of node key = if key % 2 == 0 then node.even else node.odd
+
+-- a node with another version there
+abbrev pub with_side : Node → ℕ → ℕ → Node
+with_side node key version = if key % 2 == 0 then record node { even = version }
+    else record node { odd = version }
 
 -- what is left of a key but 0 there
 abbrev pub half : ℕ → ℕ
@@ -58,3 +66,23 @@ value_in nodes version key = value_below 33 nodes version key
 pub record Grows (old new : List Node) : Type 0 where
   pub more : List Node
   pub is : new ≡ old ++ more
+
+-- ---- codes of abbreviations and their numbers, each below a count and of one code
+
+-- each number is one of so many, and of one code
+pub record Numbered (codes : Codes) : Type 0 where
+  pub below : (code number : ℕ) → get nat_cmp codes.numbers code ≡ Some number
+      → number < codes.count
+  pub apart : (code other number : ℕ) → get nat_cmp codes.numbers code ≡ Some number
+      → get nat_cmp codes.numbers other ≡ Some number → code ≡ other
+
+-- a number that was there stays, and one that wasn't is past so many
+abbrev pub KeptOrNew : ℕ → Option ℕ → Option ℕ → Type 0
+KeptOrNew count (Some number) now = now ≡ Some number
+KeptOrNew count None now = IfSome now (λ number. count ≤ number)
+
+-- the second has the numbers of the first, and maybe more
+pub record GrowsCodes (old new : Codes) : Type 0 where
+  pub count : old.count ≤ new.count
+  pub kept : (code : ℕ) → KeptOrNew old.count (get nat_cmp old.numbers code)
+      (get nat_cmp new.numbers code)

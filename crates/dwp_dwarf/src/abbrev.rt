@@ -11,9 +11,9 @@ ghost use Rattle.dwp_dwarf.specs.Grammar.{next_at};
 ghost use Rattle.dwp_dwarf.specs.Offsets.{from_at};
 ghost use Rattle.dwp_dwarf.specs.Declarations.{specification_of, declaration_of, table_of};
 ghost use Rattle.dwp_dwarf.specs.Declarations.{found_of};
+ghost use Rattle.dwp_dwarf.specs.Remembered.{next_of};
 
-use crate::form::IMPLICIT_CONST;
-use crate::offset::from_offset;
+use crate::value::IMPLICIT_CONST;
 use dwp_bytes::{ReadError, Reader};
 use dwp_units::read_code;
 
@@ -40,6 +40,19 @@ pub struct Abbreviations<R> {
 
 /// The fewest bytes of an attribute and its form.
 pub(crate) const SPECIFICATION_SIZE: usize = 2;
+
+/// What stands from an offset of a section on. OffsetOutOfRange past the end.
+#[tactic(auto, unfolding(crate::specs::Offsets::from_at))]
+pub(crate) fn from_offset<R: Reader>(section: R, offset: u64) -> Result<R, ReadError>
+    ensures { Answers R.input result (from_at offset (R.input section)) }
+{
+    let mut rest = section;
+    if rest.len() < offset as usize {
+        return Err(ReadError::OffsetOutOfRange);
+    }
+    rest.skip(offset as usize)?;
+    Ok(rest)
+}
 
 /// A number of variable length. Most have one byte, which is looked at first.
 #[inline(always)]
@@ -123,7 +136,7 @@ fn read_children<R: Reader>(reader: &mut R) -> Result<bool, ReadError>
 
 /// A declaration behind its code.
 #[tactic(auto, unfolding(crate::specs::Abbreviations::declaration_at))]
-pub(crate) fn read_declaration<R: Reader>(reader: &mut R) -> Result<Abbreviation<R>, ReadError>
+fn read_declaration<R: Reader>(reader: &mut R) -> Result<Abbreviation<R>, ReadError>
     ensures { Reads (declaration_of R.input) result (R.input reader.old) (R.input reader.new)
         declaration_at }
 {
@@ -151,6 +164,40 @@ pub(crate) fn known_declaration<R: Reader>(mut at: R) -> Result<Abbreviation<R>,
         has_children,
         specifications: at,
     })
+}
+
+/// The next declaration with its code, and what comes behind it; None at the end of the table.
+#[tactic(auto, unfolding(crate::specs::Grammar::next_at))]
+pub(crate) fn next_declaration<R: Reader>(
+    mut at: R,
+) -> Result<Option<(u64, Abbreviation<R>, R)>, ReadError>
+    ensures { Answers (next_of R.input) result (next_at (R.input at)) }
+{
+    let code = read_code(&mut at)?;
+    if code == 0 {
+        return Ok(None);
+    }
+    let abbreviation = read_declaration(&mut at)?;
+    Ok(Some((code, abbreviation, at)))
+}
+
+/// The first declaration of a code in what is left of a table, which is read no further.
+pub(crate) fn find_declaration<R: Reader>(
+    rest: &mut R,
+    code: u64,
+) -> Result<Option<Abbreviation<R>>, ReadError>
+    ensures { Answers (found_of R.input) result (declaration code (R.input rest.old)) }
+{
+    loop {
+        let found = read_code(rest)?;
+        if found == 0 {
+            return Ok(None);
+        }
+        let abbreviation = read_declaration(rest)?;
+        if found == code {
+            return Ok(Some(abbreviation));
+        }
+    }
 }
 
 impl AttributeSpecification {
@@ -182,17 +229,8 @@ impl<R: Reader> Abbreviations<R> {
     pub fn get(&self, code: u64) -> Result<Option<Abbreviation<R>>, ReadError>
         ensures { Answers (found_of R.input) result (declaration code (table_of R.input self.now)) }
     {
-        let mut at = self.table;
-        loop {
-            let found = read_code(&mut at)?;
-            if found == 0 {
-                return Ok(None);
-            }
-            let abbreviation = read_declaration(&mut at)?;
-            if found == code {
-                return Ok(Some(abbreviation));
-            }
-        }
+        let mut rest = self.table;
+        find_declaration(&mut rest, code)
     }
 }
 

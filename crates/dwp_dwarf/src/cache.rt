@@ -1,28 +1,29 @@
-//! Abbreviations that are looked up by table and code, and remembered (DWARF 5, 7.5.3).
+//! Abbreviations that are looked up by table and code, and remembered (DWARF 5, 7.5.3), and how much
+//! was read of tables to find them.
 
-ghost use Rattle.std.specs.Prelude.{◌≡◌, Result, Ok, Err, Some, None, true, false, option_map};
+ghost use Rattle.std.specs.Prelude.{◌≡◌, Result, Ok, Err, Some, None, IfSome, [], true, false};
+ghost use Rattle.std.specs.Prelude.{option_map};
+ghost use Rattle.std.specs.Ordering.{nat_cmp};
+ghost use Rattle.std.specs.BTreeMap.{get};
 ghost use Rattle.dwp_base.specs.Reading.{Answers};
 ghost use Rattle.dwp_bytes.specs.Input.{Input, front};
 ghost use Rattle.dwp_bytes.specs.declared.error.ReadError.{ReadError};
 ghost use Rattle.dwp_dwarf.specs.Abbreviations.{declaration};
-ghost use Rattle.dwp_dwarf.specs.Chains.{IsDeclared};
+ghost use Rattle.dwp_dwarf.specs.Chains.{FirstAt, IsDeclared, RemembersChains};
 ghost use Rattle.dwp_dwarf.specs.Declarations.{found_of};
 ghost use Rattle.dwp_dwarf.specs.Numbers.{numbered_at, numbered_of};
 ghost use Rattle.dwp_dwarf.specs.Offsets.{from_at};
 ghost use Rattle.dwp_dwarf.specs.Remembered.{RemembersTable, RemembersTables};
 ghost use Rattle.dwp_dwarf.specs.Split.{attributes_of, split_at};
 
-use crate::abbrev::Abbreviation;
-use crate::number::number_read;
-use crate::offset::from_offset;
-use crate::put_away::TablesPutAway;
-use crate::read_table::ReadTable;
-use crate::seen::SeenTables;
+use crate::abbrev::{Abbreviation, find_declaration, from_offset};
+use crate::chains::Chains;
+use crate::needed::number_read;
+use crate::read_table::{ReadTable, ReadTables, TablesPutAway, read_on};
 use crate::split::{SplitAttributes, found_split, split_read};
 use dwp_bytes::{Encoding, ReadError, Reader};
 use std::alloc::Global;
 use std::marker::Model;
-use std::mem;
 
 /// The abbreviations of a section, with what was read of its tables: units that use one table, or
 /// several by turns, read each once. It answers as `Abbreviations` does, also where there is no
@@ -41,20 +42,6 @@ pub struct EntryNumber {
     pub tag: u64,
     /// The number, or the first error before it. None where no attribute of the name has a number.
     pub number: Result<Option<u64>, ReadError>,
-}
-
-/// What was read of the tables of a section.
-#[derive(Drop)]
-struct ReadTables<R: Reader> {
-    alloc: Global,
-    // Whether a table is at hand.
-    is_begun: bool,
-    // Where the table at hand begins.
-    offset: u64,
-    // What was read of it.
-    at_hand: ReadTable<R>,
-    // What was read of others.
-    others: TablesPutAway<R>,
 }
 
 impl<R: Reader> Model for AbbreviationCache<R> {
@@ -164,11 +151,11 @@ impl<R: Reader> AbbreviationCache<R> {
         };
         let first = self.seen.first_of(self.section, offset, code);
         let number = if let Some(first) = first {
-            let chains = &mut self.seen.chains;
-            chains.number(first, abbreviation, encoding, values, name)
+            let lists = &mut self.seen.chains.lists;
+            lists.number(first, abbreviation, encoding, values, name)
         } else if is_known && self.tables.is_at_hand(offset) {
-            let at_hand = &mut self.tables.at_hand;
-            at_hand.number(code, abbreviation, encoding, values, name)
+            let lists = &mut self.tables.at_hand.lists;
+            lists.number(code, abbreviation, encoding, values, name)
         } else {
             number_read(abbreviation.entry(encoding, values), name)
         };
@@ -205,11 +192,11 @@ impl<R: Reader> AbbreviationCache<R> {
         };
         let first = self.seen.first_of(self.section, offset, code);
         let split = if let Some(first) = first {
-            let chains = &mut self.seen.chains;
-            chains.split(first, declared, encoding, values)
+            let lists = &mut self.seen.chains.lists;
+            lists.split(first, declared, encoding, values)
         } else if is_known && self.tables.is_at_hand(offset) {
-            let at_hand = &mut self.tables.at_hand;
-            at_hand.split(code, declared, encoding, values)
+            let lists = &mut self.tables.at_hand.lists;
+            lists.split(code, declared, encoding, values)
         } else {
             split_read(declared.entry(encoding, values), encoding.format)
         };
@@ -237,42 +224,116 @@ impl<R: Reader> AbbreviationCache<R> {
     }
 }
 
-impl<R: Reader> ReadTables<R> {
-    /// Whether the table at an offset is at hand.
-    fn is_at_hand(&self, offset: u64) -> bool
-        ensures { result ≡ true → offset ≡ self.now.offset }
-    {
-        self.is_begun && offset == self.offset
-    }
+/// How much was read of tables, and what they say where they overlap.
+#[derive(Drop)]
+pub(crate) struct SeenTables {
+    // How many bytes were read.
+    read: usize,
+    // By places of the section, once tables are known to overlap, or where a declaration ends was
+    // asked.
+    pub(crate) chains: Chains,
+}
 
-    /// Whether the declaration of a code in the table at an offset is remembered.
-    fn knows(&self, offset: u64, code: u64) -> bool {
-        if self.is_at_hand(offset) {
-            self.at_hand.known.contains_key(&code)
-        } else {
-            self.others.knows(offset, code)
+/// How often tables that don't overlap are read, at most.
+const READ_AT_MOST: usize = 2;
+
+impl SeenTables {
+    /// Nothing was read, and no memory is taken.
+    pub(crate) fn new(alloc: Global) -> SeenTables
+        ensures places { result.chains.places.entries ≡ [] }
+        ensures codes { result.chains.codes.numbers.entries ≡ [] }
+        ensures lists { result.chains.lists.by_key.entries ≡ [] }
+    {
+        SeenTables {
+            read: 0,
+            chains: Chains::new(alloc),
         }
     }
 
-    /// Puts the table at hand away, and takes up the one of an offset, which starts there. True
-    /// where it wasn't used before. What is put away has no more than so many bytes in the section.
-    fn turn_to(&mut self, limit: usize, offset: u64, start: R) -> bool
-        ensures at_hand { (section : Input) → from_at offset section ≡ Ok (R.input start)
-            → RemembersTables R.input section self.old.others.tables
-            → RemembersTable R.input section offset self.new.at_hand }
-        ensures others { (section : Input)
-            → RemembersTable R.input section self.old.offset self.old.at_hand
-            → RemembersTables R.input section self.old.others.tables
-            → RemembersTables R.input section self.new.others.tables }
-        ensures offset { self.new.offset ≡ offset }
+    /// Whether so much was read that tables overlap, or some of them were forgotten.
+    fn is_past<R: Reader>(&self, section: R) -> bool {
+        self.read > section.len().saturating_mul(READ_AT_MOST)
+    }
+
+    /// Counts what was read where so many bytes were left; at an error as much as can be.
+    fn count(&mut self, before: usize, is_error: bool, after: usize)
+        ensures { self.new.chains ≡ self.old.chains }
     {
-        let again = self.others.take(offset);
-        let is_first = again.is_none();
-        let next = again.unwrap_or(ReadTable::new(self.alloc, start));
-        let before = mem::replace(&mut self.at_hand, next);
-        self.others.put(limit, self.is_begun, self.offset, before);
-        self.is_begun = true;
-        self.offset = offset;
-        is_first
+        let read = if is_error {
+            before
+        } else {
+            before.saturating_sub(after)
+        };
+        self.read = self.read.saturating_add(read);
+    }
+
+    /// What the table at an offset of the section says of a code, which starts there and wasn't used
+    /// before.
+    pub(crate) fn get_first<R: Reader>(
+        &mut self,
+        section: R,
+        offset: u64,
+        start: R,
+        code: u64,
+    ) -> Result<Option<Abbreviation<R>>, ReadError>
+        ensures declared { RemembersChains (R.input section) self.old.chains
+            → from_at offset (R.input section) ≡ Ok (R.input start)
+            → Answers (found_of R.input) result (declaration code (R.input start)) }
+        ensures kept { RemembersChains (R.input section) self.old.chains
+            → RemembersChains (R.input section) self.new.chains }
+    {
+        if self.is_past(section) {
+            if let Some(said) = self.chains.get(section, offset, code) {
+                return said;
+            }
+        }
+        let mut rest = start;
+        let found = find_declaration(&mut rest, code);
+        self.count(start.len(), found.is_err(), rest.len());
+        found
+    }
+
+    /// What the table at an offset of the section, which is at hand, says of a code that isn't
+    /// remembered.
+    pub(crate) fn get_further<R: Reader>(
+        &mut self,
+        section: R,
+        offset: u64,
+        at_hand: &mut ReadTable<R>,
+        code: u64,
+    ) -> Result<Option<Abbreviation<R>>, ReadError>
+        requires { get nat_cmp at_hand.old.known code ≡ None }
+        ensures declared { (table : Input) → from_at offset (R.input section) ≡ Ok table
+            → RemembersChains (R.input section) self.old.chains
+            → RemembersTable R.input (R.input section) offset at_hand.old
+            → Answers (found_of R.input) result (declaration code table) }
+        ensures at_hand { RemembersChains (R.input section) self.old.chains
+            → RemembersTable R.input (R.input section) offset at_hand.old
+            → RemembersTable R.input (R.input section) offset at_hand.new }
+        ensures kept { RemembersChains (R.input section) self.old.chains
+            → RemembersChains (R.input section) self.new.chains }
+    {
+        if self.is_past(section) {
+            if let Some(said) = self.chains.get(section, offset, code) {
+                return at_hand.remember_said(code, said);
+            }
+        }
+        let before = at_hand.rest.len();
+        let found = read_on(&mut at_hand.known, &mut at_hand.rest, code);
+        self.count(before, found.is_err(), at_hand.rest.len());
+        found
+    }
+
+    /// The place of the declaration of a code that the table at an offset of the section has, where
+    /// tables overlap and its attributes are listed, or may be, for all tables that share it.
+    pub(crate) fn first_of<R: Reader>(&self, section: R, offset: u64, code: u64) -> Option<u64>
+        ensures { IfSome result (λ first. RemembersChains (R.input section) self.now.chains
+            → FirstAt (R.input section) offset code first) }
+    {
+        if self.is_past(section) {
+            self.chains.first_of(section, offset, code)
+        } else {
+            None
+        }
     }
 }

@@ -6,14 +6,13 @@ ghost use Rattle.dwp_base.specs.Reading.{Answers, Reads};
 ghost use Rattle.dwp_units.specs.Units.{unit_of};
 ghost use Rattle.dwp_dwarf.specs.Abbreviations.{pairs_in};
 ghost use Rattle.dwp_dwarf.specs.Declarations.{specification_of, declaration_of, table_of};
-ghost use Rattle.dwp_dwarf.specs.Entries.{attribute_at, entry, entry_at, root_at};
+ghost use Rattle.dwp_dwarf.specs.Entries.{attribute_at, entry, root_at};
 ghost use Rattle.dwp_dwarf.specs.Entries.{number_of, place_of};
 ghost use Rattle.dwp_dwarf.specs.Attributes.{attribute_of, attribute_seen, attributes_left};
 ghost use Rattle.dwp_dwarf.specs.Attributes.{entry_of, root_of};
 
 use crate::abbrev::{Abbreviation, Abbreviations, AttributeSpecification, read_specification};
-use crate::form::{DATA1, DATA2, DATA4, DATA8, SEC_OFFSET, UDATA};
-use crate::value::{named_form, read_value};
+use crate::value::{DATA1, DATA2, DATA4, DATA8, SEC_OFFSET, UDATA, named_form, read_value};
 use dwp_bytes::{Encoding, Format, ReadError, Reader};
 use dwp_units::UnitHeader;
 
@@ -154,25 +153,12 @@ impl<R: Reader> Abbreviation<R> {
     }
 }
 
-impl<R: Reader> Abbreviations<R> {
-    /// The entry of a code whose values stand there. UnknownCode where the table doesn't have the
-    /// code.
-    #[tactic(auto, unfolding(crate::specs::Entries::entry_at))]
-    fn entry(&self, encoding: Encoding, code: u64, values: R) -> Result<RootEntry<R>, ReadError>
-        ensures { Answers (entry_of R.input) result
-            (entry_at encoding (table_of R.input self.now) (code, R.input values)) }
-    {
-        let abbreviation = self.get(code)?.ok_or(ReadError::UnknownCode)?;
-        Ok(abbreviation.entry(encoding, values))
-    }
-}
-
 /// The root entry of a unit; None where no byte is left behind the header, or its code is 0.
 ///
 /// # Errors
 /// `UnknownCode` where the table doesn't have its code, and those of `UnitHeader::root_code` and
 /// `Abbreviations::get`.
-#[tactic(auto, unfolding(crate::specs::Entries::root_at))]
+#[tactic(auto, unfolding(crate::specs::Entries::root_at, crate::specs::Entries::entry_at))]
 pub fn root<R: Reader>(
     header: &UnitHeader<R>,
     abbreviations: &Abbreviations<R>,
@@ -182,6 +168,9 @@ pub fn root<R: Reader>(
 {
     match header.root_code()? {
         None => Ok(None),
-        Some((code, values)) => Ok(Some(abbreviations.entry(header.encoding(), code, values)?)),
+        Some((code, values)) => {
+            let abbreviation = abbreviations.get(code)?.ok_or(ReadError::UnknownCode)?;
+            Ok(Some(abbreviation.entry(header.encoding(), values)))
+        }
     }
 }

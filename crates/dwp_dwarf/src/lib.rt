@@ -5,18 +5,11 @@
 mod abbrev;
 mod cache;
 mod chains;
-mod codes;
 mod entry;
-mod form;
 pub mod laws;
 mod needed;
-mod number;
-mod offset;
-mod put_away;
 mod read_table;
-mod seen;
 mod split;
-mod strings;
 mod value;
 mod versions;
 
@@ -30,4 +23,4 @@ pub use dwp_bytes::{
 pub use dwp_units::{UnitHeader, UnitHeaders, UnitSection, UnitType};
 pub use entry::{Attribute, Attributes, RootEntry, root};
 pub use split::SplitAttributes;
-pub use strings::{StringSections, attr_string};
+pub use value::{StringSections, attr_string};

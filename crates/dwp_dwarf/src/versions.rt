@@ -1,10 +1,73 @@
-//! A map from numbers to numbers whose versions share what they have alike.
+//! Maps from numbers: the numbers of the codes of abbreviations (DWARF 5, 7.5.3), and a map whose
+//! versions share what they have alike.
 
-ghost use Rattle.std.specs.Prelude.{◌≡◌, ◌≢◌, ◌≤◌, ◌<◌, ◌-◌, ◌/◌, ℕ, length, Some, IfSome};
-ghost use Rattle.dwp_dwarf.specs.Versions.{node_of, held, side_of, half, older, copy_of};
+ghost use Rattle.std.specs.Prelude.{◌≡◌, ◌≢◌, ◌≤◌, ◌<◌, ◌-◌, ◌/◌, ℕ, [], length, true, false, Some};
+ghost use Rattle.std.specs.Prelude.{IfSome};
+ghost use Rattle.std.specs.Ordering.{nat_cmp};
+ghost use Rattle.std.specs.BTreeMap.{get};
+ghost use Rattle.dwp_dwarf.specs.Versions.{Numbered, GrowsCodes};
+ghost use Rattle.dwp_dwarf.specs.Versions.{node_of, held, side_of, with_side, half, older, copy_of};
 ghost use Rattle.dwp_dwarf.specs.Versions.{value_below, value_in, Grows};
 
 use std::alloc::Global;
+use std::collections::BTreeMap;
+
+/// Puts a value under a key. False where there is no memory for it.
+pub(crate) fn put<V: Drop>(map: &mut BTreeMap<u64, V>, key: u64, value: V) -> bool
+    ensures added { result ≡ true → get nat_cmp map.new key ≡ Some value }
+    ensures others { (other : ℕ) → other ≢ key
+        → get nat_cmp map.new other ≡ get nat_cmp map.old other }
+    ensures refused { result ≡ false → (other : ℕ)
+        → get nat_cmp map.new other ≡ get nat_cmp map.old other }
+{
+    map.insert(key, value).is_ok()
+}
+
+/// Codes and their numbers: each new code gets the next number, from 0 on.
+#[derive(Drop)]
+pub(crate) struct Codes {
+    pub(crate) numbers: BTreeMap<u64, u32>,
+    // How many numbers were given.
+    pub(crate) count: u32,
+}
+
+impl Codes {
+    /// No code has a number, and no memory is taken.
+    pub(crate) fn new(alloc: Global) -> Codes
+        ensures { result.numbers.entries ≡ [] }
+    {
+        Codes {
+            numbers: BTreeMap::new(alloc),
+            count: 0,
+        }
+    }
+
+    /// The number of a code.
+    pub(crate) fn number(&self, code: u64) -> Option<u32>
+        ensures { result ≡ get nat_cmp self.now.numbers code }
+    {
+        self.numbers.get(&code).copied()
+    }
+
+    /// The number of a code: the next one where it has none yet. None where there is no memory.
+    pub(crate) fn number_or_next(&mut self, code: u64) -> Option<u32>
+        ensures number { IfSome result (λ number. get nat_cmp self.new.numbers code ≡ Some number) }
+        ensures numbered { Numbered self.old → Numbered self.new }
+        ensures grows { GrowsCodes self.old self.new }
+    {
+        if let Some(number) = self.number(code) {
+            return Some(number);
+        }
+        let number = self.count;
+        let count = number.checked_add(1)?;
+        if put(&mut self.numbers, code, number) {
+            self.count = count;
+            Some(number)
+        } else {
+            None
+        }
+    }
+}
 
 /// The value of a key, and where the others are.
 #[derive(Clone, Copy)]
@@ -42,11 +105,6 @@ impl Versions {
         }
     }
 
-    /// How many nodes all versions have.
-    pub(crate) fn len(&self) -> usize {
-        self.nodes.len()
-    }
-
     /// The value of a key in a version.
     pub(crate) fn get(&self, version: u32, key: u32) -> Option<u32>
         ensures { result ≡ value_in self.now.nodes.items version key }
@@ -77,6 +135,23 @@ impl Node {
         ensures { result ≡ side_of self.now key }
     {
         if key % 2 == 0 { self.even } else { self.odd }
+    }
+
+    /// The node with another version on the side of a key.
+    fn with_side(self, key: u32, version: u32) -> Node
+        ensures { result ≡ with_side self key version }
+    {
+        if key % 2 == 0 {
+            Node {
+                even: version,
+                ..self
+            }
+        } else {
+            Node {
+                odd: version,
+                ..self
+            }
+        }
     }
 
     /// The value, where there is one.
@@ -179,11 +254,6 @@ fn insert_below(
     if key == 0 {
         return add(nodes, Node { value, ..node });
     }
-    if key % 2 == 0 {
-        let even = insert_below(nodes, levels - 1, node.even, half(key), value)?;
-        add(nodes, Node { even, ..node })
-    } else {
-        let odd = insert_below(nodes, levels - 1, node.odd, half(key), value)?;
-        add(nodes, Node { odd, ..node })
-    }
+    let side = insert_below(nodes, levels - 1, node.side(key), half(key), value)?;
+    add(nodes, node.with_side(key, side))
 }

@@ -1,7 +1,7 @@
 use Rattle.dwp_dwarf.proofs.Terms
 use Terms.{Abbreviation, false, get, Input, is_some, known_or, nat_cmp, None, Option, refl, Some}
 use Terms.{sym, ◌∙◌, ◌≡◌}
-use Rattle.dwp_dwarf.proofs.Keys.{by_key, on_ok, key_apart}
+use Rattle.dwp_dwarf.proofs.Keys.{by_key}
 use Rattle.dwp_dwarf.proofs.Tables.{Found, look_up-here, look_up-other}
 use Rattle.dwp_dwarf.proofs.read_table.remember.Goals as goal
 
@@ -23,10 +23,8 @@ returns-then-contains_key-clause-kept g c = λ yes rest behind h other.
 
 pub returns-clause-kept : goal.returns-clause-kept
 returns-clause-kept g c = λ ok rest behind h other.
-    let updates = on_ok _ c.insert.result (sym c.is_ok.ensures.value ∙ ok)
-    c.insert.ensures.updates in
     let none = not_some _ (sym c.contains_key.ensures ∙ c.if-contains_key.false) in
-    by_key c.args.code other (λ e. rw (e, updates.1, none, look_up-here rest _ h) refl)
-    (λ apart. rw (updates.2 other (key_apart c.args.code other apart))
+    by_key c.args.code other (λ e. rw (e, c.put.ensures.added ok, none, look_up-here rest _ h) refl)
+    (λ apart. rw (c.put.ensures.others other apart)
     (known_alike g.R.Reader.input (get nat_cmp c.args.known.now other) _ _
     (λ gone. sym (look_up-other other rest _ h (λ e. apart (sym e))))))

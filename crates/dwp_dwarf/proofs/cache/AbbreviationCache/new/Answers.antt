@@ -10,7 +10,7 @@ invariant_of-result g c = (
     table = g.R.Reader.input c.new.result.rest;
     is = from_start _ ∙ ap (λ r. Ok (g.R.Reader.input r)) (sym c.new.ensures.rest);
     same = λ code. rw (none_there c.new.result.known code c.new.ensures.known) refl;
-    lists = none_each _ c.new.result.lists c.new.ensures.lists;
+    lists = none_each _ c.new.result.lists.by_key c.new.ensures.lists;
   },
   none_each _ c.new-2.result.tables c.new-2.ensures,
   record {
@@ -18,6 +18,6 @@ invariant_of-result g c = (
       numbered = none_numbered c.new-3.result.chains.codes c.new-3.ensures.codes;
       each = none_each _ c.new-3.result.chains.places c.new-3.ensures.places;
     };
-    lists = none_each _ c.new-3.result.chains.lists c.new-3.ensures.lists;
+    lists = none_each _ c.new-3.result.chains.lists.by_key c.new-3.ensures.lists;
   },
 )

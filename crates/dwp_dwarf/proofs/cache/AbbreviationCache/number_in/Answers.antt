@@ -1,29 +1,31 @@
-use Rattle.dwp_dwarf.proofs.Terms.{declaration_of, refl, StandsAt, ◌≡◌}
-use Rattle.dwp_dwarf.proofs.Places.{stands_first}
+use Rattle.dwp_dwarf.proofs.Terms.{declaration_of, Ok, refl, Some, ◌∙◌, ◌≡◌}
+use Rattle.dwp_dwarf.specs.Chains.{said_at}
+use Rattle.dwp_dwarf.proofs.Places.{chains_listed}
 use Rattle.dwp_dwarf.proofs.cache.AbbreviationCache.number_in.Given.{Over}
 use Rattle.dwp_dwarf.proofs.cache.AbbreviationCache.number_in.Goals as goal
 use Rattle.std.proofs.Common.{rules}
 
--- the declaration of the code stands where it was first found
-stands : (g : Over) (c : goal.After-number-number g)
-    → StandsAt (g.R.Reader.input c.self-2.inside.section) c.in-Some-first.first
-    (declaration_of g.R.Reader.input c.in-Some.abbreviation)
-stands g c =
+-- the declaration of the code is said of the place where it was first found
+said : (g : Over) (c : goal.After-number-number g)
+    → said_at (g.R.Reader.input c.self-2.inside.section) c.in-Some-first.first
+    ≡ Ok (Some (declaration_of g.R.Reader.input c.in-Some.abbreviation))
+said g c =
     let view = c.self-2.view_is in
     let kept = c.in_ok-abbreviation.ensures.kept in
     let same : c.self-2.inside.section ≡ c.args.self.now = cc in
-    stands_first (c.in-Some-first.ensures c.self-2.invariant.2)
-    (λ table is. rw c.in-Some.is at (c.in_ok-abbreviation.ensures.declared table (rw same at is)))
+    let first = c.in-Some-first.ensures c.self-2.invariant.2 in
+    first.says ∙ rw c.in-Some.is at
+    (c.in_ok-abbreviation.ensures.declared first.table (rw same at first.is))
 
 pub invariant_of-self : goal.invariant_of-self
 invariant_of-self g c =
-    let kept = c.number-number.ensures.kept _ (stands g c) c.self-2.invariant.2 in
-    (c.self-2.invariant.0, c.self-2.invariant.1, kept)
+    let kept = c.number-number.ensures.lists _ (said g c) c.self-2.invariant.2.lists in
+    (c.self-2.invariant.0, c.self-2.invariant.1, chains_listed kept c.self-2.invariant.2)
 
 pub returns-in-Some-first-clause-numbered : goal.returns-in-Some-first-clause-numbered
 returns-in-Some-first-clause-numbered g c = λ table is.
-    let said = rw c.in-Some.is at (c.in_ok-abbreviation.ensures.declared table is) in
-    rw (said, c.number-number.ensures.number _ (stands g c) c.self-2.invariant.2) refl
+    let declared = rw c.in-Some.is at (c.in_ok-abbreviation.ensures.declared table is) in
+    rw (declared, c.number-number.ensures.number _ (said g c) c.self-2.invariant.2.lists) refl
 
 pub invariant_of-self-then-is_at_hand : goal.invariant_of-self-then-is_at_hand
 invariant_of-self-then-is_at_hand g c = search rules

@@ -1,7 +1,8 @@
 use Rattle.dwp_dwarf.proofs.Terms
 use Terms.{Answers, attributes_of, DebugEntry, declaration_of, entry, from_at, Input, Ok, split_in}
-use Terms.{StandsAt, subst, ◌≡◌}
-use Rattle.dwp_dwarf.proofs.Places.{stands_first}
+use Terms.{Some, subst, ◌∙◌, ◌≡◌}
+use Rattle.dwp_dwarf.specs.Chains.{said_at}
+use Rattle.dwp_dwarf.proofs.Places.{chains_listed}
 use Rattle.dwp_dwarf.proofs.cache.AbbreviationCache.split_in.Given.{Over}
 use Rattle.dwp_dwarf.proofs.cache.AbbreviationCache.split_in.Goals.{in-Some-first}
 use Rattle.dwp_dwarf.proofs.cache.AbbreviationCache.split_in.Goals.{in_default-first+else-is_known}
@@ -9,21 +10,22 @@ use Rattle.dwp_dwarf.proofs.cache.AbbreviationCache.split_in.Goals.{in_default-f
 use Rattle.dwp_dwarf.proofs.cache.AbbreviationCache.split_in.Goals as goal
 use Rattle.std.proofs.Common.{rules}
 
--- the declaration of the code stands where it was first found
-stands : (g : Over) (c : goal.After-split-split g)
-    → StandsAt (g.R.Reader.input c.self-2.inside.section) c.in-Some-first.first
-    (declaration_of g.R.Reader.input c.in-Some.declared)
-stands g c =
+-- the declaration of the code is said of the place where it was first found
+said : (g : Over) (c : goal.After-split-split g)
+    → said_at (g.R.Reader.input c.self-2.inside.section) c.in-Some-first.first
+    ≡ Ok (Some (declaration_of g.R.Reader.input c.in-Some.declared))
+said g c =
     let view = c.self-2.view_is in
     let kept = c.in_ok-declared.ensures.kept in
     let same : c.self-2.inside.section ≡ c.args.self.now = cc in
-    stands_first (c.in-Some-first.ensures c.self-2.invariant.2)
-    (λ table is. rw c.in-Some.is at (c.in_ok-declared.ensures.declared table (rw same at is)))
+    let first = c.in-Some-first.ensures c.self-2.invariant.2 in
+    first.says ∙ rw c.in-Some.is at
+    (c.in_ok-declared.ensures.declared first.table (rw same at first.is))
 
 pub invariant_of-self : goal.invariant_of-self
 invariant_of-self g c =
-    let kept = c.split-split.ensures.kept _ (stands g c) c.self-2.invariant.2 in
-    (c.self-2.invariant.0, c.self-2.invariant.1, kept)
+    let kept = c.split-split.ensures.lists _ (said g c) c.self-2.invariant.2.lists in
+    (c.self-2.invariant.0, c.self-2.invariant.1, chains_listed kept c.self-2.invariant.2)
 
 pub returns-clause-split : goal.returns-clause-split
 returns-clause-split g c = λ table is.
@@ -36,14 +38,15 @@ returns-clause-split g c = λ table is.
     ≡ Ok t). rw c.in-Some.is at (c.in_ok-declared.ensures.declared t (rw own at begins)) in
     let says : Answers (attributes_of input) c.match-first.split (split_in c.args.encoding.format
     (entry c.args.encoding d (input c.args.values)).attributes) = elim c.match-first.branch [
-      | in-Some-first w ↦ rw w.split-is (w.split-split.ensures.split _
-          (stands_first (w.in-Some-first.ensures c.self-2.invariant.2) declared)
-          c.self-2.invariant.2)
+      | in-Some-first w ↦
+          let first = w.in-Some-first.ensures c.self-2.invariant.2 in
+          rw w.split-is (w.split-split.ensures.split _
+          (first.says ∙ declared first.table first.is) c.self-2.invariant.2.lists)
       | in_default-first+then-is_known+then-is_at_hand w ↦
           let table = c.self-2.invariant.0 in
           let same : c.args.offset ≡ c.self-2.inside.tables.offset =
           w.is_at_hand.ensures w.if-is_at_hand.true in
-          rw w.split-is (w.split.ensures.split table.table
+          rw w.split-is (w.split.ensures.split _
           (declared table.table (rw same table.is)) table.lists)
       | in_default-first+else-is_known w ↦
           rw w.split-is (subst (λ (e : DebugEntry). Answers (attributes_of input)
