@@ -18,24 +18,6 @@ pub small : (k scale : ℕ) → scale ≡ 128 ^ k → k < 9 → scale ≤ 128 ^ 
 small k scale e lt = let here : 128 ^ k ≤ 128 ^ 8 = pow-le-pow_right {n = 128} (omega arith) {i = k}
     {j = 8} (omega arith) in omega (arith, e, here)
 
--- seven more bits
-pub bits_fit : (value scale low : ℕ) → value < scale → scale ≤ 128 ^ 8 → low ≤ 127
-    → value + low * scale < 2 ^ 63
-bits_fit value scale low lt small high =
-    omega (arith, mul-le-mul_right {m = low} {n = 127} scale high)
-
--- of a byte that is read before the tenth
-pub seven_more : (k value scale low : ℕ) → scale ≡ 128 ^ k → k < 9 → value < scale → low ≤ 127
-    → value + low * scale < 2 ^ 63
-seven_more k value scale low scaled lt below high =
-    bits_fit value scale low below (small k scale scaled lt) high
-
--- and after nine bytes one bit more
-pub last_fits : (value scale low : ℕ) → value < scale → scale ≡ 128 ^ 9 → low ≤ 1
-    → value + low * scale < 2 ^ 64
-last_fits value scale low lt is high =
-    omega (arith, mul-le-mul_right {m = low} {n = 1} scale high)
-
 -- ---- numbers of either kind, by how those of some bytes are read, and what a number is behind a
 -- value
 module _ {N : Type 0} (read : ℕ → Input → Result (N × Input) ReadError) (behind : ℕ → ℕ → N
@@ -84,6 +66,22 @@ module _ {N : Type 0} (read : ℕ → Input → Result (N × Input) ReadError) (
             (carried (b - 128) 128 r) ≡ carried (value + (b - 128) * scale) (scale * 128) r
         both (Ok x) = ap (λ n. Ok (n, x.1)) (twice value scale (b - 128) x.0)
         both (Err e) = refl
+
+module _ {N : Type 0} {read : ℕ → Input → Result (N × Input) ReadError} {behind : ℕ → ℕ → N → N}
+    {first i : Input} {k value scale : ℕ} (far : SoFar read behind first i k value scale) where
+  -- seven more bits fit before the tenth byte
+  pub fits : (low : ℕ) → k < 9 → low ≤ 127 → value + low * scale < 2 ^ 63
+  fits low lt high = omega (
+    arith,
+    far.below,
+    small k scale far.scaled lt,
+    mul-le-mul_right {m = low} {n = 127} scale high,
+  )
+
+  -- and one more bit after nine
+  pub last_fits : (low : ℕ) → k ≡ 9 → low ≤ 1 → value + low * scale < 2 ^ 64
+  last_fits low nine high = let scaled = far.scaled ∙ ap (λ n. 128 ^ n) nine in
+      omega (arith, far.below, scaled, mul-le-mul_right {m = low} {n = 1} scale high)
 
 -- ---- unsigned numbers
 abbrev pub unsigned : ℕ → ℕ → ℕ → ℕ

@@ -56,14 +56,20 @@ pub trait Reader: Copy {
     /// # Errors
     /// `UnexpectedEof` where fewer bytes are left.
     fn read_offset(&mut self, format: Format) -> Result<u64, ReadError>
-        ensures { Reads (λ x. x) result (input self.old) (input self.new) (offset_at format) };
+        ensures { Reads (λ x. x) result (input self.old) (input self.new) (offset_at format) }
+    {
+        self.read_length(format)
+    }
 
     /// An offset of that many bytes, relocated.
     ///
     /// # Errors
     /// `AddressSize` unless it has 1, 2, 4 or 8 bytes, `UnexpectedEof` where fewer are left.
     fn read_sized_offset(&mut self, size: u8) -> Result<u64, ReadError>
-        ensures { Reads (λ x. x) result (input self.old) (input self.new) (sized_at size) };
+        ensures { Reads (λ x. x) result (input self.old) (input self.new) (sized_at size) }
+    {
+        self.read_address(size)
+    }
 
     /// How many bytes are left.
     fn len(&self) -> usize
@@ -223,7 +229,7 @@ pub trait Reader: Copy {
     ///
     /// # Errors
     /// `BigLeb` past 10 bytes or 64 bits, `UnexpectedEof` where the bytes end before the number.
-    #[tactic(auto, using(crate::proofs::Lebs::small, crate::proofs::Lebs::seven_more))]
+    #[tactic(auto, using(crate::proofs::Lebs::small))]
     fn read_uleb128(&mut self) -> Result<u64, ReadError>
         ensures { Reads (λ x. x) result (input self.old) (input self.new) uleb_at }
     {
@@ -251,7 +257,7 @@ pub trait Reader: Copy {
     ///
     /// # Errors
     /// `BigLeb` past 10 bytes or 64 bits, `UnexpectedEof` where the bytes end before the number.
-    #[tactic(auto, using(crate::proofs::Lebs::small, crate::proofs::Lebs::seven_more))]
+    #[tactic(auto, using(crate::proofs::Lebs::small))]
     fn read_sleb128(&mut self) -> Result<i64, ReadError>
         ensures { Reads (λ x. x) result (input self.old) (input self.new) sleb_at }
     {

@@ -1,8 +1,7 @@
 //! Readers of bytes in memory.
 
 ghost use Rattle.std.specs.Prelude.{◌≡◌, ◌+◌, ◌<◌, ◌^◌, length};
-ghost use Rattle.dwp_base.specs.Reading.{Reads};
-ghost use Rattle.dwp_bytes.specs.Input.{section, sized_at};
+ghost use Rattle.dwp_bytes.specs.Input.{section};
 
 use crate::encoding::Format;
 use crate::error::ReadError;
@@ -35,21 +34,6 @@ impl<'a> SliceReader<'a> {
         ensures { result.now ≡ (⟦<SliceReader<'a> as Reader>⟧.input self.now).bytes }
     {
         self.bytes
-    }
-
-    /// A number of that many bytes.
-    #[tactic(auto, unfolding(crate::specs::Input::sized_at, crate::specs::Input::relocated_at, crate::specs::Input::number_at, crate::specs::Input::byte_at))]
-    fn sized_number(&mut self, size: u8) -> Result<u64, ReadError>
-        ensures { Reads (λ x. x) result (⟦<SliceReader<'a> as Reader>⟧.input self.old)
-            (⟦<SliceReader<'a> as Reader>⟧.input self.new) (sized_at size) }
-    {
-        match size {
-            1 => Ok(u64::from(self.read_u8()?)),
-            2 => Ok(u64::from(self.read_u16()?)),
-            4 => Ok(u64::from(self.read_u32()?)),
-            8 => self.read_u64(),
-            _ => Err(ReadError::AddressSize),
-        }
     }
 }
 
@@ -96,8 +80,15 @@ impl<'a> Reader for SliceReader<'a> {
         })
     }
 
+    #[tactic(auto, unfolding(crate::specs::Input::sized_at, crate::specs::Input::relocated_at, crate::specs::Input::number_at, crate::specs::Input::byte_at))]
     fn read_address(&mut self, address_size: u8) -> Result<u64, ReadError> {
-        self.sized_number(address_size)
+        match address_size {
+            1 => Ok(u64::from(self.read_u8()?)),
+            2 => Ok(u64::from(self.read_u16()?)),
+            4 => Ok(u64::from(self.read_u32()?)),
+            8 => self.read_u64(),
+            _ => Err(ReadError::AddressSize),
+        }
     }
 
     #[tactic(auto, unfolding(crate::specs::Input::offset_at, crate::specs::Input::relocated_at, crate::specs::Input::number_at))]
@@ -106,13 +97,5 @@ impl<'a> Reader for SliceReader<'a> {
             Format::Dwarf32 => Ok(u64::from(self.read_u32()?)),
             Format::Dwarf64 => self.read_u64(),
         }
-    }
-
-    fn read_offset(&mut self, format: Format) -> Result<u64, ReadError> {
-        self.read_length(format)
-    }
-
-    fn read_sized_offset(&mut self, size: u8) -> Result<u64, ReadError> {
-        self.sized_number(size)
     }
 }

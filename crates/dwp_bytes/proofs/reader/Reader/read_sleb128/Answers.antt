@@ -1,7 +1,7 @@
 use Rattle.std.proofs.Common.{◌≡◌, ◌-◌, ◌*◌, ◌<◌, ◌^◌, refl, ap, arith}
 use Rattle.std.proofs.lemmas.Int.{ints}
 use Rattle.std.proofs.lemmas.Result.{err_from_is_err_and}
-use Rattle.dwp_bytes.proofs.Lebs.{small, bits_fit, seven_more, signed_more, sleb_low, sleb_high}
+use Rattle.dwp_bytes.proofs.Lebs.{small, fits, signed_more, sleb_low, sleb_high}
 use Rattle.dwp_bytes.proofs.Lebs.{sleb_fails, sleb_big, cast_less, cast_lowest, signed_begun}
 use Rattle.dwp_bytes.proofs.reader.Reader.read_sleb128.Goals as goal
 
@@ -18,82 +18,60 @@ returns-in_err-byte g c =
 
 pub overflow_mul-result : goal.overflow_mul-result
 overflow_mul-result g c =
-    let far = c.loop.invariant.1 in
-    let m = seven_more _ _ _ c.in_ok-byte.byte far.scaled c.loop-test.true far.below
-    (omega arith) in
+    let m = fits c.loop.invariant.1 c.in_ok-byte.byte c.loop-test.true (omega arith) in
     rw c.from.ensures (omega (arith, m))
 
 pub overflow_add-result : goal.overflow_add-result
 overflow_add-result g c =
-    let far = c.loop.invariant.1 in
-    let m = seven_more _ _ _ c.in_ok-byte.byte far.scaled c.loop-test.true far.below
-    (omega arith) in
+    let m = fits c.loop.invariant.1 c.in_ok-byte.byte c.loop-test.true (omega arith) in
     rw c.from.ensures (omega (arith, m))
 
 pub overflow_cast-result : goal.overflow_cast-result
 overflow_cast-result g c =
-    let far = c.loop.invariant.1 in
-    let m = seven_more _ _ _ c.in_ok-byte.byte far.scaled c.loop-test.true far.below
-    (omega arith) in
+    let m = fits c.loop.invariant.1 c.in_ok-byte.byte c.loop-test.true (omega arith) in
     rw c.from.ensures (omega (arith, ints, m))
 
 pub returns-then-byte-lt64 : goal.returns-then-byte-lt64
 returns-then-byte-lt64 g c =
-    let far = c.loop.invariant.1 in
-    let m = seven_more _ _ _ c.in_ok-byte.byte far.scaled c.loop-test.true far.below
-    (omega arith) in
-    rw c.from.ensures (sleb_low far (omega arith) c.in_ok-byte.ensures c.if-byte-lt64.true m
+    let m = fits c.loop.invariant.1 c.in_ok-byte.byte c.loop-test.true (omega arith) in
+    rw c.from.ensures (sleb_low c.loop.invariant.1 (omega arith) c.in_ok-byte.ensures c.if-byte-lt64.true m
     (omega (arith, ints, m)))
 
 pub overflow_cast-result-then-byte-lt128 : goal.overflow_cast-result-then-byte-lt128
 overflow_cast-result-then-byte-lt128 g c =
-    let far = c.loop.invariant.1 in
-    let s = small _ _ far.scaled c.loop-test.true in
-    omega (arith, ints, s, far.below)
+    omega (arith, ints, fits c.loop.invariant.1 0 c.loop-test.true (omega arith))
 
 pub overflow_mul-result-then-byte-lt128 : goal.overflow_mul-result-then-byte-lt128
 overflow_mul-result-then-byte-lt128 g c =
-    let far = c.loop.invariant.1 in
-    let s = small _ _ far.scaled c.loop-test.true in
-    let m = bits_fit _ _ (128 - c.in_ok-byte.byte) far.below s (omega arith) in
+    let m = fits c.loop.invariant.1 (128 - c.in_ok-byte.byte) c.loop-test.true (omega arith) in
     rw c.from-then-byte-lt128.ensures (omega (arith, m))
 
 pub overflow_cast-result-then-byte-lt128-2 : goal.overflow_cast-result-then-byte-lt128-2
 overflow_cast-result-then-byte-lt128-2 g c =
-    let far = c.loop.invariant.1 in
-    let s = small _ _ far.scaled c.loop-test.true in
-    let m = bits_fit _ _ (128 - c.in_ok-byte.byte) far.below s (omega arith) in
+    let m = fits c.loop.invariant.1 (128 - c.in_ok-byte.byte) c.loop-test.true (omega arith) in
     rw c.from-then-byte-lt128.ensures (omega (arith, ints, m))
 
 pub overflow_sub-result : goal.overflow_sub-result
 overflow_sub-result g c =
-    let far = c.loop.invariant.1 in
-    let s = small _ _ far.scaled c.loop-test.true in
-    let m = bits_fit _ _ (128 - c.in_ok-byte.byte) far.below s (omega arith) in
-    rw c.from-then-byte-lt128.ensures (omega (arith, ints, m, s, far.below))
+    let m = fits c.loop.invariant.1 (128 - c.in_ok-byte.byte) c.loop-test.true (omega arith) in
+    rw c.from-then-byte-lt128.ensures (omega (arith, ints, m))
 
 pub returns-then-byte-lt128 : goal.returns-then-byte-lt128
 returns-then-byte-lt128 g c =
-    let far = c.loop.invariant.1 in
-    let s = small _ _ far.scaled c.loop-test.true in
-    let m = bits_fit _ _ (128 - c.in_ok-byte.byte) far.below s (omega arith) in
-    let fits : c.loop.value < 2 ^ 63 = omega (arith, s, far.below) in
-    rw c.from-then-byte-lt128.ensures (sleb_high far (omega arith) c.in_ok-byte.ensures
-    c.if-byte-lt64.false c.if-byte-lt128.true fits (omega (arith, m))
-    (cast_less c.loop.value ((128 - c.in_ok-byte.byte) * c.loop.scale) fits (omega (arith, m))))
+    let m = fits c.loop.invariant.1 (128 - c.in_ok-byte.byte) c.loop-test.true (omega arith) in
+    let low : c.loop.value < 2 ^ 63 = omega (arith, m) in
+    rw c.from-then-byte-lt128.ensures (sleb_high c.loop.invariant.1 (omega arith)
+    c.in_ok-byte.ensures c.if-byte-lt64.false c.if-byte-lt128.true low (omega (arith, m))
+    (cast_less c.loop.value ((128 - c.in_ok-byte.byte) * c.loop.scale) low (omega (arith, m))))
 
 pub overflow_mul-value : goal.overflow_mul-value
 overflow_mul-value g c =
-    let far = c.loop.invariant.1 in
-    let m = seven_more _ _ _ (c.in_ok-byte.byte - 128) far.scaled c.loop-test.true far.below
-    (omega arith) in
+    let m = fits c.loop.invariant.1 (c.in_ok-byte.byte - 128) c.loop-test.true (omega arith) in
     rw c.from-in-loop.ensures (omega (arith, m))
 
 pub overflow_add-value : goal.overflow_add-value
 overflow_add-value g c =
-    let far = c.loop.invariant.1 in
-    let m = seven_more _ _ _ (c.in_ok-byte.byte - 128) far.scaled c.loop-test.true far.below
-    (omega arith) in
+    let m = fits c.loop.invariant.1 (c.in_ok-byte.byte - 128) c.loop-test.true (omega arith) in
     rw c.from-in-loop.ensures (omega (arith, m))
 
 pub overflow_mul-scale : goal.overflow_mul-scale

@@ -1,7 +1,7 @@
-use Rattle.std.proofs.Common.{◌≡◌, ◌-◌, refl, ap, arith}
+use Rattle.std.proofs.Common.{◌-◌, refl, ap, arith}
 use Rattle.std.proofs.lemmas.Result.{err_from_is_err_and}
-use Rattle.dwp_bytes.proofs.Lebs.{more, small, seven_more, uleb_ends, uleb_fails, uleb_big}
-use Rattle.dwp_bytes.proofs.Lebs.{last_fits, unsigned_begun}
+use Rattle.dwp_bytes.proofs.Lebs.{more, small, fits, last_fits, uleb_ends, uleb_fails, uleb_big}
+use Rattle.dwp_bytes.proofs.Lebs.{unsigned_begun}
 use Rattle.dwp_bytes.proofs.reader.Reader.read_uleb128.Goals as goal
 
 pub loop-init : goal.loop-init
@@ -17,38 +17,28 @@ returns-in_err-byte g c =
 
 pub overflow_mul-result : goal.overflow_mul-result
 overflow_mul-result g c =
-    let far = c.loop.invariant.1 in
-    let m = seven_more _ _ _ c.in_ok-byte.byte far.scaled c.loop-test.true far.below
-    (omega arith) in
+    let m = fits c.loop.invariant.1 c.in_ok-byte.byte c.loop-test.true (omega arith) in
     rw c.from.ensures (omega (arith, m))
 
 pub overflow_add-result : goal.overflow_add-result
 overflow_add-result g c =
-    let far = c.loop.invariant.1 in
-    let m = seven_more _ _ _ c.in_ok-byte.byte far.scaled c.loop-test.true far.below
-    (omega arith) in
+    let m = fits c.loop.invariant.1 c.in_ok-byte.byte c.loop-test.true (omega arith) in
     rw c.from.ensures (omega (arith, m))
 
 pub returns-then-byte-lt128 : goal.returns-then-byte-lt128
 returns-then-byte-lt128 g c =
-    let far = c.loop.invariant.1 in
-    let m = seven_more _ _ _ c.in_ok-byte.byte far.scaled c.loop-test.true far.below
-    (omega arith) in
-    rw c.from.ensures (uleb_ends far (omega arith) c.in_ok-byte.ensures (omega arith)
+    let m = fits c.loop.invariant.1 c.in_ok-byte.byte c.loop-test.true (omega arith) in
+    rw c.from.ensures (uleb_ends c.loop.invariant.1 (omega arith) c.in_ok-byte.ensures (omega arith)
     (omega (arith, m)))
 
 pub overflow_mul-value : goal.overflow_mul-value
 overflow_mul-value g c =
-    let far = c.loop.invariant.1 in
-    let m = seven_more _ _ _ (c.in_ok-byte.byte - 128) far.scaled c.loop-test.true far.below
-    (omega arith) in
+    let m = fits c.loop.invariant.1 (c.in_ok-byte.byte - 128) c.loop-test.true (omega arith) in
     rw c.from-in-loop.ensures (omega (arith, m))
 
 pub overflow_add-value : goal.overflow_add-value
 overflow_add-value g c =
-    let far = c.loop.invariant.1 in
-    let m = seven_more _ _ _ (c.in_ok-byte.byte - 128) far.scaled c.loop-test.true far.below
-    (omega arith) in
+    let m = fits c.loop.invariant.1 (c.in_ok-byte.byte - 128) c.loop-test.true (omega arith) in
     rw c.from-in-loop.ensures (omega (arith, m))
 
 pub overflow_mul-scale : goal.overflow_mul-scale
@@ -80,21 +70,15 @@ returns-then-last-gt1 g c = (
 
 pub overflow_mul-result-2 : goal.overflow_mul-result-2
 overflow_mul-result-2 g c =
-    let nine : c.loop.counter ≡ 9 = omega arith in
-    let far = rw nine at c.loop.invariant.1 in
-    let m = last_fits _ _ c.in_ok-last.last far.below far.scaled (omega arith) in
+    let m = last_fits c.loop.invariant.1 c.in_ok-last.last (omega arith) (omega arith) in
     rw c.from-2.ensures (omega (arith, m))
 
 pub overflow_add-result-2 : goal.overflow_add-result-2
 overflow_add-result-2 g c =
-    let nine : c.loop.counter ≡ 9 = omega arith in
-    let far = rw nine at c.loop.invariant.1 in
-    let m = last_fits _ _ c.in_ok-last.last far.below far.scaled (omega arith) in
+    let m = last_fits c.loop.invariant.1 c.in_ok-last.last (omega arith) (omega arith) in
     rw c.from-2.ensures (omega (arith, m))
 
 pub returns : goal.returns
 returns g c =
-    let nine : c.loop.counter ≡ 9 = omega arith in
-    let far = rw nine at c.loop.invariant.1 in
-    rw c.from-2.ensures (uleb_ends far (omega arith) c.in_ok-last.ensures (omega arith)
-    (last_fits _ _ c.in_ok-last.last far.below far.scaled (omega arith)))
+    rw c.from-2.ensures (uleb_ends c.loop.invariant.1 (omega arith) c.in_ok-last.ensures (omega arith)
+    (last_fits c.loop.invariant.1 c.in_ok-last.last (omega arith) (omega arith)))

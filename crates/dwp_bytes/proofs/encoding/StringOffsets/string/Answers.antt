@@ -1,6 +1,6 @@
 use Rattle.std.proofs.Common.{rules}
 use Rattle.dwp_bytes.specs.StringOffsets.{string_in}
-use Rattle.dwp_bytes.proofs.string_offsets.StringOffsets.string.Goals as goal
+use Rattle.dwp_bytes.proofs.encoding.StringOffsets.string.Goals as goal
 
 pub returns-in-None : goal.returns-in-None
 unfolding string_in
