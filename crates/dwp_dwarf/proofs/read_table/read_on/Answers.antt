@@ -1,7 +1,6 @@
 use Rattle.dwp_dwarf.proofs.Terms.{arith, common_steps, err_from_is_err_and, sym, ◌∙◌}
 use Rattle.dwp_dwarf.proofs.Tables.{next_shorter, look_up-end, look_up-error, look_up-here}
 use Rattle.dwp_dwarf.proofs.read_table.read_on.Goals as goal
-use Rattle.std.proofs.Common.{rules}
 
 pub returns-in_err-found-clause-declared : goal.returns-in_err-found-clause-declared
 returns-in_err-found-clause-declared g c =
@@ -22,6 +21,3 @@ loop-found-smaller g c = next_shorter _ _ (rw c.in-Some.is at c.in_ok-found.ensu
 
 pub returns-clause-declared : goal.returns-clause-declared
 returns-clause-declared g c = grind (arith, common_steps, look_up-end)
-
-pub returns-then-not-remember-clause-declared : goal.returns-then-not-remember-clause-declared
-returns-then-not-remember-clause-declared g c = search rules
