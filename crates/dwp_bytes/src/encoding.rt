@@ -1,5 +1,5 @@
-//! The two formats of DWARF data, the encoding of a unit (DWARF 5, 7.4 and 7.5.1), and string offsets
-//! with the strings that they name (7.26).
+//! The two formats of DWARF data, the encoding of a unit (DWARF 5, 7.4 and 7.5.1), and string
+//! offsets with the strings that they name (7.26).
 
 ghost use Rattle.std.specs.Prelude.{◌≡◌, ◌≢◌, nat_le, nat_lt, All, IfOk, length};
 ghost use Rattle.std.specs.Option.{option_copied};

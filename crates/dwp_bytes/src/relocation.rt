@@ -1,5 +1,5 @@
-//! What a relocation makes of a stored number (ELF gABI, "Relocation"), and readers of sections that
-//! have relocations.
+//! What a relocation makes of a stored number (ELF gABI, "Relocation"), and readers of sections
+//! that have relocations.
 
 ghost use Rattle.std.specs.Prelude.{◌≡◌, ◌≤◌, IsTrue, ⊤};
 ghost use Rattle.dwp_bytes.specs.Relocation.{ascends, relocated_by, relocated_input, value_of};

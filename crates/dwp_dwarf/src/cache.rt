@@ -1,5 +1,5 @@
-//! Abbreviations that are looked up by table and code, and remembered (DWARF 5, 7.5.3), and how much
-//! was read of tables to find them.
+//! Abbreviations that are looked up by table and code, and remembered (DWARF 5, 7.5.3), and how
+//! much was read of tables to find them.
 
 ghost use Rattle.std.specs.Prelude.{◌≡◌, Result, Ok, Err, Some, None, IfSome, [], true, false};
 ghost use Rattle.std.specs.Prelude.{option_map};

@@ -185,8 +185,8 @@ impl Chains {
         Some(u64::from(first))
     }
 
-    /// How many bytes are left at the places of the table that begins where so many are, up to one that
-    /// is remembered.
+    /// How many bytes are left at the places of the table that begins where so many are, up to one
+    /// that is remembered.
     fn lefts<R: Reader>(&self, section: R, left: u64) -> Vec<u64> {
         let mut lefts = Vec::new(self.alloc);
         let Some(mut at) = from_end(section, left) else {

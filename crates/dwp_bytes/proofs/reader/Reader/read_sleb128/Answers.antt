@@ -34,7 +34,8 @@ overflow_cast-result g c =
 pub returns-then-byte-lt64 : goal.returns-then-byte-lt64
 returns-then-byte-lt64 g c =
     let m = fits c.loop.invariant.1 c.in_ok-byte.byte c.loop-test.true (omega arith) in
-    rw c.from.ensures (sleb_low c.loop.invariant.1 (omega arith) c.in_ok-byte.ensures c.if-byte-lt64.true m
+    rw c.from.ensures (sleb_low c.loop.invariant.1 (omega arith) c.in_ok-byte.ensures
+    c.if-byte-lt64.true m
     (omega (arith, ints, m)))
 
 pub overflow_cast-result-then-byte-lt128 : goal.overflow_cast-result-then-byte-lt128

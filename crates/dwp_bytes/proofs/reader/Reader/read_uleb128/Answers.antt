@@ -80,5 +80,6 @@ overflow_add-result-2 g c =
 
 pub returns : goal.returns
 returns g c =
-    rw c.from-2.ensures (uleb_ends c.loop.invariant.1 (omega arith) c.in_ok-last.ensures (omega arith)
+    rw c.from-2.ensures (uleb_ends c.loop.invariant.1 (omega arith)
+    c.in_ok-last.ensures (omega arith)
     (last_fits c.loop.invariant.1 c.in_ok-last.last (omega arith) (omega arith)))

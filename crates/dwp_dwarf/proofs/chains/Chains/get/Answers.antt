@@ -8,4 +8,5 @@ returns-in_ok-declared-in-Some-clause-said g c = λ all table is.
     (sym c.in_ok-place.ensures) (c.learn_table.ensures.places all.places)
     (c.in_ok-left.ensures.left table is) in
     let d = rw (sym c.first_in.ensures ∙ c.in-Some.is) at here in
-    d.says ∙ ap (λ (x : Declaration). Ok (Some x)) (c.in_ok-declared-in-Some.ensures d.declared d.stands)
+    d.says ∙ ap (λ (x : Declaration). Ok (Some x)) (c.in_ok-declared-in-Some.ensures
+    d.declared d.stands)
