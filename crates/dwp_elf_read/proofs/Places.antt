@@ -9,9 +9,9 @@ use Rattle.std.proofs.lemmas.Option.{slice_get_past, slice_get_read}
 use Rattle.dwp_elf_read.specs.declared.error.ReadError.{ReadError}
 use Rattle.dwp_elf_read.specs.declared.file.ElfFile.{ElfFile}
 use Rattle.dwp_elf_read.specs.declared.relocation.RawRelocation.{RawRelocation}
-use Rattle.dwp_elf_read.specs.declared.relocations.Relocations.{Relocations}
+use Rattle.dwp_elf_read.specs.declared.relocation.Relocations.{Relocations}
 use Rattle.dwp_elf_read.specs.declared.section.Section.{Section}
-use Rattle.dwp_elf_read.specs.declared.table.Table.{Table}
+use Rattle.dwp_elf_read.specs.declared.relocation.Table.{Table}
 use Rattle.dwp_elf_read.specs.Elf.{SectionMeaning, sections_from}
 use Rattle.dwp_elf_read.specs.Relocation.{relocation_at, relocation_size, entries_from}
 use Rattle.dwp_elf_read.specs.Relocation.{entries_then, relocates, table_of, relocations_in}

@@ -3,7 +3,7 @@ use Rattle.std.specs.Prelude.{ℕ, ◌+◌, ◌*◌, List, [], Bool, false, ◌|
 use Rattle.std.specs.Prelude.{map, drop}
 use Rattle.std.specs.Prelude.{take, position, Option, Some, None, Result, Ok, Err, slice_range}
 use Rattle.std.specs.Prelude.{if◌then◌else◌}
-use Rattle.std.specs.Option.{option_and_then}
+use Rattle.std.specs.Option.{ok_or, option_and_then}
 use Rattle.std.specs.List.{range_with_len}
 use Rattle.std.specs.Str.{is_utf8, bytes_eq}
 use Rattle.std.specs.Int.Bits.{bit_and}
@@ -15,8 +15,8 @@ use Rattle.dwp_base.specs.declared.section.SectionKind.{SectionKind}
 use Rattle.dwp_elf_read.specs.declared.error.ReadError.{ReadError}
 use Rattle.dwp_elf_read.specs.declared.error.ReadError.TheVariants.{SectionTable, SectionEntrySize}
 use Rattle.dwp_elf_read.specs.declared.error.ReadError.TheVariants.{NameTable}
-use Rattle.dwp_elf_read.specs.declared.header.FileHeader.{FileHeader}
-use Rattle.dwp_elf_read.specs.declared.header.SectionHeader.{SectionHeader}
+use Rattle.dwp_elf_read.specs.declared.image.FileHeader.{FileHeader}
+use Rattle.dwp_elf_read.specs.declared.image.SectionHeader.{SectionHeader}
 use Rattle.dwp_elf_read.specs.Layout.{word_size, entry_size, is_inside, file_header_of}
 use Rattle.dwp_elf_read.specs.Layout.{section_header_of}
 use Rattle.dwp_elf_read.specs.Identification.{identity_of}
@@ -62,16 +62,11 @@ text_at table place =
     let rest = drop place table in
     option_and_then (λ n. text_of (take n rest)) (position (λ b. b == 0) rest)
 
--- a section's name; without a name table none can be read
-abbrev pub section_name : Option (List ℕ) → ℕ → Option (List ℕ)
-section_name None place = None
-section_name (Some table) place = text_at table place
-
--- the section that a header describes
-unfoldable pub section_of : List ℕ → Option (List ℕ) → ℕ → SectionHeader → SectionMeaning
+-- the section that a header describes; where there is no name table, its name can't be read
+unfoldable pub section_of : List ℕ → List ℕ → ℕ → SectionHeader → SectionMeaning
 section_of bytes names number header = record {
   number = number;
-  name = section_name names header.name;
+  name = text_at names header.name;
   kind = header.kind;
   flags = header.flags;
   address = header.address;
@@ -87,7 +82,7 @@ section_header_at class order bytes table i =
     section_header_of (word_size class) order (drop (table + i * entry_size class) bytes)
 
 -- the sections from number i on, n of them, each described by the header at its place
-unfoldable pub sections_from : Class → Endianness → List ℕ → ℕ → Option (List ℕ) → ℕ → ℕ
+unfoldable pub sections_from : Class → Endianness → List ℕ → ℕ → List ℕ → ℕ → ℕ
     → List SectionMeaning
 sections_from class order bytes table names i n =
     map (λ k.
@@ -116,24 +111,20 @@ name_table_number class order bytes header =
     else (if header.table == 0 then Err NameTable
     else Ok (section_header_at class order bytes header.table 0).link)
 
--- the content of the name table, which has to lie in the file
-abbrev pub readable_table : Option (List ℕ) → Result (Option (List ℕ)) ReadError
-readable_table None = Err NameTable
-readable_table (Some names) = Ok (Some names)
-
--- the name table with that number; there is none where the number is 0
+-- the content of the name table with that number, which has to lie in the file; where the number is
+-- 0, there is no table
 unfoldable pub name_table_numbered : Class → Endianness → List ℕ → FileHeader → ℕ → ℕ
-    → Result (Option (List ℕ)) ReadError
+    → Result (List ℕ) ReadError
 name_table_numbered class order bytes header count number =
-    if number == 0 then Ok None
+    if number == 0 then Ok []
     else (if nat_lt number count
-    then readable_table
-    (section_content bytes (section_header_at class order bytes header.table number))
+    then ok_or (section_content bytes (section_header_at class order bytes header.table number))
+    NameTable
     else Err NameTable)
 
--- the name table, if the file has one
+-- the content of the name table, or no bytes
 unfoldable pub name_table : Class → Endianness → List ℕ → FileHeader → ℕ
-    → Result (Option (List ℕ)) ReadError
+    → Result (List ℕ) ReadError
 name_table class order bytes header count = do
   number ← name_table_number class order bytes header
   name_table_numbered class order bytes header count number

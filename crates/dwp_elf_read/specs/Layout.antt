@@ -4,8 +4,8 @@ use Rattle.dwp_base.specs.declared.class.Class.{Class}
 use Rattle.dwp_base.specs.declared.class.Class.TheVariants.{Elf32, Elf64}
 use Rattle.dwp_base.specs.declared.endian.Endianness.{Endianness}
 use Rattle.dwp_base.specs.Numbers.{number}
-use Rattle.dwp_elf_read.specs.declared.header.FileHeader.{FileHeader}
-use Rattle.dwp_elf_read.specs.declared.header.SectionHeader.{SectionHeader}
+use Rattle.dwp_elf_read.specs.declared.image.FileHeader.{FileHeader}
+use Rattle.dwp_elf_read.specs.declared.image.SectionHeader.{SectionHeader}
 
 -- the bytes of an address, an offset or a size
 abbrev pub word_size : Class → ℕ

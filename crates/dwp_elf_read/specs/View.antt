@@ -1,26 +1,25 @@
 -- What the values of this crate stand for.
 use Rattle.std.specs.Prelude.{ℕ, ◌-◌, List, [], ◌∷◌, ◌++◌, map, Result, Ok, Err}
-use Rattle.std.specs.Option.{option_copied}
 use Rattle.dwp_elf_read.specs.declared.error.ReadError.{ReadError}
 use Rattle.dwp_elf_read.specs.declared.file.ElfFile.{ElfFile}
 use Rattle.dwp_elf_read.specs.declared.section.Section.{Section}
 use Rattle.dwp_elf_read.specs.declared.section.Sections.{Sections}
 use Rattle.dwp_elf_read.specs.declared.relocation.RawRelocation.{RawRelocation}
-use Rattle.dwp_elf_read.specs.declared.table.Table.{Table}
-use Rattle.dwp_elf_read.specs.declared.relocations.Relocations.{Relocations}
+use Rattle.dwp_elf_read.specs.declared.relocation.Table.{Table}
+use Rattle.dwp_elf_read.specs.declared.relocation.Relocations.{Relocations}
 use Rattle.dwp_elf_read.specs.Elf.{Elf, SectionMeaning, sections_from, section_of}
 use Rattle.dwp_elf_read.specs.Elf.{section_header_at}
 use Rattle.dwp_elf_read.specs.Relocation.{entries_from, relocations_in}
 
 -- the i-th section of a file
 abbrev pub nth : ElfFile → ℕ → SectionMeaning
-nth f i = section_of f.image.bytes.now (option_copied f.names) i
+nth f i = section_of f.image.bytes.now f.names.now i
     (section_header_at f.image.class f.image.order f.image.bytes.now f.table i)
 
 -- the sections of a file from number i on
 unfoldable pub sections_after : ElfFile → ℕ → List SectionMeaning
 sections_after f i = sections_from f.image.class f.image.order f.image.bytes.now f.table
-    (option_copied f.names) i (f.count - i)
+    f.names.now i (f.count - i)
 
 -- a file
 unfoldable pub elf : ElfFile → Elf
@@ -33,7 +32,7 @@ elf f = record {
 
 -- a section, and the file that it stands in
 unfoldable pub section : Section → SectionMeaning
-section s = section_of s.file.image.bytes.now (option_copied s.file.names) s.number s.header
+section s = section_of s.file.image.bytes.now s.file.names.now s.number s.header
 
 unfoldable pub file : Section → Elf
 file s = elf s.file

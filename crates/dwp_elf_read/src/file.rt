@@ -7,8 +7,10 @@ use crate::error::ReadError;
 use crate::image::Image;
 use crate::kind::identity;
 use crate::section::{Section, Sections};
-use crate::symbol;
 use dwp_base::{Class, Endianness};
+
+/// The type of a symbol table.
+const SHT_SYMTAB: u32 = 2;
 
 /// An ELF file of 32 or 64 bits, in either byte order.
 #[derive(Clone, Copy)]
@@ -17,13 +19,13 @@ pub struct ElfFile<'a> {
     pub(crate) machine: u16,
     pub(crate) table: usize,
     pub(crate) count: usize,
-    pub(crate) names: Option<&'a [u8]>,
+    pub(crate) names: &'a [u8],
     pub ghost headers_inside: { table + count * entry_size image.class ≤ length image.bytes.now },
 }
 
 impl<'a> ElfFile<'a> {
-    ghost use Rattle.std.specs.Prelude.{◌≡◌, ◌^◌, ◌<◌, length, option_map, IfOk, IfSome};
-    ghost use Rattle.std.specs.Prelude.{slice_get, find};
+    ghost use Rattle.std.specs.Prelude.{◌≡◌, ◌↔◌, ◌^◌, ◌<◌, length, option_map, IfOk, IfSome};
+    ghost use Rattle.std.specs.Prelude.{slice_get, find, IsTrue};
     ghost use Rattle.dwp_base.specs.Reading.{Answers};
     ghost use Rattle.dwp_elf_read.specs.Elf.{elf_of, is_named};
     ghost use Rattle.dwp_elf_read.specs.Symbol.{symbol_value_of};
@@ -155,14 +157,42 @@ impl<'a> ElfFile<'a> {
     /// # Errors
     /// `SymbolTable` where the section isn't a symbol table whose content lies in the file,
     /// `SymbolIndex` where the table has no such symbol.
-    #[tactic(auto, unfolding(crate::specs::Symbol::symbol_value_of, crate::specs::View::elf))]
+    #[tactic(auto, unfolding(crate::specs::Symbol::symbol_value_of, crate::specs::Symbol::symbols_of, crate::specs::Symbol::value_in, crate::specs::View::elf))]
     pub fn symbol_value(&self, table: u32, i: u32) -> Result<u64, ReadError>
         ensures { Answers (λ value. value) result (symbol_value_of (elf self.now) table i) }
     {
         if i == 0 {
             return Ok(0);
         }
-        let content = symbol::symbols(self.section(table as usize))?;
-        symbol::value(&self.image.with_bytes(content), i)
+        let Some(table) = self.section(table as usize) else {
+            return Err(ReadError::SymbolTable);
+        };
+        if table.kind() != SHT_SYMTAB {
+            return Err(ReadError::SymbolTable);
+        }
+        let Ok(content) = table.data() else {
+            return Err(ReadError::SymbolTable);
+        };
+        let (size, place) = match self.image.class {
+            Class::Elf32 => (16, 4),
+            Class::Elf64 => (24, 8),
+        };
+        let start = i as usize * size;
+        if content.len() < start + size {
+            return Err(ReadError::SymbolIndex);
+        }
+        Ok(self.image.with_bytes(content).word_at(start + place))
+    }
+
+    /// Whether another file has the class, byte order and machine of this one.
+    #[tactic(auto, unfolding(crate::specs::View::elf))]
+    pub fn is_like(&self, other: &ElfFile<'_>) -> bool
+        ensures alike { IsTrue result ↔ (((elf self.now).class ≡ (elf other.now).class)
+            × ((elf self.now).order ≡ (elf other.now).order)
+            × ((elf self.now).machine ≡ (elf other.now).machine)) }
+    {
+        self.class() == other.class()
+            && self.endianness() == other.endianness()
+            && self.machine() == other.machine()
     }
 }

@@ -1,14 +1,52 @@
 //! Sections of a file (ELF gABI, "Sections").
 
+ghost use Rattle.std.specs.Prelude.{◌≡◌, ◌==◌, None, false, option_map, position};
+ghost use Rattle.dwp_elf_read.specs.Elf.{text_at, name_is};
+
 use crate::error::ReadError;
 use crate::file::ElfFile;
-use crate::header::{SHT_NOBITS, SectionHeader};
-use crate::name::{is_text_at, stands_at, text_in};
-use crate::relocations::Relocations;
+use crate::image::{SHT_NOBITS, SectionHeader};
+use crate::relocation::Relocations;
 use dwp_base::SectionKind;
+use memchr::memchr;
 
 /// The flag of a section whose content is compressed (`SHF_COMPRESSED`).
 const SHF_COMPRESSED: u64 = 0x800;
+
+/// The text from a place of a string table to the next zero byte.
+#[tactic(auto, unfolding(crate::specs::Elf::text_at))]
+fn text_in(table: &[u8], place: u32) -> Option<&str>
+    ensures { option_map (λ text. text.now) result ≡ text_at table.now place }
+{
+    let place = place as usize;
+    if place > table.len() {
+        return None;
+    }
+    let rest = table.split_at(place).1;
+    let end = memchr(0, rest)?;
+    std::str::from_utf8(rest.split_at(end).0).ok()
+}
+
+/// Whether this text stands at a place of a string table, and a zero byte behind it. No more of the
+/// table is looked at.
+#[inline(always)]
+#[tactic(auto, using(crate::proofs::ShortNames::no_text))]
+fn stands_at(table: &[u8], place: u32, text: &str) -> bool
+    ensures exact { position (λ b. b == 0) text.now ≡ None
+        → result ≡ name_is text.now (text_at table.now place) }
+    ensures other { result ≡ false → name_is text.now (text_at table.now place) ≡ false }
+{
+    let place = place as usize;
+    if place > table.len() {
+        return false;
+    }
+    let rest = table.split_at(place).1;
+    // Most names have another length: then no zero byte stands there.
+    if text.len() >= rest.len() || rest[text.len()] != 0 {
+        return false;
+    }
+    rest.split_at(text.len()).0 == text.as_bytes()
+}
 
 /// A section of an ELF file.
 #[derive(Clone, Copy)]
@@ -22,13 +60,14 @@ pub struct Section<'a> {
 impl<'a> Section<'a> {
     ghost use Rattle.dwp_elf_read.specs.declared.error.ReadError.TheVariants.{NameRange};
     ghost use Rattle.dwp_elf_read.specs.declared.error.ReadError.TheVariants.{SectionRange};
-    ghost use Rattle.std.specs.Prelude.{◌≡◌, ◌≤◌, ◌+◌, ◌==◌, IfSome, None, find, length};
-    ghost use Rattle.std.specs.Prelude.{option_map, position, slice_range};
+    ghost use Rattle.std.specs.Prelude.{◌≤◌, ◌+◌, ◌↔◌, IfSome, IsTrue, Some, find, length};
+    ghost use Rattle.std.specs.Prelude.{slice_range};
     ghost use Rattle.std.specs.Option.{ok_or, option_and_then};
     ghost use Rattle.dwp_base.specs.Sections.{all_kinds, kind_named};
     ghost use Rattle.dwp_base.specs.Reading.{Answers};
     ghost use Rattle.dwp_elf_read.specs.Elf.{is_empty, has_compressed_flag};
     ghost use Rattle.dwp_elf_read.specs.Elf.{is_named, is_of, has_older_name, holds};
+    ghost use Rattle.dwp_elf_read.specs.Compared.{with_own};
     ghost use Rattle.dwp_elf_read.specs.Relocation.{relocations_of};
     ghost use Rattle.dwp_elf_read.specs.View.{section, file, file_bytes, relocations_left};
 
@@ -104,10 +143,7 @@ impl<'a> Section<'a> {
     pub fn name(&self) -> Result<&'a str, ReadError>
         ensures { Answers (λ name. name.now) result (ok_or (section self.now).name NameRange) }
     {
-        let Some(table) = self.file.names else {
-            return Err(ReadError::NameRange);
-        };
-        text_in(table, self.header.name).ok_or(ReadError::NameRange)
+        text_in(self.file.names, self.header.name).ok_or(ReadError::NameRange)
     }
 
     /// Whether the section has a name that can be read, and it is this one. No more of a long name
@@ -115,23 +151,7 @@ impl<'a> Section<'a> {
     pub fn is_called(&self, name: &str) -> bool
         ensures { result ≡ is_named name.now (section self.now) }
     {
-        match self.file.names {
-            Some(table) => is_text_at(table, self.header.name, name),
-            None => false,
-        }
-    }
-
-    /// Whether this text is where the section's name stands, and a zero byte behind it: so it is the
-    /// name, where it has no zero byte itself.
-    #[inline(always)]
-    fn stands(&self, name: &str) -> bool
-        ensures { position (λ b. b == 0) name.now ≡ None
-            → result ≡ is_named name.now (section self.now) }
-    {
-        match self.file.names {
-            Some(table) => stands_at(table, self.header.name, name),
-            None => false,
-        }
+        stands_at(self.file.names, self.header.name, name) && memchr(0, name.as_bytes()).is_none()
     }
 
     /// Whether the section has a name that can be read, and it is one of the two spellings of the
@@ -140,7 +160,7 @@ impl<'a> Section<'a> {
     pub fn is_of(&self, kind: SectionKind) -> bool
         ensures named { result ≡ is_of kind (section self.now) }
     {
-        self.stands(kind.name()) || self.has_older_name(kind)
+        stands_at(self.file.names, self.header.name, kind.name()) || self.has_older_name(kind)
     }
 
     /// Whether the section has a name that can be read, and it is the older spelling of the kind's,
@@ -149,7 +169,7 @@ impl<'a> Section<'a> {
     pub fn has_older_name(&self, kind: SectionKind) -> bool
         ensures older { result ≡ has_older_name kind (section self.now).name }
     {
-        self.stands(kind.compressed_name())
+        stands_at(self.file.names, self.header.name, kind.compressed_name())
     }
 
     /// Whether the section has bytes, and is of the kind, in either spelling.
@@ -211,6 +231,62 @@ impl<'a> Section<'a> {
             ≡ relocations_of (file self.now) (section self.now).number }
     {
         Relocations::of(self.file, self.number)
+    }
+
+    /// Whether the section has the number of another, and its type, address, link and info.
+    #[tactic(auto, unfolding(crate::specs::Compared::with_own))]
+    pub fn has_numbers_of(&self, other: &Section<'_>) -> bool
+        ensures alike { IsTrue result
+            ↔ (section self.now ≡ with_own (section self.now) (section other.now)) }
+    {
+        self.kind() == other.kind()
+            && self.number() == other.number()
+            && self.address() == other.address()
+            && self.link() == other.link()
+            && self.info() == other.info()
+    }
+
+    /// Whether the section has the name of another, or neither name can be read.
+    pub fn has_name_of(&self, other: &Section<'_>) -> bool
+        ensures alike { IsTrue result ↔ ((section self.now).name ≡ (section other.now).name) }
+    {
+        match other.name() {
+            Ok(name) => self.is_called(name),
+            Err(_) => self.name().is_err(),
+        }
+    }
+
+    /// Whether the section's content lies in the file, and is this.
+    pub fn has_content(&self, content: &[u8]) -> bool
+        ensures alike { IsTrue result ↔ ((section self.now).content ≡ Some content.now) }
+    {
+        match self.data() {
+            Ok(own) => own == content,
+            Err(_) => false,
+        }
+    }
+
+    /// Whether the section has the content of another, or neither lies in its file.
+    fn has_content_of(&self, other: &Section<'_>) -> bool
+        ensures alike { IsTrue result ↔ ((section self.now).content ≡ (section other.now).content) }
+    {
+        match other.data() {
+            Ok(content) => self.has_content(content),
+            Err(_) => self.data().is_err(),
+        }
+    }
+
+    /// Whether all that is told of the section is told of another too, which may stand in another
+    /// file: number, name, type, flags, address, size, link, info and content.
+    #[tactic(auto, using(crate::proofs::Compared::is_other, crate::proofs::Compared::own_of))]
+    pub fn is_same(&self, other: &Section<'_>) -> bool
+        ensures alike { IsTrue result ↔ (section self.now ≡ section other.now) }
+    {
+        self.has_numbers_of(other)
+            && self.has_name_of(other)
+            && self.flags() == other.flags()
+            && self.size() == other.size()
+            && self.has_content_of(other)
     }
 }
 

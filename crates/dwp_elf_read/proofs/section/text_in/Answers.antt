@@ -1,7 +1,7 @@
-use Rattle.std.proofs.Common.{Some, None, sym, ap, ◌∙◌}
+use Rattle.std.proofs.Common.{Some, None, option_map, sym, ap, ◌∙◌}
 use Rattle.dwp_elf_read.specs.Elf.{text_of}
-use Rattle.dwp_elf_read.proofs.Names.{text_at_first}
-use Rattle.dwp_elf_read.proofs.name.text_in.Goals as goal
+use Rattle.dwp_elf_read.proofs.Names.{text_at_first, text_of_result}
+use Rattle.dwp_elf_read.proofs.section.text_in.Goals as goal
 
 pub returns-in_err-end : goal.returns-in_err-end
 returns-in_err-end c =
@@ -10,6 +10,8 @@ returns-in_err-end c =
 
 pub returns : goal.returns
 returns c =
-    c.text.ensures ∙ ap text_of c.split_at-2.ensures.front
+    ap (option_map (λ text. text.now)) c.ok.ensures.value
+    ∙ text_of_result (λ text. text.now) _ c.split_at-2.result.0.now c.from_utf8.result
+    c.from_utf8.ensures.cases ∙ ap text_of c.split_at-2.ensures.front
     ∙ sym (text_at_first c.args.table.now c.split_at.result.1.now c.args.place
     (Some c.in_ok-end.end) c.split_at.ensures.back c.in_ok-end.ensures)

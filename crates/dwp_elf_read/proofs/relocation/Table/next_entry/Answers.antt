@@ -1,7 +1,7 @@
 use Rattle.std.proofs.Common.{refl, ◌∙◌}
 use Rattle.dwp_elf_read.specs.View.{entries_left}
 use Rattle.dwp_elf_read.proofs.Places.{entries_more}
-use Rattle.dwp_elf_read.proofs.table.Table.next_entry.Goals as goal
+use Rattle.dwp_elf_read.proofs.relocation.Table.next_entry.Goals as goal
 
 pub returns : goal.returns
 unfolding entries_left

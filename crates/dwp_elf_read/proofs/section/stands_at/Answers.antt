@@ -2,9 +2,9 @@ use Rattle.std.proofs.Common.{sym, ap, ◌∙◌, arith}
 use Rattle.std.specs.Str.{is_utf8}
 use Rattle.std.proofs.lemmas.Str.{is_utf8-from_IsUtf8}
 use Rattle.dwp_elf_read.proofs.ShortNames.{no_end, by_bytes}
-use Rattle.dwp_elf_read.proofs.name.stands_at.Goals as goal
-use Rattle.dwp_elf_read.proofs.name.stands_at.Goals.{then-text-rest-via-then-text-rest}
-use Rattle.dwp_elf_read.proofs.name.stands_at.Goals.{then-text-rest-via-else-text-rest+then-rest-text-ne0}
+use Rattle.dwp_elf_read.proofs.section.stands_at.Goals as goal
+use Rattle.dwp_elf_read.proofs.section.stands_at.Goals.{then-text-rest-via-then-text-rest}
+use Rattle.dwp_elf_read.proofs.section.stands_at.Goals.{then-text-rest-via-else-text-rest+then-rest-text-ne0}
 
 pub returns-then-text-rest-clause-exact : goal.returns-then-text-rest-clause-exact
 returns-then-text-rest-clause-exact c whole =

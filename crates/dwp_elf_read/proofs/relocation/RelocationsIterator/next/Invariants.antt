@@ -1,6 +1,6 @@
 use Rattle.std.proofs.Common.{◌≡◌, ◌-◌}
 use Rattle.dwp_elf_read.specs.View.{relocations_left}
-use Rattle.dwp_elf_read.proofs.relocations.RelocationsIterator.next.Given as goal
+use Rattle.dwp_elf_read.proofs.relocation.RelocationsIterator.next.Given as goal
 
 abbrev pub invariant-loop-entry : goal.invariant-loop-entry
 invariant-loop-entry l = relocations_left l.self ≡ relocations_left l.initial.self
