@@ -18,7 +18,7 @@ use Rattle.memchr.specs.Find.{IsFirstByte, is_byte}
 use Rattle.dwp_elf_read.proofs.Names.{position_first}
 use Rattle.dwp_elf_read.specs.Elf.{text_of, text_at, name_is, has_name}
 use Rattle.dwp_base.proofs.Bools.{by-bool}
-use Rattle.dwp_base.proofs.EveryKind.{each}
+use Rattle.dwp_base.proofs.EveryKind.{every}
 
 abbrev zero_byte : ℕ → Bool
 zero_byte b = b == 0
@@ -188,90 +188,17 @@ pub no_text : (table text : List ℕ) (place : ℕ) → length table < place →
 unfolding text_at
 no_text table text place past = rw (drop_all place table (omega arith)) refl
 
+none_first : (found : Option ℕ) → not (is_some found) ≡ true → found ≡ None
+none_first None e = refl
+none_first (Some n) e = absurd cc
+
 -- no name of a kind has a zero byte
 pub no_zero : (kind : SectionKind) → position zero_byte (name_of kind) ≡ None
-no_zero = each (λ kind. position zero_byte (name_of kind) ≡ None) (
-  refl,
-  (
-    refl,
-    (
-      refl,
-      (
-        refl,
-        (
-          refl,
-          (
-            refl,
-            (
-              refl,
-              (
-                refl,
-                (
-                  refl,
-                  (
-                    refl,
-                    (
-                      refl,
-                      (
-                        refl,
-                        (
-                          refl,
-                          tt,
-                        ),
-                      ),
-                    ),
-                  ),
-                ),
-              ),
-            ),
-          ),
-        ),
-      ),
-    ),
-  ),
-)
+no_zero kind = none_first _ (every (λ k. not (is_some (position zero_byte (name_of k)))) refl kind)
 
 pub no_zero_older : (kind : SectionKind) → position zero_byte (compressed_name_of kind) ≡ None
-no_zero_older = each (λ kind. position zero_byte (compressed_name_of kind) ≡ None) (
-  refl,
-  (
-    refl,
-    (
-      refl,
-      (
-        refl,
-        (
-          refl,
-          (
-            refl,
-            (
-              refl,
-              (
-                refl,
-                (
-                  refl,
-                  (
-                    refl,
-                    (
-                      refl,
-                      (
-                        refl,
-                        (
-                          refl,
-                          tt,
-                        ),
-                      ),
-                    ),
-                  ),
-                ),
-              ),
-            ),
-          ),
-        ),
-      ),
-    ),
-  ),
-)
+no_zero_older kind =
+    none_first _ (every (λ k. not (is_some (position zero_byte (compressed_name_of k)))) refl kind)
 
 -- the kind that a name belongs to is the first that has it
 pub kinds_are : (name : Option (List ℕ))

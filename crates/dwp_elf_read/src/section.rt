@@ -260,20 +260,14 @@ impl<'a> Section<'a> {
     pub fn has_content(&self, content: &[u8]) -> bool
         ensures alike { IsTrue result ↔ ((section self.now).content ≡ Some content.now) }
     {
-        match self.data() {
-            Ok(own) => own == content,
-            Err(_) => false,
-        }
+        self.data() == Ok(content)
     }
 
     /// Whether the section has the content of another, or neither lies in its file.
     fn has_content_of(&self, other: &Section<'_>) -> bool
         ensures alike { IsTrue result ↔ ((section self.now).content ≡ (section other.now).content) }
     {
-        match other.data() {
-            Ok(content) => self.has_content(content),
-            Err(_) => self.data().is_err(),
-        }
+        self.data() == other.data()
     }
 
     /// Whether all that is told of the section is told of another too, which may stand in another
