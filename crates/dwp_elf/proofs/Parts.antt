@@ -6,7 +6,7 @@ use Terms.{Class, content_bytes, contents_of, drop, drop-cons, Elf32, Elf64, End
 use Terms.{every, get_or, header_size, headers_from, length, length-append, List, name_of}
 use Terms.{name_table, names_of, refl, replicate, SectionKind, sym, Vec, word_size, ℕ, ◌∙◌, ◌∷◌}
 use Terms.{◌≡◌, ◌≤◌}
-use Rattle.dwp_elf.specs.declared.layout.Layout.{Layout}
+use Rattle.dwp_elf.specs.declared.output.Layout.{Layout}
 use Rattle.dwp_elf.specs.declared.object.WritableObject.TheInside.{Inside}
 use Rattle.dwp_elf.specs.FileText.{Object, file_header, names_end, zeros_after, headers_place}
 use Rattle.dwp_elf.specs.FileText.{section_count, section_headers, section_header, file_text}

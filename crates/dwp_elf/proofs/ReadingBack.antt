@@ -204,7 +204,7 @@ module _ (class : Class) (order : Endianness) (bytes table after : List ℕ) (he
       → place + length content < 256 ^ word_size class
       → drop name table ≡ text ++ 0 ∷ more → name < 256 ^ 4
       → list_all in_name text ≡ true
-      → section_of bytes (Some table) i (section_header_at class order bytes headers i) ≡
+      → section_of bytes table i (section_header_at class order bytes headers i) ≡
       plain_section i type text content
   unfolding section_of section_content
   one-back content after text more rest i name type place other small e f within fits g low h =
@@ -213,13 +213,13 @@ module _ (class : Class) (order : Endianness) (bytes table after : List ℕ) (he
       small (omega arith) (omega arith) in
       let inside = le-leb (place + length content) (length bytes) within in
       let named = text_at-name table text more name g h in
-      ap (section_of bytes (Some table) i) header
+      ap (section_of bytes table i) header
       ∙ rw (other, inside, size, f, take-append_seam content after, named) refl
 
   -- the null section
   null-back : (more rest : List ℕ) → table ≡ 0 ∷ more
       → drop (headers + 0 * entry_size class) bytes ≡ null_header class ++ rest
-      → section_of bytes (Some table) 0 (section_header_at class order bytes headers 0) ≡
+      → section_of bytes table 0 (section_header_at class order bytes headers 0) ≡
       plain_section 0 0 [] []
   null-back more rest begins e =
       one-back [] bytes [] more rest 0 0 0 0 refl (lit< tt)
@@ -235,7 +235,7 @@ module _ (class : Class) (order : Endianness) (bytes table after : List ℕ) (he
       → place + length (content_bytes cs) + length table ≤ length bytes
       → place + length (content_bytes cs) + length table < 256 ^ word_size class
       → name + length (names_of cs) < 256 ^ 4
-      → (map (λ k. section_of bytes (Some table) k (section_header_at class order bytes headers k))
+      → (map (λ k. section_of bytes table k (section_header_at class order bytes headers k))
       (range_with_len i (suc (length cs))) ≡ written_sections i table cs)
       × (section_content bytes (section_header_at class order bytes headers (i + length cs))
       ≡ Some table)
@@ -317,7 +317,7 @@ module _ (o : Object) where
 
   -- the sections of the text, by number, and the content of the last
   all-sections : headers < 256 ^ word_size o.class → length o.contents < 60000
-      → (sections_from o.class o.order text headers (Some names) 0 (section_count o.contents)
+      → (sections_from o.class o.order text headers names 0 (section_count o.contents)
       ≡ plain_section 0 0 [] [] ∷ written_sections 1 names o.contents)
       × (section_content text (section_header_at o.class o.order text headers
       (1 + length o.contents)) ≡ Some names)

@@ -5,7 +5,7 @@ use Terms.{None, refl, Some, sym, take, take-append-add, take-append-le, ℕ, �
 use Rattle.std.specs.Prelude.{Option, Result, Ok, Err, IsErrAnd}
 use Rattle.std.specs.Io.KnownBytes.{Appends, Keeps}
 use Rattle.std.proofs.KnownBytes.{Appends-nil, Appends-trans, Appends-kept}
-use Rattle.dwp_elf.specs.Writing.{AppendsPart, Writes}
+use Rattle.dwp_elf.specs.Refusals.{AppendsPart, Writes}
 
 -- of all, everything but rest was appended
 pub record SoFar (old new : Option (List ℕ)) (all rest : List ℕ) : Type 0 where

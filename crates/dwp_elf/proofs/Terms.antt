@@ -25,4 +25,4 @@ pub use Rattle.dwp_elf.specs.Contents.{KindsDiffer, appended, content_of, conten
 pub use Rattle.dwp_elf.specs.Contents.{truncated}
 pub use Rattle.dwp_elf.specs.FileText.{name_table}
 unfoldable pub use Rattle.dwp_elf.specs.FileText.{content_bytes, headers_from, names_of}
-pub use Rattle.dwp_elf.specs.Layout.{IsLayout, PassesLimit, file_length}
+pub use Rattle.dwp_elf.specs.Numbers.{IsLayout, PassesLimit, file_length}

@@ -1,9 +1,7 @@
 pub mod Contents
 pub mod FileText
 pub mod Growing
-pub mod Layout
 pub mod Numbers
 pub mod Object
 pub mod Refusals
-pub mod Writing
 pub mod Written

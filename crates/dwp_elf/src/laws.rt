@@ -7,7 +7,7 @@ ghost use Rattle.dwp_elf_read.specs.Layout.{word_size};
 ghost use Rattle.dwp_elf_read.specs.Elf.{elf_of};
 ghost use Rattle.dwp_elf.specs.Contents.{KindsDiffer};
 ghost use Rattle.dwp_elf.specs.FileText.{Object, headers_place, file_text};
-ghost use Rattle.dwp_elf.specs.Layout.{file_length};
+ghost use Rattle.dwp_elf.specs.Numbers.{file_length};
 ghost use Rattle.dwp_elf.specs.Written.{written_elf};
 
 /// The law that a written file is read back: it means the contents that it was written from, in

@@ -1,11 +1,8 @@
 //! ELF files: reading them, and writing the sections of a DWARF package (ELF gABI).
 #![tactic(auto)]
 
-mod contents;
-mod gathered;
 mod headers;
 pub mod laws;
-mod layout;
 mod object;
 mod output;
 mod writer;

@@ -1,25 +1,24 @@
 //! Objects that are made section by section, and written as ELF files.
 
 ghost use Rattle.std.specs.Prelude.{[], Err, IfErr, IfOk, length, None, Ok, OkIff, OnErr, OnOk};
-ghost use Rattle.std.specs.Prelude.{Some, ◌+◌, ◌<◌, ◌≡◌};
+ghost use Rattle.std.specs.Prelude.{position, Some, ◌+◌, ◌++◌, ◌<◌, ◌≡◌};
 ghost use Rattle.std.specs.Io.KnownBytes.{Appends};
 ghost use Rattle.std.specs.declared.io.ErrorKind.{ErrorKind};
+ghost use Rattle.dwp_base.specs.Sections.{same_kind};
 ghost use Rattle.dwp_elf_read.specs.Elf.{elf_of};
 ghost use Rattle.dwp_elf_read.specs.declared.error.WriteError.TheVariants.{Memory, NumberTooLarge};
-ghost use Rattle.dwp_elf.specs.Contents.{content_of, contents_of, KindsDiffer, truncated};
+ghost use Rattle.dwp_elf.specs.Contents.{appended, content_of, contents_of, KindsDiffer};
+ghost use Rattle.dwp_elf.specs.Contents.{truncated};
 ghost use Rattle.dwp_elf.specs.FileText.{file_text, Object};
 ghost use Rattle.dwp_elf.specs.Growing.{contribution_put, IsGrown, lengths, with_bytes};
-ghost use Rattle.dwp_elf.specs.Layout.{IsLayout};
-ghost use Rattle.dwp_elf.specs.Numbers.{Fits};
-ghost use Rattle.dwp_elf.specs.Refusals.{Blames, RefusesFile, RefusesWriter};
-ghost use Rattle.dwp_elf.specs.Writing.{Errors, Writes};
+ghost use Rattle.dwp_elf.specs.Numbers.{Fits, IsLayout};
+ghost use Rattle.dwp_elf.specs.Refusals.{Blames, Errors, RefusesFile, RefusesWriter, Writes};
 ghost use Rattle.dwp_elf.specs.Written.{written_elf};
 
-use crate::contents::{append_to, content_in, lengths_of, move_to, truncate_to};
 use crate::headers::{entry_size, file_header};
-use crate::layout::{Layout, layout_of};
 use crate::output::{
-    write_contents, write_name_table, write_section_headers, write_whole, write_zeros,
+    Layout, layout_of, write_contents, write_name_table, write_section_headers, write_whole,
+    write_zeros,
 };
 use crate::writer::Output;
 use dwp_base::{Class, Contribution, ContributionOffset, Endianness, SectionKind};
@@ -27,6 +26,108 @@ use dwp_elf_read::WriteError;
 use std::alloc::{AllocError, Global};
 use std::io;
 use std::marker::Model;
+
+/// How many bytes are copied together.
+const PIECE: usize = 1024;
+
+/// The number of the section of a kind.
+fn number_of(sections: &[(SectionKind, Vec<u8>)], kind: SectionKind) -> Option<usize>
+    ensures { result ≡ position (λ s. same_kind s.0 kind) sections.now }
+{
+    sections.iter().position(|section| section.0.is(kind))
+}
+
+/// The length of each section's content, in their order.
+fn lengths_of(alloc: Global, sections: &[(SectionKind, Vec<u8>)]) -> Result<Vec<usize>, AllocError>
+    ensures { IfOk result (λ sizes. sizes.items ≡ lengths (contents_of sections.now)) }
+{
+    let mut sizes = Vec::new(alloc);
+    for section in sections {
+        sizes.push(section.1.len())?;
+    }
+    Ok(sizes)
+}
+
+/// Appends bytes, some at a time: longer pieces are copied byte by byte on some processors.
+fn append_by_pieces(out: &mut Vec<u8>, bytes: &[u8]) -> Result<(), AllocError>
+    ensures ok { OnOk result (out.new.items ≡ out.old.items ++ bytes.now) }
+    ensures err { OnErr result (out.new.items ≡ out.old.items) }
+{
+    out.reserve(bytes.len())?;
+    let mut at = 0;
+    while at < bytes.len() {
+        let next = at + PIECE.min(bytes.len() - at);
+        out.extend_from_slice(&bytes[at..next])?;
+        at = next;
+    }
+    Ok(())
+}
+
+/// Adds bytes at the end of the content of a kind, or as a new last content where there is none,
+/// and tells where they begin in it.
+fn append_to(
+    alloc: Global,
+    sections: &mut Vec<(SectionKind, Vec<u8>)>,
+    kind: SectionKind,
+    bytes: &[u8],
+) -> Result<usize, AllocError>
+    ensures contents { IfOk result (λ _. contents_of sections.new.items
+        ≡ appended kind bytes.now (contents_of sections.old.items)) }
+    ensures place { IfOk result (λ place.
+        place ≡ length (content_of kind (contents_of sections.old.items))) }
+    ensures unchanged { OnErr result (contents_of sections.new.items
+        ≡ contents_of sections.old.items) }
+{
+    match number_of(sections, kind) {
+        Some(number) => {
+            let section = &mut sections[number];
+            let place = section.1.len();
+            append_by_pieces(&mut section.1, bytes)?;
+            Ok(place)
+        }
+        None => {
+            let content = Vec::from_slice(alloc, bytes)?;
+            sections.push((kind, content))?;
+            Ok(0)
+        }
+    }
+}
+
+/// What `append_to` does, of bytes that are moved: the first of their kind are not copied.
+fn move_to(
+    alloc: Global,
+    sections: &mut Vec<(SectionKind, Vec<u8>)>,
+    kind: SectionKind,
+    bytes: Vec<u8>,
+) -> Result<usize, AllocError>
+    ensures contents { IfOk result (λ _. contents_of sections.new.items
+        ≡ appended kind bytes.items (contents_of sections.old.items)) }
+    ensures place { IfOk result (λ place.
+        place ≡ length (content_of kind (contents_of sections.old.items))) }
+    ensures unchanged { OnErr result (contents_of sections.new.items
+        ≡ contents_of sections.old.items) }
+{
+    match number_of(sections, kind) {
+        Some(_) => append_to(alloc, sections, kind, &bytes),
+        None => {
+            sections.push((kind, bytes))?;
+            Ok(0)
+        }
+    }
+}
+
+/// Keeps the first sections, at most as many as there are sizes, and cuts each that is longer to
+/// its size; one that is cut to 0 stays, without bytes.
+fn truncate_to(sections: &mut Vec<(SectionKind, Vec<u8>)>, sizes: &[usize])
+    ensures { contents_of sections.new.items
+        ≡ truncated (contents_of sections.old.items) sizes.now }
+{
+    sections.truncate(sizes.len());
+    for number in 0..sections.len() {
+        let section = &mut sections[number];
+        section.1.truncate(sizes[number]);
+    }
+}
 
 /// An ELF file that is being made: the contents of its sections, in order of first append.
 #[derive(Debug, Drop)]
@@ -101,7 +202,10 @@ impl WritableObject {
     pub fn content(&self, kind: SectionKind) -> &[u8]
         ensures { result.now ≡ content_of kind self.now.contents }
     {
-        content_in(&self.sections, kind)
+        match number_of(&self.sections, kind) {
+            Some(number) => &self.sections[number].1,
+            None => &[],
+        }
     }
 
     /// The length of each section's content, in their order.
@@ -168,7 +272,9 @@ impl WritableObject {
         if size == 0 {
             return Ok(None);
         }
-        let place = move_to(&mut self.sections, kind, bytes).map_err(|_| WriteError::Memory)?;
+        let place = move_to(self.alloc, &mut self.sections, kind, bytes).map_err(
+            |_| WriteError::Memory,
+        )?;
         Ok(Some(Contribution {
             offset: ContributionOffset(place as u64),
             size: size as u64,

@@ -1,13 +1,14 @@
-//! Writing the parts of a file to a writer.
+//! The layout of a file, and how its parts are written to a writer.
 
-ghost use Rattle.std.specs.Prelude.{◌+◌, ◌*◌, ◌^◌, ◌<◌, ◌≤◌, length, replicate};
+ghost use Rattle.std.specs.Prelude.{◌≡◌, ◌+◌, ◌*◌, ◌^◌, ◌<◌, ◌≤◌, length, replicate, MatchOption};
 ghost use Rattle.dwp_base.specs.Sections.{kind_count};
 ghost use Rattle.dwp_elf.specs.Contents.{contents_of};
 ghost use Rattle.dwp_elf_read.specs.Layout.{header_size, word_size};
 ghost use Rattle.dwp_elf.specs.FileText.{content_bytes, names_of, name_table, headers_from};
-ghost use Rattle.dwp_elf.specs.Writing.{Writes, Errors};
+ghost use Rattle.dwp_elf.specs.Numbers.{PassesLimit, IsLayout};
+ghost use Rattle.dwp_elf.specs.Refusals.{Writes, Errors};
 
-use crate::headers::{header_size, section_header};
+use crate::headers::{entry_size, header_size, section_header};
 use crate::writer::Output;
 use dwp_base::{Class, Endianness, SectionKind};
 use std::io;
@@ -22,7 +23,70 @@ const STRTAB: u32 = 3;
 const ZEROS: [u8; 64] = [0; 64];
 
 /// The name of the section that has the names.
-pub const NAMES: &[u8; 10] = b".shstrtab\0";
+const NAMES: &[u8; 10] = b".shstrtab\0";
+
+/// How many bytes the contents have, None past 64 bits.
+fn content_size(sections: &[(SectionKind, Vec<u8>)]) -> Option<u64>
+    ensures { MatchOption result (2 ^ 64 ≤ length (content_bytes (contents_of sections.now)))
+        (λ n. n ≡ length (content_bytes (contents_of sections.now))) }
+{
+    let mut size = 0u64;
+    for section in sections {
+        size = size.checked_add(section.1.len() as u64)?;
+    }
+    Some(size)
+}
+
+/// How many bytes the content of `.shstrtab` has.
+fn name_table_size(sections: &[(SectionKind, Vec<u8>)]) -> u64
+    requires { length sections.now ≤ kind_count }
+    ensures size { result ≡ length (name_table (contents_of sections.now)) }
+    ensures small { result ≤ 400 }
+{
+    let mut size = 1 + NAMES.len() as u64;
+    for section in sections {
+        size += section.0.name().len() as u64 + 1;
+    }
+    size
+}
+
+/// Where the section headers of a file begin, and the sizes of its name table, of the zeros before
+/// the headers, and of the whole file.
+#[derive(Clone, Copy)]
+pub struct Layout {
+    /// How many bytes the content of `.shstrtab` has.
+    pub names_size: u64,
+    /// How many zeros stand before the section headers.
+    pub zeros: u64,
+    /// Where the section headers begin.
+    pub headers: u64,
+    /// How many bytes the file has.
+    pub size: u64,
+}
+
+/// The layout of a file, None where a number passes the limit of its class.
+pub fn layout_of(class: Class, sections: &[(SectionKind, Vec<u8>)]) -> Option<Layout>
+    requires { length sections.now ≤ kind_count }
+    ensures { MatchOption result (PassesLimit class (contents_of sections.now))
+        (IsLayout class (contents_of sections.now)) }
+{
+    let names_size = name_table_size(sections);
+    let names_place = u64::from(header_size(class)).checked_add(content_size(sections)?)?;
+    let names_end = names_place.checked_add(names_size)?;
+    let zeros = (8 - names_end % 8) % 8;
+    let headers = names_end.checked_add(zeros)?;
+    let table_size = u64::from(entry_size(class)) * (sections.len() as u64 + 2);
+    let size = headers.checked_add(table_size)?;
+    if class == Class::Elf32 && headers > u64::from(u32::MAX) {
+        return None;
+    }
+    Some(Layout {
+        names_size,
+        zeros,
+        headers,
+        size,
+    })
+}
 
 /// Hands all of the bytes to the writer, in as many calls as it takes, and none of them twice.
 ///

@@ -1,6 +1,6 @@
 use Rattle.dwp_elf.proofs.Terms.{ap, arith, length}
 use Rattle.dwp_elf.proofs.Parts.{length-names_of-drop, names_of-end, length-name_of}
-use Rattle.dwp_elf.proofs.layout.name_table_size.Goals as goal
+use Rattle.dwp_elf.proofs.output.name_table_size.Goals as goal
 
 pub loop-section-preserved : goal.loop-section-preserved
 loop-section-preserved c = grind (arith, length-names_of-drop, length-name_of)

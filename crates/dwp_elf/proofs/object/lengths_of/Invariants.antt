@@ -1,6 +1,6 @@
 use Rattle.dwp_elf.proofs.Terms.{contents_of, drop, ◌++◌, ◌≡◌}
 use Rattle.dwp_elf.specs.Growing.{lengths}
-use Rattle.dwp_elf.proofs.contents.lengths_of.Given as goal
+use Rattle.dwp_elf.proofs.object.lengths_of.Given as goal
 
 -- those so far and those that are left are all
 abbrev pub invariant-loop-section : goal.invariant-loop-section

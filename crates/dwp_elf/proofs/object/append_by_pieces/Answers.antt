@@ -1,5 +1,5 @@
 use Rattle.std.proofs.Common.{arith, append_assoc, take-add}
-use Rattle.dwp_elf.proofs.contents.append_by_pieces.Goals as goal
+use Rattle.dwp_elf.proofs.object.append_by_pieces.Goals as goal
 
 pub loop-at-preserved : goal.loop-at-preserved
 loop-at-preserved c = record {

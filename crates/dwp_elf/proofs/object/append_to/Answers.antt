@@ -1,6 +1,6 @@
 use Rattle.dwp_elf.proofs.Terms.{ap, arith, common_steps, length, refl}
 use Rattle.dwp_elf.proofs.Changes.{at_first, absent, contents_of-set_same}
-use Rattle.dwp_elf.proofs.contents.move_to.Goals as goal
+use Rattle.dwp_elf.proofs.object.append_to.Goals as goal
 
 pub returns-in_err-append_by_pieces-in-Some-clause-unchanged :
     goal.returns-in_err-append_by_pieces-in-Some-clause-unchanged
@@ -12,7 +12,7 @@ pub returns-in_ok-append_by_pieces-in-Some-clause-contents :
 returns-in_ok-append_by_pieces-in-Some-clause-contents c =
     (at_first _ _ _ (rw c.deref.ensures.value at c.in-Some.ensures)).added _ _ _
     c.index_mut-section.ensures.value refl
-    (rw c.deref-in-Some.ensures.value at c.in_ok-append_by_pieces-in-Some.ensures.ok)
+    c.in_ok-append_by_pieces-in-Some.ensures.ok
 
 pub returns-in_ok-append_by_pieces-in-Some-clause-place :
     goal.returns-in_ok-append_by_pieces-in-Some-clause-place
@@ -24,7 +24,7 @@ returns-in_ok-append_by_pieces-in-Some-clause-place c =
 pub returns-in_ok-push-in-None-clause-contents : goal.returns-in_ok-push-in-None-clause-contents
 returns-in_ok-push-in-None-clause-contents c =
     rw c.in_ok-push-in-None.ensures.items ((absent _ _ (rw c.deref.ensures.value at
-    c.in-None.ensures)).added _ _ refl refl)
+    c.in-None.ensures)).added _ _ refl c.in_ok-content-in-None.ensures.items)
 
 pub returns-in_ok-push-in-None-clause-place : goal.returns-in_ok-push-in-None-clause-place
 returns-in_ok-push-in-None-clause-place c = grind (arith, common_steps, absent)

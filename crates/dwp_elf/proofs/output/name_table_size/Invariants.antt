@@ -1,6 +1,6 @@
 use Rattle.dwp_elf.proofs.Terms
 use Terms.{◌*◌, ◌+◌, contents_of, drop, length, name_table, names_of, ◌≡◌, ◌≤◌}
-use Rattle.dwp_elf.proofs.layout.name_table_size.Given as goal
+use Rattle.dwp_elf.proofs.output.name_table_size.Given as goal
 
 abbrev pub invariant-loop-section : goal.invariant-loop-section
 invariant-loop-section l =

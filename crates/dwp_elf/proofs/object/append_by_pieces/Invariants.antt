@@ -1,5 +1,5 @@
 use Rattle.std.proofs.Common.{◌≡◌, ◌≤◌, ◌+◌, ◌-◌, ◌++◌, take, length, vec_capacity, vec_len}
-use Rattle.dwp_elf.proofs.contents.append_by_pieces.Given as goal
+use Rattle.dwp_elf.proofs.object.append_by_pieces.Given as goal
 
 abbrev pub invariant-loop-at : goal.invariant-loop-at
 invariant-loop-at l = record {

@@ -1,6 +1,6 @@
 use Rattle.dwp_elf.proofs.Terms.{contents_of, length, ◌≡◌, ◌≤◌}
 use Rattle.dwp_elf.proofs.Changes.{cut}
-use Rattle.dwp_elf.proofs.contents.truncate_to.Given as goal
+use Rattle.dwp_elf.proofs.object.truncate_to.Given as goal
 
 abbrev pub invariant-loop-number : goal.invariant-loop-number
 invariant-loop-number l = record {

@@ -1,5 +1,5 @@
 use Rattle.dwp_elf.proofs.Terms.{◌+◌, content_bytes, contents_of, drop, length, ◌≡◌}
-use Rattle.dwp_elf.proofs.layout.content_size.Given as goal
+use Rattle.dwp_elf.proofs.output.content_size.Given as goal
 
 abbrev pub invariant-loop-section : goal.invariant-loop-section
 invariant-loop-section l =

@@ -1,6 +1,6 @@
 use Rattle.dwp_elf.proofs.Terms.{ap, arith, common_steps, length}
 use Rattle.dwp_elf.proofs.Parts.{length-content_bytes-drop, content_bytes-end}
-use Rattle.dwp_elf.proofs.layout.content_size.Goals as goal
+use Rattle.dwp_elf.proofs.output.content_size.Goals as goal
 
 pub returns-in_err-size : goal.returns-in_err-size
 returns-in_err-size c = grind (arith, common_steps, length-content_bytes-drop)
