@@ -1,6 +1,7 @@
 //! The columns of an index (DWARF 5, 7.3.5.3, Table 7.1; the GNU page DebugFissionDWP).
 
 ghost use Rattle.std.specs.Prelude.{◌≡◌};
+ghost use Rattle.dwp_table.specs.Columns.{column_of, kind_of_column};
 
 use dwp_base::SectionKind;
 
@@ -18,9 +19,6 @@ pub const CONTRIBUTION_KINDS: [SectionKind; 10] = [
     SectionKind::Macinfo,
     SectionKind::Macro,
 ];
-
-ghost use Rattle.dwp_table.specs.Columns.{standard_column, gnu_column, column_of, kind_with};
-ghost use Rattle.dwp_table.specs.Columns.{kind_of_column};
 
 /// The numbers of columns in an index of DWARF 5 (7.3.5.3, Table 7.1).
 const DW_SECT_INFO: u32 = 1;
@@ -54,81 +52,34 @@ const GNU_SECT_MACINFO: u32 = 7;
 
 const GNU_SECT_MACRO: u32 = 8;
 
-/// The number of a section's column in an index of DWARF 5; None where it has none there.
-fn standard_column_of(kind: SectionKind) -> Option<u32>
-    ensures { result ≡ standard_column kind }
-{
-    match kind {
-        SectionKind::Info => Some(DW_SECT_INFO),
-        SectionKind::Abbrev => Some(DW_SECT_ABBREV),
-        SectionKind::Line => Some(DW_SECT_LINE),
-        SectionKind::Loclists => Some(DW_SECT_LOCLISTS),
-        SectionKind::StrOffsets => Some(DW_SECT_STR_OFFSETS),
-        SectionKind::Macro => Some(DW_SECT_MACRO),
-        SectionKind::Rnglists => Some(DW_SECT_RNGLISTS),
-        _ => None,
-    }
-}
-
-/// The number of a section's column in an index of the GNU form; None where it has none there.
-fn gnu_column_of(kind: SectionKind) -> Option<u32>
-    ensures { result ≡ gnu_column kind }
-{
-    match kind {
-        SectionKind::Info => Some(GNU_SECT_INFO),
-        SectionKind::Types => Some(GNU_SECT_TYPES),
-        SectionKind::Abbrev => Some(GNU_SECT_ABBREV),
-        SectionKind::Line => Some(GNU_SECT_LINE),
-        SectionKind::Loc => Some(GNU_SECT_LOC),
-        SectionKind::StrOffsets => Some(GNU_SECT_STR_OFFSETS),
-        SectionKind::Macinfo => Some(GNU_SECT_MACINFO),
-        SectionKind::Macro => Some(GNU_SECT_MACRO),
-        _ => None,
-    }
-}
-
 /// The number of a section's column in an index of that version, 5 or else 2; None where that
 /// version has no such column (DWARF 5, 7.3.5.3, Table 7.1).
 pub fn column_of(version: u16, kind: SectionKind) -> Option<u32>
     ensures { result ≡ column_of version kind }
 {
     if version == 5 {
-        standard_column_of(kind)
+        match kind {
+            SectionKind::Info => Some(DW_SECT_INFO),
+            SectionKind::Abbrev => Some(DW_SECT_ABBREV),
+            SectionKind::Line => Some(DW_SECT_LINE),
+            SectionKind::Loclists => Some(DW_SECT_LOCLISTS),
+            SectionKind::StrOffsets => Some(DW_SECT_STR_OFFSETS),
+            SectionKind::Macro => Some(DW_SECT_MACRO),
+            SectionKind::Rnglists => Some(DW_SECT_RNGLISTS),
+            _ => None,
+        }
     } else {
-        gnu_column_of(kind)
-    }
-}
-
-#[inline(always)]
-fn standard_kind_of(number: u32) -> Option<SectionKind>
-    ensures { result ≡ kind_with standard_column number }
-{
-    match number {
-        DW_SECT_INFO => Some(SectionKind::Info),
-        DW_SECT_ABBREV => Some(SectionKind::Abbrev),
-        DW_SECT_LINE => Some(SectionKind::Line),
-        DW_SECT_LOCLISTS => Some(SectionKind::Loclists),
-        DW_SECT_STR_OFFSETS => Some(SectionKind::StrOffsets),
-        DW_SECT_MACRO => Some(SectionKind::Macro),
-        DW_SECT_RNGLISTS => Some(SectionKind::Rnglists),
-        _ => None,
-    }
-}
-
-#[inline(always)]
-fn gnu_kind_of(number: u32) -> Option<SectionKind>
-    ensures { result ≡ kind_with gnu_column number }
-{
-    match number {
-        GNU_SECT_INFO => Some(SectionKind::Info),
-        GNU_SECT_TYPES => Some(SectionKind::Types),
-        GNU_SECT_ABBREV => Some(SectionKind::Abbrev),
-        GNU_SECT_LINE => Some(SectionKind::Line),
-        GNU_SECT_LOC => Some(SectionKind::Loc),
-        GNU_SECT_STR_OFFSETS => Some(SectionKind::StrOffsets),
-        GNU_SECT_MACINFO => Some(SectionKind::Macinfo),
-        GNU_SECT_MACRO => Some(SectionKind::Macro),
-        _ => None,
+        match kind {
+            SectionKind::Info => Some(GNU_SECT_INFO),
+            SectionKind::Types => Some(GNU_SECT_TYPES),
+            SectionKind::Abbrev => Some(GNU_SECT_ABBREV),
+            SectionKind::Line => Some(GNU_SECT_LINE),
+            SectionKind::Loc => Some(GNU_SECT_LOC),
+            SectionKind::StrOffsets => Some(GNU_SECT_STR_OFFSETS),
+            SectionKind::Macinfo => Some(GNU_SECT_MACINFO),
+            SectionKind::Macro => Some(GNU_SECT_MACRO),
+            _ => None,
+        }
     }
 }
 
@@ -138,8 +89,27 @@ pub fn kind_of_column(version: u16, number: u32) -> Option<SectionKind>
     ensures { result ≡ kind_of_column version number }
 {
     if version == 5 {
-        standard_kind_of(number)
+        match number {
+            DW_SECT_INFO => Some(SectionKind::Info),
+            DW_SECT_ABBREV => Some(SectionKind::Abbrev),
+            DW_SECT_LINE => Some(SectionKind::Line),
+            DW_SECT_LOCLISTS => Some(SectionKind::Loclists),
+            DW_SECT_STR_OFFSETS => Some(SectionKind::StrOffsets),
+            DW_SECT_MACRO => Some(SectionKind::Macro),
+            DW_SECT_RNGLISTS => Some(SectionKind::Rnglists),
+            _ => None,
+        }
     } else {
-        gnu_kind_of(number)
+        match number {
+            GNU_SECT_INFO => Some(SectionKind::Info),
+            GNU_SECT_TYPES => Some(SectionKind::Types),
+            GNU_SECT_ABBREV => Some(SectionKind::Abbrev),
+            GNU_SECT_LINE => Some(SectionKind::Line),
+            GNU_SECT_LOC => Some(SectionKind::Loc),
+            GNU_SECT_STR_OFFSETS => Some(SectionKind::StrOffsets),
+            GNU_SECT_MACINFO => Some(SectionKind::Macinfo),
+            GNU_SECT_MACRO => Some(SectionKind::Macro),
+            _ => None,
+        }
     }
 }
