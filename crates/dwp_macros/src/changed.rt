@@ -1,32 +1,100 @@
 //! From an object to one in which macros of some sections don't count.
 
-ghost use Rattle.std.specs.Prelude.{◌≡◌, option_map, is_some, Ok, IfOk, OnErr, IsSome};
+ghost use Rattle.std.specs.Prelude.{◌≡◌, ◌&&◌, option_map, is_some, if◌then◌else◌, Ok, IfOk};
+ghost use Rattle.std.specs.Prelude.{OnErr, IsSome, IsTrue};
 ghost use Rattle.dwp_elf_read.specs.Elf.{elf_of};
+ghost use Rattle.dwp_elf_read.specs.View as view;
 ghost use Rattle.dwp_elf_read.specs.View.{elf};
-ghost use Rattle.dwp_macros.specs.Kept.{kept_file, kept_macros_of};
+ghost use Rattle.dwp_macros.specs.Kept.{emptied, has_macros, kept_file, kept_macros_of};
+ghost use Rattle.dwp_macros.specs.Kept.{kept_sections};
 
-use crate::agree::agrees;
-use crate::change::empty_all;
 use crate::error::MacrosError;
-use crate::kept::KeptMacros;
-use crate::sections::is_changed;
-use dwp_elf_read::ElfFile;
+use crate::kept::{KeptMacros, has_macros, is_changed};
+use dwp_base::Class;
+use dwp_elf_read::{ElfFile, Section};
 use std::alloc::Global;
 
-/// The file with the macros that are kept, read again.
-fn changed(
-    alloc: Global,
-    bytes: &[u8],
-    file: &ElfFile<'_>,
-    kept: KeptMacros,
-) -> Result<Vec<u8>, MacrosError>
-    ensures { IfOk result (λ out. elf_of out.items ≡ Ok (kept_file kept (elf file.now))) }
+/// Whether a section is another, without its bytes where it has macros and these go.
+#[tactic(auto, unfolding(crate::specs::Kept::emptied), using(dwp_elf_read::proofs::Compared::is_own))]
+fn is_kept(old: &Section<'_>, new: &Section<'_>, go: bool) -> bool
+    ensures { IsTrue result → view.section new.now ≡ (if has_macros (view.section old.now)
+        && go then emptied (view.section old.now) else view.section old.now) }
 {
-    let mut out = bytes.to_vec(alloc)?;
-    empty_all(file, kept, &mut out);
-    match ElfFile::parse(&out) {
-        Ok(new) if agrees(file, &new, kept) => Ok(out),
-        _ => Err(MacrosError::Unrepresentable),
+    if has_macros(old) && go {
+        new.has_numbers_of(old)
+            && new.has_name_of(old)
+            && new.flags() == old.flags()
+            && new.size() == 0
+            && new.has_content(&[])
+    } else {
+        new.is_same(old)
+    }
+}
+
+/// Whether all sections are what they are to become.
+fn sections_agree(old: &ElfFile<'_>, new: &ElfFile<'_>, kept: KeptMacros) -> bool
+    ensures { IsTrue result
+        → (elf new.now).sections ≡ kept_sections kept (elf old.now).sections }
+{
+    let mut left = old.section_count();
+    if new.section_count() != left {
+        return false;
+    }
+    let mut has_more = false;
+    while left > 0 {
+        left -= 1;
+        let Some(before) = old.section(left) else {
+            return false;
+        };
+        let Some(after) = new.section(left) else {
+            return false;
+        };
+        if !is_kept(&before, &after, kept.go(has_more)) {
+            return false;
+        }
+        has_more = has_macros(&before) | has_more;
+    }
+    true
+}
+
+/// Whether a file is what another is to become.
+#[tactic(auto, unfolding(crate::specs::Kept::kept_file), using(dwp_elf_read::proofs::Compared::same_file))]
+fn agrees(old: &ElfFile<'_>, new: &ElfFile<'_>, kept: KeptMacros) -> bool
+    ensures { IsTrue result → elf new.now ≡ kept_file kept (elf old.now) }
+{
+    new.is_like(old) && sections_agree(old, new, kept)
+}
+
+/// Sets the size of the i-th section to 0, if its header lies in the file (ELF gABI, "ELF Header" and
+/// "Section Header").
+fn empty(file: &ElfFile<'_>, bytes: &mut [u8], i: usize) -> Option<()> {
+    let order = file.endianness();
+    let (table, entry, size, word) = match file.class() {
+        Class::Elf32 => (order.read_u32(bytes.get(32..36)?) as usize, 40usize, 20, 4),
+        Class::Elf64 => (order.read_u64(bytes.get(40..48)?) as usize, 64, 32, 8),
+    };
+    let place = table.checked_add(entry.checked_mul(i)?)?.checked_add(size)?;
+    for byte in bytes.iter_mut().skip(place).take(word) {
+        *byte = 0;
+    }
+    Some(())
+}
+
+/// Sets the sizes of the sections whose macros go to 0.
+fn empty_all(file: &ElfFile<'_>, kept: KeptMacros, bytes: &mut [u8]) {
+    let mut has_more = false;
+    let mut left = file.section_count();
+    while left > 0 {
+        left -= 1;
+        let Some(section) = file.section(left) else {
+            return;
+        };
+        if has_macros(&section) {
+            if kept.go(has_more) {
+                empty(file, bytes, left);
+            }
+            has_more = true;
+        }
     }
 }
 
@@ -69,6 +137,10 @@ pub fn with_macros(
     if !is_changed(&file, kept) {
         return Ok(None);
     }
-    let out = changed(alloc, bytes, &file, kept)?;
-    Ok(Some(out))
+    let mut out = bytes.to_vec(alloc)?;
+    empty_all(&file, kept, &mut out);
+    match ElfFile::parse(&out) {
+        Ok(new) if agrees(&file, &new, kept) => Ok(Some(out)),
+        _ => Err(MacrosError::Unrepresentable),
+    }
 }

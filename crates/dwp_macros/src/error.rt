@@ -1,6 +1,6 @@
 //! Why an object can't be changed.
 
-use std::alloc::{AllocError, AllocFailed};
+use std::alloc::AllocError;
 use thiserror::Error;
 
 /// Why sections of macros can't be emptied.
@@ -17,12 +17,6 @@ pub enum MacrosError {
 
 impl From<AllocError> for MacrosError {
     fn from(_e: AllocError) -> MacrosError {
-        MacrosError::Memory
-    }
-}
-
-impl<T: Drop> From<AllocFailed<T>> for MacrosError {
-    fn from(_e: AllocFailed<T>) -> MacrosError {
         MacrosError::Memory
     }
 }

@@ -1,12 +1,9 @@
 //! An object in which macros of some sections don't count.
 #![tactic(auto)]
 
-mod agree;
-mod change;
 mod changed;
 mod error;
 mod kept;
-mod sections;
 
 pub use changed::{loses_macros, with_macros};
 pub use error::MacrosError;

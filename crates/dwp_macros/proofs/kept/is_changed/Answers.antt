@@ -2,7 +2,7 @@ use Rattle.std.proofs.Common.{◌≡◌, ◌+◌, ◌-◌, ◌<◌, ◌≤◌, l
 use Rattle.dwp_elf_read.specs.View.{elf, section}
 use Rattle.dwp_macros.specs.Kept.{has_macros, is_index}
 use Rattle.dwp_macros.proofs.Walks.{any_step, any_end, lose_step, lose_end}
-use Rattle.dwp_macros.proofs.sections.is_changed.Goals as goal
+use Rattle.dwp_macros.proofs.kept.is_changed.Goals as goal
 use Rattle.dwp_base.proofs.Finds.{slice_get_none}
 
 pub loop-left-init : goal.loop-left-init

@@ -2,7 +2,7 @@ use Rattle.std.proofs.Common.{◌≡◌, ◌≤◌, drop, length}
 use Rattle.std.specs.List.{list_any}
 use Rattle.dwp_elf_read.specs.View.{elf}
 use Rattle.dwp_macros.specs.Kept.{has_macros, lose, is_index}
-use Rattle.dwp_macros.proofs.sections.is_changed.Given as goal
+use Rattle.dwp_macros.proofs.kept.is_changed.Given as goal
 
 -- what was found behind
 abbrev pub invariant-loop-left : goal.invariant-loop-left
