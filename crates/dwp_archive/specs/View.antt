@@ -1,6 +1,6 @@
 -- What the values of this crate stand for.
 use Rattle.std.specs.Prelude.{List, [], ◌∷◌, ℕ, Option, Some, None}
-use Rattle.dwp_archive.specs.declared.entry.Entry as declared_entry
+use Rattle.dwp_archive.specs.declared.reading.Entry as declared_entry
 use Rattle.dwp_archive.specs.declared.member.Member as declared
 use Rattle.dwp_archive.specs.declared.member.NameForm.{NameForm}
 use Rattle.dwp_archive.specs.declared.member.NameForm.TheVariants.{Short, Long, Own}

@@ -1,9 +1,7 @@
 //! Archives (ar(5)): their members, in the variants of System V, GNU and BSD.
 #![tactic(auto)]
 
-mod entry;
 mod error;
-mod header;
 mod member;
 mod reading;
 

@@ -1,14 +1,199 @@
-//! The members of an archive.
+//! The members of an archive, entry by entry (ar(5)).
 
-ghost use Rattle.std.specs.Prelude.{◌≡◌, ◌++◌, [], map, OnOk};
+ghost use Rattle.std.specs.Prelude.{◌≡◌, ◌==◌, ◌+◌, ◌++◌, ◌≤◌, [], length, map, IfOk, OnOk};
+ghost use Rattle.std.specs.List.{list_all};
+ghost use Rattle.dwp_base.specs.Reading.{Answers};
 ghost use Rattle.dwp_archive.specs.Answers.{Gives};
+ghost use Rattle.dwp_archive.specs.Entries.{is_symbols, long_at, own_at, members_at, entry_at};
+ghost use Rattle.dwp_archive.specs.Headers.{is_digit, decimal, is_padded, size_at};
 ghost use Rattle.dwp_archive.specs.Members.{members_from, members_of};
-ghost use Rattle.dwp_archive.specs.View.{member, listed};
+ghost use Rattle.dwp_archive.specs.View.{member, listed, entry};
 
-use crate::entry::entry_at;
 use crate::error::ArchiveError;
-use crate::member::Member;
+use crate::member::{Member, NameForm, own_name, short_name};
 use std::alloc::{AllocError, Global};
+
+/// Whether a byte is a decimal digit.
+fn is_digit(byte: u8) -> bool
+    ensures { result ≡ is_digit byte }
+{
+    b'0' <= byte && byte <= b'9'
+}
+
+/// Whether all bytes are blanks.
+fn is_blank(bytes: &[u8]) -> bool
+    ensures { result ≡ list_all (λ b. b == 32) bytes.now }
+{
+    bytes.iter().all(|b| *b == b' ')
+}
+
+/// The number that digits write, with blanks behind them.
+fn decimal(field: &[u8]) -> Option<u64>
+    requires { length field.now ≤ 16 }
+    ensures { result ≡ decimal field.now }
+{
+    if field.is_empty() {
+        return None;
+    }
+    if !is_digit(field[0]) {
+        return None;
+    }
+    let mut n = 0u64;
+    for i in 0..field.len() {
+        let byte = field[i];
+        if !is_digit(byte) {
+            return if is_blank(field.split_at(i).1) {
+                Some(n)
+            } else {
+                None
+            };
+        }
+        n = 10 * n + u64::from(byte - b'0');
+    }
+    Some(n)
+}
+
+/// Whether a field is a text, with blanks behind it.
+fn is_padded(field: &[u8], text: &[u8]) -> bool
+    requires { length text.now ≤ length field.now }
+    ensures { result ≡ is_padded text.now field.now }
+{
+    field.starts_with(text) && is_blank(field.split_at(text.len()).1)
+}
+
+/// How many bytes the member has whose header the bytes begin with.
+#[tactic(auto, unfolding(crate::specs::Headers::size_at))]
+fn size_at(bytes: &[u8]) -> Result<usize, ArchiveError>
+    ensures exact { Answers (λ size. size) result (size_at bytes.now) }
+    ensures inside { IfOk result (λ size. 60 + size ≤ length bytes.now) }
+{
+    if bytes.len() < 60 {
+        return Err(ArchiveError::HeaderTooShort);
+    }
+    if !bytes.split_at(58).1.starts_with(b"`\n") {
+        return Err(ArchiveError::HeaderEnd);
+    }
+    let Some(size) = decimal(bytes.split_at(48).1.split_at(10).0) else {
+        return Err(ArchiveError::Size);
+    };
+    if bytes.len() as u64 - 60 < size {
+        return Err(ArchiveError::PastEnd);
+    }
+    Ok(size as usize)
+}
+
+/// What an entry is: the table of names from there on, the member if it is one, and the bytes
+/// behind.
+#[derive(Clone, Copy)]
+struct Entry<'a> {
+    names: &'a [u8],
+    member: Option<Member<'a>>,
+    rest: &'a [u8],
+}
+
+/// Whether a name is that of a table of symbols.
+#[tactic(auto, unfolding(crate::specs::Entries::is_symbols))]
+fn is_symbols(name: &[u8]) -> bool
+    ensures { result ≡ is_symbols name.now }
+{
+    name.starts_with(b"__.SYMDEF")
+}
+
+/// The member with its name in the table.
+#[tactic(auto, unfolding(crate::specs::Entries::long_at, crate::specs::View::member))]
+fn long<'a>(
+    names: &'a [u8],
+    digits: &[u8],
+    content: &'a [u8],
+) -> Result<Option<Member<'a>>, ArchiveError>
+    requires { length digits.now ≤ 16 }
+    ensures { Answers listed result (long_at names.now digits.now content.now) }
+{
+    let Some(place) = decimal(digits) else {
+        return Err(ArchiveError::Name);
+    };
+    if (names.len() as u64) < place {
+        return Err(ArchiveError::PastNames);
+    }
+    Ok(Some(Member {
+        form: NameForm::Long,
+        named: names.split_at(place as usize).1,
+        content,
+    }))
+}
+
+/// The member with its name in front of its content, unless it is a table of symbols.
+#[tactic(auto, unfolding(crate::specs::Entries::own_at, crate::specs::Entries::member_named, crate::specs::View::member))]
+fn own<'a>(digits: &[u8], content: &'a [u8]) -> Result<Option<Member<'a>>, ArchiveError>
+    requires { length digits.now ≤ 16 }
+    ensures { Answers listed result (own_at digits.now content.now) }
+{
+    let Some(size) = decimal(digits) else {
+        return Err(ArchiveError::Name);
+    };
+    if (content.len() as u64) < size {
+        return Err(ArchiveError::NameTooLong);
+    }
+    let (named, content) = content.split_at(size as usize);
+    if is_symbols(own_name(named)) {
+        return Ok(None);
+    }
+    Ok(Some(Member {
+        form: NameForm::Own,
+        named,
+        content,
+    }))
+}
+
+/// The member that an entry is, if it is one.
+#[tactic(auto, unfolding(crate::specs::Entries::members_at, crate::specs::Entries::member_named, crate::specs::View::member))]
+fn member_at<'a>(
+    names: &'a [u8],
+    field: &'a [u8],
+    content: &'a [u8],
+) -> Result<Option<Member<'a>>, ArchiveError>
+    requires { length field.now ≡ 16 }
+    ensures { Answers listed result (members_at names.now field.now content.now) }
+{
+    if is_padded(field, b"/") || is_padded(field, b"/SYM64/") {
+        return Ok(None);
+    }
+    if field.starts_with(b"/") {
+        return long(names, field.split_at(1).1, content);
+    }
+    if field.starts_with(b"#1/") {
+        return own(field.split_at(3).1, content);
+    }
+    if is_symbols(short_name(field)) {
+        return Ok(None);
+    }
+    Ok(Some(Member {
+        form: NameForm::Short,
+        named: field,
+        content,
+    }))
+}
+
+/// The entry that the bytes begin with, by the table of names so far.
+#[tactic(auto, unfolding(crate::specs::Entries::entry_at, crate::specs::Entries::content_at), using(std::proofs::lemmas::List::drop_min))]
+fn entry_at<'a>(names: &'a [u8], bytes: &'a [u8]) -> Result<Entry<'a>, ArchiveError>
+    ensures { Answers entry result (entry_at names.now bytes.now) }
+{
+    let size = size_at(bytes)?;
+    let field = bytes.split_at(16).0;
+    let (content, rest) = bytes.split_at(60).1.split_at(size);
+    let (names, member) = if is_padded(field, b"//") {
+        (content, None)
+    } else {
+        (names, member_at(names, field, content)?)
+    };
+    let (_even, rest) = rest.split_at((size % 2).min(rest.len()));
+    Ok(Entry {
+        names,
+        member,
+        rest,
+    })
+}
 
 /// The members of an archive, in order, as bytes of it. Tables of symbols and of names are none.
 ///

@@ -3,7 +3,7 @@ use Rattle.std.specs.List.{list_all}
 use Rattle.dwp_archive.specs.Headers.{decimal_from}
 use Rattle.dwp_archive.proofs.Decimals.{decimal_step, decimal_end, stops, digit_small, digits_fit}
 use Rattle.dwp_archive.proofs.Decimals.{digits_grow}
-use Rattle.dwp_archive.proofs.header.decimal.Goals as goal
+use Rattle.dwp_archive.proofs.reading.decimal.Goals as goal
 
 pub returns-then-is_blank : goal.returns-then-is_blank
 returns-then-is_blank c =

@@ -1,6 +1,6 @@
 use Rattle.std.proofs.Common.{◌≡◌, ◌^◌, ◌<◌, drop}
 use Rattle.dwp_archive.specs.Headers.{decimal, decimal_from}
-use Rattle.dwp_archive.proofs.header.decimal.Given as goal
+use Rattle.dwp_archive.proofs.reading.decimal.Given as goal
 
 -- the digits so far write n
 abbrev pub invariant-loop-i : goal.invariant-loop-i
