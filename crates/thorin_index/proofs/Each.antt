@@ -1,10 +1,10 @@
 -- What tests that all passed say.
 use Rattle.thorin_index.proofs.Terms
 use Terms.{◌*◌, ◌+◌, ◌++◌, ◌<◌, [], ◌^◌, All, ap, arith, at_drop_more, Bool, codes, cond}
-use Terms.{Contribution, contribution_kinds, contribution_to, contributions_test, drop, each}
+use Terms.{column_of, Contribution, contribution_kinds, contribution_to, contributions_test, drop, each}
 use Terms.{Encoding, encoding_test, Err, false, get_or, HoldsAll, index_version_of, IndexEntry}
 use Terms.{is_some, is_used, length, List, ltb-true, None, offset_or_0, Ok, Option, refl, Result}
-use Terms.{SectionKind, size_or_0, Some, suc, sym, tests_under, true, zero, ℕ, ◌∙◌, ◌∷◌, ◌≡◌}
+use Terms.{SectionKind, size_or_0, Some, suc, sym, tests_under, true, unwrap_or, zero, ℕ, ◌∙◌, ◌∷◌, ◌≡◌}
 use Rattle.std.proofs.lemmas.List.Folds.{Any-from_list_any}
 use Rattle.dwp_base.proofs.Steps.{bind-was}
 use Rattle.dwp_base.specs.declared.section.SectionKind.TheVariants.{Str, CuIndex, TuIndex}
@@ -12,8 +12,14 @@ use Rattle.thorin_errors.specs.Errors.{ErrorValue}
 use Rattle.thorin_index.specs.EntryTests.{number_test, format_test, count_test, offset_test}
 use Rattle.thorin_index.specs.EntryTests.{size_test}
 use Rattle.thorin_index.specs.IndexText.{FitsRow}
-use Rattle.thorin_index.proofs.Again.{has_number}
 use Rattle.dwp_base.proofs.EveryKind as kinds
+
+-- the number of a section's column, and whether it has one
+abbrev pub number_of : ℕ → SectionKind → ℕ
+number_of version kind = unwrap_or (column_of version kind) 0
+
+abbrev pub has_number : ℕ → SectionKind → Bool
+has_number version kind = is_some (column_of version kind)
 
 -- what holds of each section that a unit may have a contribution to, and of the others, holds of
 -- every one

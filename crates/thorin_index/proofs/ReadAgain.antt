@@ -1,20 +1,202 @@
--- The bytes of an index whose entries passed the tests are read as the index.
+-- What was written is read again: numbers, items that are written alike, one after the other, the
+-- columns of an index, and the whole of one whose entries passed the tests.
 use Rattle.thorin_index.proofs.Terms
-use Terms.{◌++◌, ◌<◌, [], ◌^◌, ap, append_assoc, arith, Big, by-bool, column_numbers}
-use Terms.{contribution_kinds, contribution_to, drop, Encoding, Endianness, entry_ids, false}
-use Terms.{get_or, get_or_default, identifier_of, index_of, index_version_of, index_with}
-use Terms.{IndexEntry, is_used, IsIndexText, leb, length, length-map, List, Little, ltb, map-id}
-use Terms.{number_bytes, numbers, numbers_bytes, offset_or_0, Ok, refl, rows_bytes, SectionKind}
-use Terms.{signature_of, signatures_bytes, size_or_0, suc, tests_under, true, used_sections, zero}
-use Terms.{ℕ, ◌∙◌, ◌≡◌, ◌≤◌}
-use Rattle.std.proofs.lemmas.List.{append-nil}
+use Terms.{◌*◌, ◌+◌, ◌++◌, ◌<◌, [], ◌^◌, All, ap, append_assoc, arith, Big, Bool, by-bool}
+use Terms.{column_of, cond, drop, drop_at, Endianness, eqb, eqb-true, every, false}
+use Terms.{false_from_ne_true, filter, flat_map, get_or, is_some, length, length-append, List}
+use Terms.{Little, ltb, ltb-true, map, mul-suc, None, number, number_bytes, numbers, Ok, Option}
+use Terms.{refl, SectionKind, Some, suc, sym, true, unwrap_or, ℕ, ◌∙◌, ◌∷◌, ◌≡◌, ◌≤◌}
+use Terms.{column_numbers, contribution_kinds, contribution_to, Encoding, entry_ids, get_or_default}
+use Terms.{identifier_of, index_of, index_version_of, index_with, IndexEntry, is_used, IsIndexText}
+use Terms.{leb, length-map, map-id, numbers_bytes, offset_or_0, rows_bytes, signature_of}
+use Terms.{signatures_bytes, size_or_0, tests_under, used_sections, zero}
+use Rattle.std.proofs.Common.{le-ltb, append-nil}
+use Rattle.std.specs.List.{list_any, range_with_len}
+use Rattle.std.proofs.lemmas.List.Folds.{flat_map-map, list_any-append}
+use Rattle.std.proofs.lemmas.Nat.{from_le_bytes-to_le_bytes_4, from_le_bytes-to_le_bytes_8}
+use Rattle.std.proofs.lemmas.Nat.{from_be_bytes-to_be_bytes_4, from_be_bytes-to_be_bytes_8}
+use Rattle.dwp_base.specs.Sections.{rank_of}
+use Rattle.dwp_table.specs.Columns.{standard_column, gnu_column, kind_of_column}
+use Rattle.dwp_index.specs.IndexBytes.{after, new_column, columns_at, number_rows, version_of}
+use Rattle.dwp_index.specs.IndexBytes.{counts_of, is_slot_count}
+use Rattle.dwp_index.proofs.Columns.{kind_of_number}
 use Rattle.std.proofs.lemmas.List.Sums.{length-filter, count_by-le-length}
-use Rattle.std.proofs.lemmas.Bool.{le-ltb, lt-ltb}
-use Rattle.dwp_index.specs.IndexBytes.{number_rows, version_of, counts_of, is_slot_count}
+use Rattle.std.proofs.lemmas.Bool.{lt-ltb}
 use Rattle.thorin_index.specs.IndexText.{version_bytes, index_bytes}
-use Rattle.thorin_index.proofs.Again.{IsPut, put_4, put_8, put_row, put_again, after_put}
-use Rattle.thorin_index.proofs.Again.{columns_read}
-use Rattle.thorin_index.proofs.Each.{have_passed, used_known}
+use Rattle.thorin_index.proofs.Each.{has_number, have_passed, number_of, used_known}
+
+-- items are put in so many bytes each, in which those that fit are read again as what they are
+pub record IsPut {X Y : Type 0} (put : X → List ℕ) (read : List ℕ → Y) (is : X → Y)
+    (Fits : X → Type 0) (width : ℕ) : Type 0 where
+  pub len : (x : X) → length (put x) ≡ width
+  pub again : (x : X) (rest : List ℕ) → Fits x → read (put x ++ rest) ≡ is x
+
+-- numbers that items have
+pub put_4 : {X : Type 0} (order : Endianness) (f : X → ℕ) → IsPut (λ x. number_bytes order 4 (f x))
+    (number order 4) f (λ x. f x < 2 ^ 32) 4
+put_4 Little f = record {
+  len = λ x. refl;
+  again = λ x rest h. omega (arith, from_le_bytes-to_le_bytes_4 (f x) h);
+}
+put_4 Big f = record {
+  len = λ x. refl;
+  again = λ x rest h. omega (arith, from_be_bytes-to_be_bytes_4 (f x) h);
+}
+
+pub put_8 : {X : Type 0} (order : Endianness) (f : X → ℕ) → IsPut (λ x. number_bytes order 8 (f x))
+    (number order 8) f (λ x. f x < 2 ^ 64) 8
+put_8 Little f = record {
+  len = λ x. refl;
+  again = λ x rest h. omega (arith, from_le_bytes-to_le_bytes_8 (f x) h);
+}
+put_8 Big f = record {
+  len = λ x. refl;
+  again = λ x rest h. omega (arith, from_be_bytes-to_be_bytes_8 (f x) h);
+}
+
+pub after_front : (n : ℕ) (front rest : List ℕ) → length front ≡ n → after n (front ++ rest) ≡ Ok
+    rest
+after_front n front rest e =
+    rw (
+      le-ltb (length (front ++ rest)) n (omega (arith, length-append front rest)),
+      drop_at front rest n e,
+    ) refl
+
+-- ---- some items, one after the other
+module _ {X Y : Type 0} {put : X → List ℕ} {read : List ℕ → Y} {is : X → Y} {Fits : X → Type 0}
+    {width : ℕ} (one : IsPut put read is Fits width) where
+  pub length_put : (xs : List X) → length (flat_map put xs) ≡ width * length xs
+  length_put [] = omega arith
+  length_put (x ∷ xs) = omega (
+    arith,
+    length-append (put x) (flat_map put xs),
+    one.len x,
+    length_put xs,
+    mul-suc width (length xs),
+  )
+
+  pub after_put : (xs : List X) (rest : List ℕ) → after (width * length xs)
+      (flat_map put xs ++ rest) ≡ Ok rest
+  after_put xs rest = after_front _ (flat_map put xs) rest (length_put xs)
+
+  -- where each is read in front of the others
+  pub put_again : (reads : ℕ → List ℕ → List Y) → ((bytes : List ℕ) → reads 0 bytes ≡ [])
+      → ((n : ℕ) (bytes : List ℕ) → reads (suc n) bytes ≡ read bytes ∷ reads n (drop width bytes))
+      → (xs : List X) (rest : List ℕ) → All Fits xs
+      → reads (length xs) (flat_map put xs ++ rest) ≡ map is xs
+  put_again reads none more [] rest fits = none rest
+  put_again reads none more (x ∷ xs) rest fits =
+      let later = flat_map put xs ++ rest in
+      more (length xs) ((put x ++ flat_map put xs) ++ rest)
+      ∙ rw (
+        append_assoc,
+        one.again x later (fits 0 x (omega arith)),
+        drop_at (put x) later width (one.len x),
+        put_again reads none more xs rest (λ k d less. fits (suc k) d (omega arith)),
+      ) refl
+
+-- a row of numbers for each item
+pub put_row : {X K : Type 0} (order : Endianness) (columns : List K) (f : X → K → ℕ)
+    → IsPut (λ x. flat_map (number_bytes order 4) (map (f x) columns))
+    (numbers order 4 (length columns)) (λ x. map (f x) columns)
+    (λ x. (k : K) → f x k < 2 ^ 32) (4 * length columns)
+put_row order columns f = record {
+  len = λ x. rw flat_map-map (length_put (put_4 order (f x)) columns);
+  again = λ x rest fits. rw flat_map-map (put_again (put_4 order (f x)) (numbers order 4)
+      (λ bytes. refl) (λ n bytes. refl) columns rest (λ k d less. fits (get_or columns k d)));
+}
+
+-- ---- columns
+
+-- the numbers of columns fit their four bytes
+number_small : (version : ℕ) (kind : SectionKind) → number_of version kind < 2 ^ 32
+number_small version kind = by-bool _ (eqb version 5)
+    (λ five. rw five
+    (ltb-true _ _ (every (λ k. ltb (unwrap_or (standard_column k) 0) (2 ^ 32)) refl kind)))
+    (λ two. rw two
+    (ltb-true _ _ (every (λ k. ltb (unwrap_or (gnu_column k) 0) (2 ^ 32)) refl kind)))
+
+-- a section that has a column is the one that its number names
+kind_again : (version : ℕ) (kind : SectionKind) → has_number version kind ≡ true
+    → kind_of_column version (number_of version kind) ≡ Some kind
+kind_again version kind = go (column_of version kind) refl
+  where
+    go : (column : Option ℕ) → column_of version kind ≡ column → is_some column ≡ true
+        → kind_of_column version (unwrap_or column 0) ≡ Some kind
+    go None is has = absurd cc
+    go (Some n) is has = kind_of_number version n kind is
+
+pub one_kind : (version : ℕ) (kind other : SectionKind) → has_number version kind ≡ true
+    → has_number version other ≡ true → number_of version other ≡ number_of version kind
+    → other ≡ kind
+one_kind version kind other mine its same =
+    let e : Some other ≡ Some kind = sym (kind_again version other its)
+    ∙ ap (kind_of_column version) same ∙ kind_again version kind mine in
+    cc
+
+-- ---- columns of sections in the order of their ranks
+module _ (order : Endianness) (version : ℕ) (p : SectionKind → Bool)
+    (known : (kind : SectionKind) → p kind ≡ true → has_number version kind ≡ true) where
+  -- the columns of sections of this rank and behind aren't there
+  abbrev AreNew : ℕ → List ℕ → Type 0
+  AreNew rank before = (kind : SectionKind) → has_number version kind ≡ true → rank ≤ rank_of kind
+      → list_any (λ c. eqb c (number_of version kind)) before ≡ false
+
+  new_after : (rank : ℕ) (before : List ℕ) (kind : SectionKind) → has_number version kind ≡ true
+      → rank_of kind ≡ rank → AreNew rank before
+      → AreNew (rank + 1) (before ++ number_of version kind ∷ [])
+  new_after rank before kind has at new other its behind =
+      let differs : eqb (number_of version kind) (number_of version other) ≡ false =
+      false_from_ne_true _ (λ same. let one = one_kind version other kind its has
+      (eqb-true _ _ same) in omega (arith, ap rank_of one)) in
+      list_any-append _ before (number_of version kind ∷ [])
+      ∙ rw (new other its (omega arith), differs) refl
+
+  abbrev AreRead : List ℕ → List SectionKind → List ℕ → Type 0
+  AreRead before kinds rest = columns_at order version before (length kinds)
+      (flat_map (number_bytes order 4) (map (number_of version) kinds) ++ rest)
+      ≡ Ok (before ++ map (number_of version) kinds, rest)
+
+  one_read : (rank : ℕ) (before : List ℕ) (kind : SectionKind) (kinds : List SectionKind)
+      (rest : List ℕ) → has_number version kind ≡ true → rank_of kind ≡ rank → AreNew rank before
+      → AreRead (before ++ number_of version kind ∷ []) kinds rest
+      → AreRead before (kind ∷ kinds) rest
+  unfolding columns_at new_column
+  one_read rank before kind kinds rest has at new later =
+      let n = number_of version kind in
+      let tail : List ℕ = flat_map (number_bytes order 4) (map (number_of version) kinds) ++ rest in
+      let one = put_4 order (number_of version) in
+      rw (
+        append_assoc,
+        after_front 4 (number_bytes order 4 n) tail (one.len kind),
+        one.again kind tail (number_small version kind),
+        kind_again version kind has,
+        new kind has (omega arith),
+      )
+      (later ∙ ap (λ (l : List ℕ). Ok (l, rest)) (append_assoc before (n ∷ []) _))
+
+  pub columns_read : (kinds : List SectionKind) (rank : ℕ)
+      → map rank_of kinds ≡ range_with_len rank (length kinds) → (before rest : List ℕ)
+      → AreNew rank before → AreRead before (filter p kinds) rest
+  unfolding columns_at
+  columns_read [] rank ranks before rest new = ap (λ (l : List ℕ). Ok (l, rest))
+      (sym (append-nil before))
+  columns_read (k ∷ kinds) rank ranks before rest new =
+      by (p k) refl (columns_read kinds (rank + 1) others)
+    where
+      at : rank_of k ≡ rank
+      at = cc
+
+      others : map rank_of kinds ≡ range_with_len (rank + 1) (length kinds)
+      others = cc
+
+      by : (b : Bool) → p k ≡ b
+          → ((before rest : List ℕ) → AreNew (rank + 1) before
+          → AreRead before (filter p kinds) rest)
+          → AreRead before (cond b (k ∷ filter p kinds) (filter p kinds)) rest
+      by true passes later = one_read rank before k (filter p kinds) rest (known k passes) at new
+          (later _ rest (new_after rank before k (known k passes) at new))
+      by false passes later = later before rest (λ kind has behind. new kind has (omega arith))
 
 -- ---- the header
 module _ (columns units slots : ℕ) (rest : List ℕ) where

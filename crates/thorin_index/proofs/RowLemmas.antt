@@ -1,11 +1,13 @@
--- The rows of an index as they are held: what they stand for where more is shared.
+-- The rows of an index as they are held: what they stand for where more is shared. One more row in
+-- its hash table, and bytes that a loop adds.
 use Rattle.thorin_index.proofs.Terms
 use Terms.{◌+◌, ◌++◌, ◌<◌, [], All, All-push, ap, arith, below_more, blank, contribution_kinds}
 use Terms.{contribution_to, entry_by, entry_ids, Err, get_or, get_or-take, get_or_default}
 use Terms.{identifier_of, IndexEntry, length, length-take, List, map, map_push, Ok, OnErr, refl}
 use Terms.{Result, row_of, SectionKind, slice_get, Some, suc, sym, take, with_own, ℕ, ◌∙◌, ◌∷◌, ◌≡◌}
 use Terms.{◌≤◌, Encoding, Endianness, index_version_of, IsHashTable, length-map, ltb, tests_under}
-use Terms.{true, used_sections, ◌*◌, ◌^◌}
+use Terms.{true, used_sections, ◌*◌, ◌^◌, ◌-◌, cases_lt, get_or_append_left, get_or_push, inl, inr}
+use Terms.{IsLooked, IsPlacedAfter, length_push, flat_map, map_more}
 use Rattle.std.proofs.lemmas.Bool.{lt-ltb}
 use Rattle.dwp_table.specs.Table.{HasSlots}
 use Rattle.thorin_errors.specs.Errors.{ErrorValue}
@@ -17,6 +19,7 @@ use Rattle.thorin_index.specs.declared.rows.Own.{Own}
 use Rattle.thorin_index.specs.declared.rows.Own.TheVariants.{Nothing, Info, Types}
 use Rattle.thorin_index.specs.declared.rows.Row.{Row}
 use Rattle.thorin_index.proofs.Each.{by_contribution}
+use Rattle.std.proofs.lemmas.List.{flat_map_more, take_more}
 
 -- a list that begins with another isn't shorter
 pub at_least : {A : Type 0} (front all : List A) → take (length front) all ≡ front
@@ -135,3 +138,49 @@ pub index_is : (order : Endianness) (entries : List IndexEntry) (encoding : Enco
 index_is order [] encoding held bytes some e table has text = absurd (omega arith)
 index_is order (entry ∷ entries) encoding held bytes some e table has text =
     record { rows = held; table = table; slots = has; text = rw e at text }
+
+-- what was placed stays at its place, and the last row stands in the slot that was looked at last
+pub looked_more : (ids old new looked : List ℕ) (x l : ℕ)
+    → ((y r j : ℕ) → 0 < r → IsPlacedAfter old y r j → IsPlacedAfter new y r j)
+    → (0 < l) × IsPlacedAfter new x (length ids + 1) (l - 1) → l ≤ length ids + 1
+    → IsLooked ids old looked → IsLooked (ids ++ x ∷ []) new (looked ++ l ∷ [])
+looked_more ids old new looked x l stays last few looks = record {
+  length_is = omega (arith, looks.length_is, length_push looked l, length_push ids x);
+  each = λ r within. elim (cases_lt r (length ids)) [
+    | inl lt ↦
+        let at = looks.each r lt in
+        record {
+          others = at.others;
+          count = get_or_append_left looked (l ∷ []) 0 r (omega (arith, looks.length_is))
+              ∙ at.count;
+          early = at.early;
+          placed = rw (get_or_append_left ids (x ∷ []) 0 r lt)
+              (stays _ (r + 1) at.others (omega arith) at.placed);
+        }
+    | inr le ↦
+        let here : length ids ≡ r = omega (arith, length_push ids x) in
+        record {
+          others = l - 1;
+          count = get_or_push looked l 0 r (looks.length_is ∙ here) ∙ omega (arith, last.0);
+          early = omega (arith, few);
+          placed = rw (get_or_push ids x 0 r here, ← here) last.1;
+        }
+  ];
+}
+
+pub none_looked : (rows looked : List ℕ) → looked ≡ [] → IsLooked [] rows looked
+none_looked rows looked e = record { length_is = ap length e; each = λ r h. absurd (omega arith) }
+
+pub one_piece : {A : Type 0} (f : A → List ℕ) (xs : List A) (i : ℕ) (d : A)
+    (start old new : List ℕ) → i < length xs → old ≡ start ++ flat_map f (take i xs)
+    → new ≡ old ++ f (get_or xs i d) → new ≡ start ++ flat_map f (take (i + 1) xs)
+one_piece f xs i d start old new lt so_far added =
+    added ∙ rw (so_far, take_more xs i d lt) (flat_map_more f start (take i xs) (get_or xs i d))
+
+-- the same of what is made of each element
+pub one_mapped : {A B : Type 0} (f : B → List ℕ) (g : A → B) (xs : List A) (i : ℕ) (d : A)
+    (start old new : List ℕ) → i < length xs → old ≡ start ++ flat_map f (map g (take i xs))
+    → new ≡ old ++ f (g (get_or xs i d)) → new ≡ start ++ flat_map f (map g (take (i + 1) xs))
+one_mapped f g xs i d start old new lt so_far added =
+    added ∙ rw (so_far, map_more g xs i d lt)
+    (flat_map_more f start (map g (take i xs)) (g (get_or xs i d)))

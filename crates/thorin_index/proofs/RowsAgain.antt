@@ -17,9 +17,9 @@ use Rattle.dwp_base.specs.declared.section.SectionKind.TheVariants.{Info}
 use Rattle.dwp_index.specs.Index.{Index, Ranges, row_in, column_place, contribution, range_in}
 use Rattle.dwp_index.proofs.NumberLists.{is_some-position}
 use Rattle.thorin_index.specs.ReadRows.{non_empty, HasEntries}
-use Rattle.thorin_index.proofs.Again.{number_of, has_number, one_kind}
-use Rattle.thorin_index.proofs.Each.{HavePassed, by_contribution, have_passed, used_known}
-use Rattle.thorin_index.proofs.ReadAgain.{index_is_read}
+use Rattle.thorin_index.proofs.Each.{HavePassed, by_contribution, has_number, have_passed}
+use Rattle.thorin_index.proofs.Each.{number_of, used_known}
+use Rattle.thorin_index.proofs.ReadAgain.{index_is_read, one_kind}
 
 -- ---- a contribution
 range_of_numbers : (range : Option Contribution)

@@ -27,14 +27,12 @@ pub use Rattle.dwp_table.specs.Columns.{column_of, contribution_kinds}
 pub use Rattle.dwp_table.specs.Objects.{identifier_of}
 pub use Rattle.dwp_table.specs.Table.{AreDistinct, IsHashTable, IsPlacedAfter, signature_of}
 pub use Rattle.thorin_index.specs.Buckets.{IsLooked}
-pub use Rattle.thorin_index.specs.ContributionTests.{test_of}
+pub use Rattle.thorin_index.specs.EntryTests.{test_of, contributions_test, each, encoding_test}
 pub use Rattle.thorin_index.specs.Entries.{contribution_to, entry_by, offset_or_0, size_or_0}
-pub use Rattle.thorin_index.specs.EntryTests.{contributions_test, each, encoding_test}
 unfoldable pub use Rattle.thorin_index.specs.EntryTests.{tests_under}
 pub use Rattle.thorin_index.specs.IndexText.{IsIndexText, column_numbers, entry_ids, is_used}
 pub use Rattle.thorin_index.specs.IndexText.{numbers_bytes, row_numbers, rows_bytes}
-pub use Rattle.thorin_index.specs.IndexText.{signatures_bytes, used_sections}
-pub use Rattle.thorin_index.specs.Measures.{measure_of}
+pub use Rattle.thorin_index.specs.IndexText.{signatures_bytes, used_sections, measure_of}
 pub use Rattle.thorin_index.specs.ReadBack.{index_with}
 pub use Rattle.thorin_index.specs.Rows.{blank, row_of, with_own}
 pub use Rattle.thorin_index.specs.declared.entry.IndexEntry.{IndexEntry}

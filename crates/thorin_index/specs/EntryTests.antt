@@ -14,6 +14,9 @@ use Rattle.dwp_bytes.specs.declared.encoding.Format.TheVariants.{Dwarf32, Dwarf6
 use Rattle.thorin_errors.specs.Errors.{ErrorValue, NumberTooLarge, MixedInputEncodings}
 use Rattle.thorin_errors.specs.Errors.{SectionOutsideFormat}
 use Rattle.thorin_index.specs.declared.entry.IndexEntry.{IndexEntry}
+use Rattle.thorin_index.specs.declared.index_writer.ContributionTest.{ContributionTest}
+use Rattle.thorin_index.specs.declared.index_writer.ContributionTest.TheVariants.{Column, Offset}
+use Rattle.thorin_index.specs.declared.index_writer.ContributionTest.TheVariants.{Size}
 use Rattle.dwp_table.specs.Columns.{column_of, contribution_kinds}
 use Rattle.dwp_bytes.specs.Encoding.{index_version_of}
 use Rattle.thorin_index.specs.Entries.{contribution_to, offset_or_0, size_or_0}
@@ -57,6 +60,13 @@ offset_test kind range = number_test (codes "contribution offset") (offset_or_0 
 
 abbrev pub size_test : SectionKind → Option Contribution → Result (Unit {0}) ErrorValue
 size_test kind range = number_test (codes "contribution size") (size_or_0 range)
+
+-- the tests of a contribution by their names in the code
+abbrev pub test_of : ContributionTest → SectionKind → Option Contribution
+    → Result (Unit {0}) ErrorValue
+test_of (Column version) = format_test version
+test_of Offset = offset_test
+test_of Size = size_test
 
 -- a test of an entry's contributions to some sections
 abbrev pub each_contribution : (SectionKind → Option Contribution → Result (Unit {0}) ErrorValue)

@@ -10,6 +10,8 @@ use Rattle.dwp_base.specs.Numbers.{number_bytes}
 use Rattle.dwp_table.specs.Objects.{identifier_of}
 use Rattle.dwp_table.specs.Table.{IsHashTable, HasSlots, signature_of}
 use Rattle.thorin_index.specs.declared.entry.IndexEntry.{IndexEntry}
+use Rattle.thorin_index.specs.declared.index_writer.Measure.{Measure}
+use Rattle.thorin_index.specs.declared.index_writer.Measure.TheVariants.{Offset, Size}
 use Rattle.dwp_table.specs.Columns.{column_of, contribution_kinds}
 use Rattle.dwp_bytes.specs.Encoding.{index_version_of}
 use Rattle.thorin_index.specs.Entries.{contribution_to, offset_or_0, size_or_0}
@@ -34,6 +36,11 @@ used_sections entries = filter (is_used entries) contribution_kinds
 -- the numbers of their columns
 abbrev pub column_numbers : ℕ → List SectionKind → List ℕ
 column_numbers version kinds = map (λ kind. unwrap_or (column_of version kind) 0) kinds
+
+-- the number of a contribution by its name in the code
+abbrev pub measure_of : Measure → Option Contribution → ℕ
+measure_of Offset = offset_or_0
+measure_of Size = size_or_0
 
 -- the entry's row in the table of offsets, or of sizes
 abbrev pub row_numbers : (Option Contribution → ℕ) → List SectionKind → IndexEntry → List ℕ

@@ -1,9 +1,7 @@
 pub mod Buckets
-pub mod ContributionTests
 pub mod Entries
 pub mod EntryTests
 pub mod IndexText
-pub mod Measures
 pub mod ReadBack
 pub mod ReadRows
 pub mod Rows

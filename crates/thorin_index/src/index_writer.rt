@@ -1,33 +1,42 @@
-//! Writing an index (DWARF 5, 7.3.5.3; the GNU page DebugFissionDWP).
+//! Writing an index (DWARF 5, 7.3.5.3; the GNU page DebugFissionDWP): what is tested of its entries,
+//! its hash table, its bytes.
 
-ghost use Rattle.std.specs.Prelude.{◌≡◌, ◌<◌, ◌≤◌, ◌^◌, ◌++◌, [], ◌∷◌, length, filter, All, IfOk};
-ghost use Rattle.std.specs.Prelude.{OnOk, get_or, vec_len};
-ghost use Rattle.dwp_table.specs.Table.{signature_of};
+ghost use Rattle.std.specs.Prelude.{◌≡◌, ◌<◌, ◌≤◌, ◌^◌, ◌++◌, length, map, filter, All, IfOk, OnOk};
+ghost use Rattle.std.specs.Prelude.{Ok, vec_len};
+ghost use Rattle.dwp_table.specs.Table.{HasSlots, IsHashTable};
 ghost use Rattle.thorin_errors.specs.Answers.{Gives};
+ghost use Rattle.thorin_index.specs.Buckets.{IsLooked};
 ghost use Rattle.thorin_index.specs.Entries.{offset_or_0, size_or_0};
-ghost use Rattle.thorin_index.specs.EntryTests.{index_tests};
+ghost use Rattle.thorin_index.specs.EntryTests.{
+  contributions_test,
+  count_test,
+  each,
+  encoding_test,
+  index_tests,
+  number_test,
+  test_of,
+  tests_under,
+};
 ghost use Rattle.thorin_index.specs.IndexText.{
   FitsRow,
   IsIndexOf,
   column_numbers,
   entry_ids,
   index_bytes,
+  is_used,
+  measure_of,
   numbers_bytes,
-  row_numbers,
   rows_bytes,
   signatures_bytes,
-  is_used,
-  used_sections,
   version_bytes,
 };
-ghost use Rattle.thorin_index.specs.Measures.{measure_of};
-ghost use Rattle.thorin_index.specs.Rows.{blank};
 
 use crate::entry::IndexEntry;
-use crate::entry_tests::test_entries;
 use crate::rows::IndexRows;
 use dwp_base::{Contribution, Endianness, SectionKind};
-use dwp_table::{Bucketable, CONTRIBUTION_KINDS, column_of};
+use dwp_bytes::Encoding;
+use dwp_table::laws::unused_slots_are_a_table;
+use dwp_table::{Bucketable, CONTRIBUTION_KINDS, column_of, place_row, slot_count};
 use std::alloc::{AllocError, Global};
 use thorin_errors::Error;
 
@@ -74,6 +83,137 @@ pub fn write_rows(alloc: Global, endianness: Endianness, rows: &IndexRows) -> Re
     Ok(index_text(alloc, endianness, version, &columns, rows, &slots)?)
 }
 
+/// The greatest number of units that an index can name: with it, three times the number still fits
+/// 32 bits, and so does the number of slots.
+const UNIT_LIMIT: usize = 1_431_655_765;
+
+/// What is tested of an entry's contribution to a section.
+#[derive(Clone, Copy)]
+enum ContributionTest {
+    /// The index of this version has a column for the section.
+    Column(u16),
+    /// The offset fits 32 bits.
+    Offset,
+    /// The size fits 32 bits.
+    Size,
+}
+
+/// That an index can name so many units.
+///
+/// # Errors
+/// `NumberTooLarge` of more units.
+fn test_count(units: usize) -> Result<(), Error>
+    ensures exact { Gives (λ x. x) result (count_test units) }
+    ensures few { OnOk result (units ≤ 1431655765) }
+{
+    if units > UNIT_LIMIT {
+        return Err(Error::NumberTooLarge("unit count", units as u64));
+    }
+    Ok(())
+}
+
+fn test_number(what: &'static str, number: u64) -> Result<(), Error>
+    ensures { Gives (λ x. x) result (number_test what.now number) }
+{
+    if number > u64::from(u32::MAX) {
+        return Err(Error::NumberTooLarge(what, number));
+    }
+    Ok(())
+}
+
+fn test_encodings(encoding: Encoding, rows: &IndexRows) -> Result<(), Error>
+    ensures { Gives (λ x. x) result (each (encoding_test encoding) rows.now) }
+{
+    for position in 0..rows.len() {
+        if rows.encoding(position) != encoding {
+            return Err(Error::MixedInputEncodings);
+        }
+    }
+    Ok(())
+}
+
+impl ContributionTest {
+    fn test(self, kind: SectionKind, range: Option<Contribution>) -> Result<(), Error>
+        ensures { Gives (λ x. x) result (test_of self kind range) }
+    {
+        let Some(range) = range else {
+            return Ok(());
+        };
+        match self {
+            ContributionTest::Column(version) => match column_of(version, kind) {
+                Some(_) => Ok(()),
+                None => Err(Error::SectionOutsideFormat(kind.name())),
+            },
+            ContributionTest::Offset => test_number("contribution offset", range.offset.0),
+            ContributionTest::Size => test_number("contribution size", range.size),
+        }
+    }
+
+    fn test_each(self, rows: &IndexRows) -> Result<(), Error>
+        ensures exact { Gives (λ x. x) result (each (contributions_test (test_of self)) rows.now) }
+        ensures passed { OnOk result
+            (All (λ entry. contributions_test (test_of self) entry ≡ Ok tt) rows.now) }
+    {
+        for position in 0..rows.len() {
+            for kind in &CONTRIBUTION_KINDS {
+                self.test(*kind, rows.contribution(position, *kind))?;
+            }
+        }
+        Ok(())
+    }
+}
+
+/// Whether an index of this encoding can be written of the rows.
+///
+/// # Errors
+/// The first error, in the order of the tests: `NumberTooLarge`, `MixedInputEncodings`,
+/// `SectionOutsideFormat`, `NumberTooLarge`.
+#[tactic(auto, unfolding(crate::specs::EntryTests::tests_under))]
+fn test_entries(encoding: Encoding, rows: &IndexRows) -> Result<(), Error>
+    ensures exact { Gives (λ x. x) result (tests_under encoding rows.now) }
+    ensures few { OnOk result (length rows.now ≤ 1431655765) }
+    ensures offsets { OnOk result (All (FitsRow offset_or_0) rows.now) }
+    ensures sizes { OnOk result (All (FitsRow size_or_0) rows.now) }
+{
+    test_count(rows.len())?;
+    test_encodings(encoding, rows)?;
+    ContributionTest::Column(encoding.dwarf_package_index_version()).test_each(rows)?;
+    ContributionTest::Offset.test_each(rows)?;
+    ContributionTest::Size.test_each(rows)
+}
+
+/// The slots of a hash table of units (DWARF 5, 7.3.5.3).
+#[derive(Debug, Drop)]
+pub struct Buckets {
+    /// A row number in each slot, counted from 1, or 0 where the slot is unused.
+    pub slots: Vec<u32>,
+    /// How many slots were looked at to place each unit.
+    pub looked: Vec<u32>,
+}
+
+/// Places units in a hash table in their order, each in the first unused slot of its probe
+/// sequence. Where no two have one identifier, a look-up finds each of them.
+///
+/// # Errors
+/// `NumberTooLarge` for more than 1,431,655,765 units; else `Memory` alone.
+pub fn bucket<B: Bucketable>(alloc: Global, units: &[B]) -> Result<Buckets, Error>
+    ensures refusal { Gives (λ _. tt) result (count_test (length units.now)) }
+    ensures table { IfOk result (λ b. IsHashTable (map B.identifier units.now) b.slots.items) }
+    ensures slots { IfOk result (λ b. HasSlots (length units.now) (length b.slots.items)) }
+    ensures looked { IfOk result (λ b.
+        IsLooked (map B.identifier units.now) b.slots.items b.looked.items) }
+{
+    test_count(units.len())?;
+    let mut slots = vec![in alloc; 0u32; slot_count(units.len() as u32) as usize]?;
+    let mut looked = Vec::with_capacity(alloc, units.len())?;
+    unused_slots_are_a_table();
+    let table = slots.as_mut_slice();
+    for (i, unit) in units.iter().enumerate() {
+        looked.push(place_row(table, unit.index(), i as u32 + 1).unwrap())?;
+    }
+    Ok(Buckets { slots, looked })
+}
+
 #[tactic(auto, unfolding(crate::specs::IndexText::index_bytes))]
 fn index_text(
     alloc: Global,
@@ -94,32 +234,14 @@ fn index_text(
 {
     let mut out = Vec::new(alloc);
     put_version(&mut out, order, version)?;
-    put_counts(
-        &mut out,
-        order,
-        columns.len() as u32,
-        rows.len() as u32,
-        slots.len() as u32,
-    )?;
+    let counts = [columns.len() as u32, rows.len() as u32, slots.len() as u32];
+    put_numbers(&mut out, order, &counts)?;
     put_signatures(&mut out, order, rows, slots)?;
     put_numbers(&mut out, order, slots)?;
     put_columns(&mut out, order, version, columns)?;
     put_rows(&mut out, order, Measure::Offset, columns, rows)?;
     put_rows(&mut out, order, Measure::Size, columns, rows)?;
     Ok(out)
-}
-
-fn put_counts(
-    out: &mut Vec<u8>,
-    order: Endianness,
-    columns: u32,
-    units: u32,
-    slots: u32,
-) -> Result<(), AllocError>
-    ensures { OnOk result (out.new.items
-        ≡ out.old.items ++ numbers_bytes order (columns ∷ units ∷ slots ∷ [])) }
-{
-    put_numbers(out, order, &[columns, units, slots])
 }
 
 /// Those of the sections that some row has a contribution to.
@@ -184,21 +306,14 @@ fn put_signatures(
         ≡ out.old.items ++ signatures_bytes order (entry_ids rows.now) slots.now) }
 {
     for row in slots {
-        let signature = signature(rows, *row);
+        let signature = if *row == 0 {
+            0
+        } else {
+            rows.unit(*row as usize - 1).index()
+        };
         out.extend_from_slice(&order.bytes_of_u64(signature))?;
     }
     Ok(())
-}
-
-fn signature(rows: &IndexRows, row: u32) -> u64
-    requires { row ≤ length rows.now }
-    ensures { result ≡ signature_of (entry_ids rows.now) row }
-{
-    if row == 0 {
-        0
-    } else {
-        rows.unit(row as usize - 1).index()
-    }
 }
 
 fn put_columns(
@@ -248,27 +363,10 @@ fn put_rows(
         ≡ out.old.items ++ rows_bytes order (measure_of measure) columns.now rows.now) }
 {
     for position in 0..rows.len() {
-        put_row(out, order, measure, columns, rows, position)?;
-    }
-    Ok(())
-}
-
-fn put_row(
-    out: &mut Vec<u8>,
-    order: Endianness,
-    measure: Measure,
-    columns: &[SectionKind],
-    rows: &IndexRows,
-    position: usize,
-) -> Result<(), AllocError>
-    requires within { position < length rows.now }
-    requires fits { FitsRow (measure_of measure) (get_or rows.now position blank) }
-    ensures { OnOk result (out.new.items ≡ out.old.items ++ numbers_bytes order
-        (row_numbers (measure_of measure) columns.now (get_or rows.now position blank))) }
-{
-    for kind in columns {
-        let number = measure.of(rows.contribution(position, *kind)) as u32;
-        out.extend_from_slice(&order.bytes_of_u32(number))?;
+        for kind in columns {
+            let number = measure.of(rows.contribution(position, *kind)) as u32;
+            out.extend_from_slice(&order.bytes_of_u32(number))?;
+        }
     }
     Ok(())
 }

@@ -9,8 +9,8 @@ ghost use Rattle.thorin_index.specs.EntryTests.{count_test};
 ghost use Rattle.thorin_index.specs.IndexText.{entry_ids};
 ghost use Rattle.thorin_index.specs.Rows.{blank, with_own};
 
-use crate::buckets::bucket;
 use crate::entry::IndexEntry;
+use crate::index_writer::bucket;
 use dwp_base::{Contribution, SectionKind};
 use dwp_bytes::Encoding;
 use dwp_table::{Bucketable, CONTRIBUTION_KINDS, DebugTypeSignature, DwarfObject};
@@ -68,37 +68,16 @@ fn split(entry: &IndexEntry) -> (Own, IndexEntry)
     }
 }
 
-/// Whether two encodings are the same.
-fn same_encoding(a: Encoding, b: Encoding) -> bool
-    ensures { IsTrue result → a ≡ b }
-{
-    a == b
-}
-
-/// Whether two units are the same.
-fn same_unit(a: DwarfObject, b: DwarfObject) -> bool
-    ensures { IsTrue result → a ≡ b }
-{
-    a == b
-}
-
-/// Whether two contributions are the same.
-fn same_contribution(a: Option<Contribution>, b: Option<Contribution>) -> bool
-    ensures { IsTrue result → a ≡ b }
-{
-    a == b
-}
-
 /// Whether two entries are the same.
 fn same_entry(a: &IndexEntry, b: &IndexEntry) -> bool
     ensures { IsTrue result → a.now ≡ b.now }
 {
     for kind in &CONTRIBUTION_KINDS {
-        if !same_contribution(a.contribution(*kind), b.contribution(*kind)) {
+        if a.contribution(*kind) != b.contribution(*kind) {
             return false;
         }
     }
-    same_encoding(a.encoding, b.encoding) && same_unit(a.id, b.id)
+    a.encoding == b.encoding && a.id == b.id
 }
 
 /// The number of an entry among others: that of the last, where it is the same, else of a new last

@@ -1,5 +1,5 @@
 use Rattle.thorin_index.proofs.Terms.{column_of, number_bytes, unwrap_or}
-use Rattle.thorin_index.proofs.Pieces.{one_mapped}
+use Rattle.thorin_index.proofs.RowLemmas.{one_mapped}
 use Rattle.thorin_index.proofs.index_writer.put_columns.Goals as goal
 
 pub loop-kind-preserved : goal.loop-kind-preserved

@@ -1,5 +1,5 @@
 use Rattle.thorin_index.proofs.Terms.{drop, each, encoding_test, ◌≡◌}
-use Rattle.thorin_index.proofs.entry_tests.test_encodings.Given as goal
+use Rattle.thorin_index.proofs.index_writer.test_encodings.Given as goal
 
 -- what is left has the first error of all
 abbrev pub invariant-loop-position : goal.invariant-loop-position

@@ -1,7 +1,7 @@
 use Rattle.thorin_index.proofs.Terms.{codes, offset_or_0, refl, size_or_0}
 use Rattle.std.proofs.lemmas.Result.{on_ok_weaker}
 use Rattle.thorin_index.proofs.Each.{rows_fit}
-use Rattle.thorin_index.proofs.entry_tests.test_entries.Goals as goal
+use Rattle.thorin_index.proofs.index_writer.test_entries.Goals as goal
 
 pub returns-clause-offsets : goal.returns-clause-offsets
 returns-clause-offsets c = on_ok_weaker c.test_each-3.result

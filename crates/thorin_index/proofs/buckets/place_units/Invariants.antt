@@ -1,9 +1,0 @@
-use Rattle.thorin_index.proofs.Terms.{IsHashTable, IsLooked, map, take}
-use Rattle.thorin_index.proofs.buckets.place_units.Given as goal
-
--- the units so far stand in the table
-abbrev pub invariant-loop-i : goal.invariant-loop-i
-invariant-loop-i g l = record {
-  table : IsHashTable (map g.B.Bucketable.identifier (take l.i l.units)) l.slots;
-  looked : IsLooked (map g.B.Bucketable.identifier (take l.i l.units)) l.slots l.looked.items;
-}

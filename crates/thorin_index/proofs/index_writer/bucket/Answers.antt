@@ -1,0 +1,56 @@
+use Rattle.std.proofs.Common.{rules, take_all, take_at}
+use Rattle.std.proofs.lemmas.Grind.{common_steps}
+use Rattle.thorin_index.proofs.Terms
+use Terms.{◌+◌, ◌++◌, [], arith, length, length-map, length-take-le, map, map_more, refl, replicate}
+use Terms.{drop, take, ◌∙◌, ◌∷◌, ◌≡◌}
+use Rattle.thorin_index.proofs.RowLemmas.{looked_more, none_looked}
+use Rattle.thorin_index.proofs.index_writer.bucket.Goals as goal
+
+pub loop-i-init : goal.loop-i-init
+loop-i-init g c =
+    let size = c.slot_count.result in
+    let items : c.in_ok-slots.slots.items ≡ replicate size 0 =
+    c.in_ok-slots.ensures.items_if_clones_equal (λ _ e. e) in
+    record {
+      table = rw (c.as_mut_slice-table.ensures.value, items)
+          (c.unused_slots_are_a_table.ensures size c.slot_count.ensures.power c.slot_count.type_inv);
+      looked = none_looked _ _ c.in_ok-looked.ensures.items;
+    }
+
+pub loop-i-preserved : goal.loop-i-preserved
+loop-i-preserved g c =
+    let id = g.B.Bucketable.identifier in
+    let units = c.args.units.now in
+    let i = c.loop-i.i in
+    let ids = map id (take i units) in
+    let count : length ids ≡ i = length-map (take i units) id
+    ∙ length-take-le i units (omega arith) in
+    let more : map id (take (i + 1) units) ≡ ids ++ c.index.result ∷ [] =
+    map_more id units i c.index-units-i.result (omega arith)
+    ∙ rw (← c.index-units-i.is, ← c.index.ensures) refl in
+    let placed = c.place_row.ensures in
+    let before = c.loop-i.invariant in
+    let long : length c.loop-i.table ≡ c.slot_count.result =
+    omega (arith, c.loop-i.auto.table, c.as_mut_slice-table.ensures.len, c.in_ok-slots.ensures.len) in
+    record {
+      table = rw more (placed.table ids before.table (omega (arith, count)) (omega (arith, long, c.slot_count.ensures.room)));
+      looked = rw (more, c.in_ok-push.ensures.items) (looked_more ids c.loop-i.table
+          c.place_row.new.slots
+          c.loop-i.looked.items c.index.result c.unwrap.result placed.kept
+          (rw count (rw c.unwrap.ensures at (placed.last ids before.table
+          (omega (arith, count))))) (rw c.unwrap.ensures at (placed.count ids before.table))
+          before.looked);
+    }
+
+pub returns : goal.returns
+returns g c =
+    let same = take_at c.loop-i.table (drop (length c.loop-i.table)
+    c.in_ok-slots.slots.items) c.in_ok-slots.slots.len
+    (omega (arith, c.loop-i.auto.table, c.as_mut_slice-table.ensures.len)) in
+    let all = take_all c.loop-i.i c.args.units.now (omega arith) in
+    record {
+      refusal = search rules;
+      table = rw same (rw all at c.loop-i.invariant.table);
+      slots = rw same (grind (arith, common_steps, c.slot_count.ensures.slots));
+      looked = rw same (rw all at c.loop-i.invariant.looked);
+    }

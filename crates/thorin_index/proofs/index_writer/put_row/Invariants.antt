@@ -1,8 +1,0 @@
-use Rattle.thorin_index.proofs.Terms
-use Terms.{◌++◌, blank, get_or, measure_of, numbers_bytes, row_numbers, take, ◌≡◌}
-use Rattle.thorin_index.proofs.index_writer.put_row.Given as goal
-
-abbrev pub invariant-loop-kind : goal.invariant-loop-kind
-invariant-loop-kind l = l.out.items ≡ l.initial.out.items ++ numbers_bytes l.order
-    (row_numbers (measure_of l.measure) (take l.kind-index l.columns)
-    (get_or l.rows l.position blank))
