@@ -2,11 +2,12 @@
 -- another.
 use Rattle.std.proofs.Common.{◌≡◌, ℕ, zero, suc, ◌+◌, ◌*◌, ◌<◌, ◌≤◌, List, [], ◌∷◌, ◌++◌, length}
 use Rattle.std.proofs.Common.{take, Ok, Err, refl, arith, add-one, ◌-◌, ◌^◌, codes, Option, drop}
+use Rattle.std.proofs.Common.{None, Some}
 use Rattle.std.proofs.Common.{get_or, eqb, ap, ◌∙◌}
 use Rattle.std.proofs.lemmas.List.{flat_map_more, take_rest}
 use Rattle.std.proofs.lemmas.Bool.{cases_eq, eq-eqb}
 use Rattle.std.proofs.lemmas.List.Folds.{list_any_at}
-use Rattle.std.specs.Option.{IfSome, IsSomeAnd}
+use Rattle.std.specs.Option.{IfSome}
 use Rattle.dwp_base.specs.declared.endian.Endianness.{Endianness}
 use Rattle.dwp_base.specs.declared.endian.Endianness.TheVariants.{Little}
 use Rattle.dwp_base.specs.Numbers.{number_bytes}
@@ -18,7 +19,7 @@ use Rattle.dwp_bytes.specs.StringOffsets.{header_size, entry_count, string_at}
 use Rattle.thorin_errors.specs.Errors.{ErrorValue, NumberTooLarge}
 use Rattle.thorin_strings.specs.StringOffsets.{header_of, remapped_entry, remapped_entries}
 use Rattle.thorin_strings.specs.StringOffsets.{entry_bytes, remapped, offset_limit, entry_at}
-use Rattle.thorin_strings.specs.StringOffsets.{string_read, named_at, fitting_offset}
+use Rattle.thorin_strings.specs.StringOffsets.{string_read, named_at, fitting_offset, offset_at}
 use Rattle.thorin_strings.specs.Written.{AreWritten}
 use Rattle.dwp_strings.specs.Strings.{IsPlaced, IsZeroFree}
 use Rattle.thorin_strings.specs.Known.{offset_read, IsKnown, AreKnown}
@@ -74,6 +75,12 @@ are_known_later section old new pairs kept known = λ i d within.
     let r = was_read section _ _ old old (known i d within) in
     grind (arith, there_later old new r.0 kept, there_once_used old r.0)
 
+-- the offset that was read of an entry
+pub entry_was : (order : Endianness) (encoding : Encoding) (bytes : List ℕ) (index named : ℕ)
+    → offset_at order encoding.format bytes (header_size encoding
+    + index * offset_size encoding.format) ≡ Ok named → entry_at order encoding bytes index ≡ Ok named
+entry_was order encoding bytes index named h = rw h refl
+
 -- what an entry comes to, by the offset that it has
 module _ (order : Endianness) (encoding : Encoding) (section bytes : List ℕ) (index : ℕ) where
   module _ (named place : ℕ) (old new : List (List ℕ))
@@ -90,12 +97,15 @@ module _ (order : Endianness) (encoding : Encoding) (section bytes : List ℕ) (
     unfolding named_at remapped_entry fitting_offset
     entry_large large = let r = was_read section named place old new h in grind arith
 
-  pub entry_told : (place : ℕ) (old new : List (List ℕ)) (named : Option ℕ)
-      → IfSome named (λ n. entry_at order encoding bytes index ≡ Ok n)
-      → IsSomeAnd named (λ n. offset_read section n old ≡ Ok (place, new))
-      → place ≤ offset_limit encoding.format
-      → remapped_entry order encoding section bytes index old ≡ Ok (place, new)
-  entry_told place old new named entry h fits = grind (arith, entry_read)
+  pub entry_some : (named limit : ℕ) (old new : List (List ℕ)) (told : Option ℕ)
+      → entry_at order encoding bytes index ≡ Ok named → limit ≡ offset_limit encoding.format
+      → IfSome told (λ place. offset_read section named old ≡ Ok (place, new))
+      → IfSome told (λ place. place ≤ limit)
+      → IfSome told (λ place. remapped_entry order encoding section bytes index old ≡ Ok
+      (place, new))
+  entry_some named limit old new None entry is read fits = tt
+  entry_some named limit old new (Some place) entry is read fits =
+      entry_read named place old new entry read (rw is at fits)
 
   pub entry_unread : (named : ℕ) (old : List (List ℕ)) (error : ErrorValue)
       → entry_at order encoding bytes index ≡ Ok named → offset_read section named old ≡ Err error

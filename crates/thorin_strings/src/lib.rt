@@ -6,7 +6,6 @@ pub mod laws;
 mod offsets;
 mod repeats;
 mod table;
-mod told;
 mod words;
 
 pub use dwp_bytes::StringOffsets;

@@ -1,6 +1,6 @@
 //! String offsets, rewritten into a table of strings (DWARF 5, 7.26).
 
-ghost use Rattle.std.specs.Prelude.{◌≡◌, ◌≤◌, ◌<◌, ◌+◌, ◌*◌, ◌^◌, ◌++◌, [], length, take, Ok, OnOk};
+ghost use Rattle.std.specs.Prelude.{◌≡◌, ◌≢◌, ◌≤◌, ◌<◌, ◌+◌, ◌*◌, ◌^◌, ◌++◌, [], length, take, OnOk};
 ghost use Rattle.std.specs.Prelude.{OnErr, IfOk};
 ghost use Rattle.dwp_base.specs.Numbers.{number_bytes};
 ghost use Rattle.dwp_base.specs.Reading.{Answers};
@@ -14,7 +14,6 @@ ghost use Rattle.thorin_strings.specs.StringOffsets.{remapped_entry, remapped};
 ghost use Rattle.dwp_strings.specs.Strings.{IsZeroFree};
 ghost use Rattle.thorin_strings.specs.Known.{offset_read, AreKnown};
 
-use crate::known::known_entry;
 use crate::repeats::Repeats;
 use crate::table::PackageStringTable;
 use dwp_base::Endianness;
@@ -93,45 +92,30 @@ pub(crate) fn header(
     Ok(bytes)
 }
 
-/// The offset that stands at a place.
+/// The offset that the entry of a number has.
 #[inline(always)]
 #[tactic(auto, unfolding(crate::specs::StringOffsets::offset_at))]
-pub(crate) fn offset_at(
-    bytes: &[u8],
-    endian: Endianness,
-    format: Format,
-    at: u64,
-) -> Result<u64, ReadError>
-    ensures { Answers (λ offset. offset) result (offset_at endian format bytes.now at) }
-{
-    let at = at as usize;
-    if bytes.len() < at || bytes.len() - at < format.offset_size() {
-        return Err(ReadError::UnexpectedEof);
-    }
-    let rest = &bytes[at..];
-    Ok(match format {
-        Format::Dwarf32 => endian.read_u32(rest) as u64,
-        Format::Dwarf64 => endian.read_u64(rest),
-    })
-}
-
-/// The offset that the entry of a number has.
 pub(crate) fn entry_at(
     debug_str_offsets: &[u8],
     endian: Endianness,
     encoding: Encoding,
     index: u64,
-) -> Result<u64, Error>
+) -> Result<u64, ReadError>
     requires { header_size encoding + index * offset_size encoding.format < 2 ^ 64 }
-    ensures { Gives (λ offset. offset) result
-        (entry_at endian encoding debug_str_offsets.now index) }
+    ensures { Answers (λ offset. offset) result
+        (offset_at endian encoding.format debug_str_offsets.now
+        (header_size encoding + index * offset_size encoding.format)) }
 {
-    let header = encoding.string_offsets_header_size() as u64;
-    let at = header + index * encoding.format.offset_size() as u64;
-    match offset_at(debug_str_offsets, endian, encoding.format, at) {
-        Ok(offset) => Ok(offset),
-        Err(e) => Err(Error::OffsetAtIndex(e, index)),
+    let size = encoding.format.offset_size();
+    let at = encoding.string_offsets_header_size() + index as usize * size;
+    if debug_str_offsets.len() < at || debug_str_offsets.len() - at < size {
+        return Err(ReadError::UnexpectedEof);
     }
+    let rest = &debug_str_offsets[at..];
+    Ok(match encoding.format {
+        Format::Dwarf32 => endian.read_u32(rest) as u64,
+        Format::Dwarf64 => endian.read_u64(rest),
+    })
 }
 
 /// The string at an offset.
@@ -225,6 +209,7 @@ impl PackageStringTable {
     /// As `remap_repeating`, but that a refusal leaves what was added before it. (What nearly all
     /// ranges have is known to the compiler in a loop of its own.)
     #[inline(never)]
+    #[tactic(auto, unfolding(crate::specs::StringOffsets::remapped))]
     fn remapped_by_form(
         &mut self,
         repeats: &mut Repeats,
@@ -238,8 +223,17 @@ impl PackageStringTable {
         ensures kept { take (length self.old) self.new ≡ self.old }
         ensures known { AreKnown range.now.strings.now self.new repeats.new }
     {
-        let order = range.order;
-        let encoding = range.encoding;
+        let StringOffsets {
+            order,
+            encoding,
+            ..
+        } = *range;
+        if section_size == 0 {
+            return Ok(Vec::new(self.alloc));
+        }
+        if section_size < encoding.string_offsets_header_size() as u64 {
+            return Err(Error::BadStringOffsets(0));
+        }
         let is_whole = section_size <= range.offsets.len() as u64;
         let is_plain = is_whole && !repeats.has_cells();
         match (order, encoding.format) {
@@ -255,7 +249,8 @@ impl PackageStringTable {
     }
 
     /// As `remapped_by_form`, for one form: the order and the encoding, which stand apart from the
-    /// range, so that the compiler knows them where they are constants.
+    /// range, so that the compiler knows them where they are constants. The range isn't shorter
+    /// than its header.
     #[inline(always)]
     #[tactic(auto, unfolding(crate::specs::StringOffsets::remapped))]
     fn remapped(
@@ -266,6 +261,8 @@ impl PackageStringTable {
         order: Endianness,
         encoding: Encoding,
     ) -> Result<Vec<u8>, Error>
+        requires some { section_size ≢ 0 }
+        requires headed { header_size encoding ≤ section_size }
         requires known { AreKnown range.now.strings.now self.old repeats.old }
         ensures meaning { Gives (λ bytes. (bytes.items, self.new)) result
             (remapped order encoding range.now.strings.now range.now.offsets.now section_size
@@ -278,22 +275,13 @@ impl PackageStringTable {
             offsets,
             ..
         } = *range;
-        let alloc = self.alloc;
-        if section_size == 0 {
-            return Ok(Vec::new(alloc));
-        }
-        if section_size < encoding.string_offsets_header_size() as u64 {
-            return Err(Error::BadStringOffsets(0));
-        }
         let entry_size = encoding.format.offset_size() as u64;
         let count = encoding.string_offsets_count(section_size);
-        let limit = offset_limit(encoding.format);
-        let mut out = header(alloc, order, encoding, count * entry_size)?;
+        let mut out = header(self.alloc, order, encoding, count * entry_size)?;
         out.reserve(offsets.len())?;
         for index in 0..count {
             // (nearly every entry is told here, without room for an error)
-            let named = known_entry(offsets, order, encoding, index);
-            let offset = match self.entry_told(repeats, strings, named, limit) {
+            let offset = match self.entry_told(repeats, strings, offsets, order, encoding, index) {
                 Some(offset) => offset,
                 None => {
                     let of_form = StringOffsets {
@@ -312,7 +300,6 @@ impl PackageStringTable {
 
     /// The offset of the string that an entry names, which is added where it is new.
     #[inline(never)]
-    #[tactic(auto, using(crate::proofs::KnownLemmas::entry_read, crate::proofs::KnownLemmas::entry_large, crate::proofs::KnownLemmas::entry_unread))]
     pub(crate) fn remapped_entry(
         &mut self,
         repeats: &mut Repeats,
@@ -329,7 +316,10 @@ impl PackageStringTable {
         ensures kept { take (length self.old) self.new ≡ self.old }
         ensures known { AreKnown range.now.strings.now self.new repeats.new }
     {
-        let named = entry_at(range.offsets, range.order, range.encoding, index)?;
+        let named = match entry_at(range.offsets, range.order, range.encoding, index) {
+            Ok(named) => named,
+            Err(e) => return Err(Error::OffsetAtIndex(e, index)),
+        };
         let offset = self.offset_read(repeats, range.strings, named)?;
         if offset_limit(range.encoding.format) < offset {
             return Err(Error::NumberTooLarge("string offset", offset));
@@ -357,7 +347,7 @@ impl PackageStringTable {
         }
         let string = string_read(debug_str, named)?;
         let offset = self.get_or_insert(string)?.0 as u64;
-        let _remembered = repeats.enter(string, named, offset);
+        let _remembered = repeats.enter(string.len(), named, offset);
         Ok(offset)
     }
 }

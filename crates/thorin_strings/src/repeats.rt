@@ -157,48 +157,38 @@ impl Repeats {
     /// Remembers the offset in the table of the string at an offset, where that string is long or
     /// its cell is free.
     #[inline(always)]
-    pub(crate) fn enter(&mut self, string: &[u8], offset: u64, known: u64) -> Result<(), AllocError>
+    pub(crate) fn enter(&mut self, length: usize, offset: u64, known: u64) -> Result<(), AllocError>
         ensures { (section : List ℕ) (strings : List (List ℕ)) → AreKnown section strings self.old
             → IsKnown section strings (offset, known)
             → AreKnown section strings self.new }
     {
-        if string.len() >= LONG {
-            return self.enter_long(offset, known);
-        }
-        if self.cells.is_empty() {
+        if length < LONG && self.cells.is_empty() {
             return Ok(());
         }
-        self.enter_short(offset, known)
+        self.enter_there(length >= LONG, offset, known)
     }
 
-    /// Remembers a short string, where its cell is free.
+    /// Remembers a long string, or a short one, where its cell is free.
     #[inline(never)]
-    fn enter_short(&mut self, offset: u64, known: u64) -> Result<(), AllocError>
+    fn enter_there(&mut self, is_long: bool, offset: u64, known: u64) -> Result<(), AllocError>
         ensures { (section : List ℕ) (strings : List (List ℕ)) → AreKnown section strings self.old
             → IsKnown section strings (offset, known)
             → AreKnown section strings self.new }
     {
         let number = self.pairs.len() + 1;
-        if lead_cell(&mut self.cells, offset, number) {
-            self.pairs.push((offset, known))?;
+        if !is_long {
+            if lead_cell(&mut self.cells, offset, number) {
+                self.pairs.push((offset, known))?;
+            }
+            return Ok(());
         }
-        Ok(())
-    }
-
-    /// Remembers a long string.
-    #[inline(never)]
-    fn enter_long(&mut self, offset: u64, known: u64) -> Result<(), AllocError>
-        ensures { (section : List ℕ) (strings : List (List ℕ)) → AreKnown section strings self.old
-            → IsKnown section strings (offset, known)
-            → AreKnown section strings self.new }
-    {
         plant(self.alloc, &mut self.links)?;
         let Err(at) = walk(&self.links, &self.pairs, offset) else {
             return Ok(());
         };
         self.links.reserve(2)?;
         self.pairs.push((offset, known))?;
-        lead(&mut self.links, at, self.pairs.len());
+        lead(&mut self.links, at, number);
         Ok(())
     }
 

@@ -1,14 +1,16 @@
-//! String offsets of four bytes, the lowest first, each rewritten in its place: most are such.
+//! String offsets of four bytes, the lowest first, each rewritten in its place: most are such, and
+//! the strings of nearly all are told by their hashes, one after the other.
 
-ghost use Rattle.std.specs.Prelude.{◌≡◌, ◌≤◌, ◌<◌, ◌+◌, ◌^◌, ◌++◌, ◌*◌, Ok, OnOk, IfOk, length};
-ghost use Rattle.std.specs.Prelude.{take};
+ghost use Rattle.std.specs.Prelude.{◌≡◌, ◌≢◌, ◌≤◌, ◌<◌, ◌+◌, ◌^◌, ◌++◌, ◌*◌, ℕ, List, Ok, OnOk, IfOk};
+ghost use Rattle.std.specs.Prelude.{IfSome, IsNone, length, take};
 ghost use Rattle.dwp_base.specs.declared.endian.Endianness.TheVariants.{Little};
 ghost use Rattle.dwp_base.specs.Numbers.{number_bytes};
 ghost use Rattle.dwp_bytes.specs.declared.encoding.Format.TheVariants.{Dwarf32};
 ghost use Rattle.thorin_errors.specs.Answers.{Gives};
 ghost use Rattle.dwp_bytes.specs.StringOffsets.{header_size};
 ghost use Rattle.thorin_strings.specs.StringOffsets.{entry_at, remapped_entry, remapped};
-ghost use Rattle.thorin_strings.specs.Known.{AreKnown};
+ghost use Rattle.thorin_strings.specs.Known.{AreKnown, offset_read};
+ghost use Rattle.thorin_strings.specs.Written.{AreWritten};
 
 use crate::offsets::{dwarf32, header};
 use crate::repeats::Repeats;
@@ -20,7 +22,7 @@ use thorin_errors::Error;
 
 /// The offset that the entry of a number has.
 #[inline(always)]
-pub(crate) fn word_at(debug_str_offsets: &[u8], encoding: Encoding, index: usize) -> u64
+fn word_at(debug_str_offsets: &[u8], encoding: Encoding, index: usize) -> u64
     requires form { encoding.format ≡ Dwarf32 }
     requires within { header_size encoding + index * 4 + 4 ≤ length debug_str_offsets.now }
     ensures { entry_at Little encoding debug_str_offsets.now index ≡ Ok result }
@@ -31,7 +33,7 @@ pub(crate) fn word_at(debug_str_offsets: &[u8], encoding: Encoding, index: usize
 
 /// Writes an offset of four bytes, the lowest first.
 #[inline(always)]
-pub(crate) fn write_word(out: &mut [u8], at: usize, offset: u64)
+fn write_word(out: &mut [u8], at: usize, offset: u64)
     requires within { at + 4 ≤ length out.old }
     requires fits { offset < 2 ^ 32 }
     ensures long { length out.new ≡ length out.old }
@@ -79,7 +81,88 @@ fn next_try(again: usize, from: usize, to: usize) -> usize {
     }
 }
 
+/// How many bytes a string has at most, with the zero at its end, whose end is guessed: longer ones
+/// are looked for among those that are remembered.
+const SHORT: u64 = 512;
+
 impl PackageStringTable {
+    /// The offset of the string at an offset of its section, which is short and ends before the
+    /// next one. None where it isn't that, where fewer bytes are left than a short string may have,
+    /// which `last` tells, where its hash doesn't tell its place or four bytes don't hold it, and
+    /// for want of memory; nothing changed then.
+    #[inline(always)]
+    fn guessed_offset(&mut self, debug_str: &[u8], last: u64, named: u64, after: u64) -> Option<u64>
+        requires { last + 512 ≤ length debug_str.now }
+        ensures meaning { IfSome result (λ offset.
+            offset_read debug_str.now named self.old ≡ Ok (offset, self.new)) }
+        ensures fits { IfSome result (λ offset. offset < 2 ^ 32) }
+        ensures kept { take (length self.old) self.new ≡ self.old }
+        ensures none { IsNone result → self.new ≡ self.old }
+    {
+        let end = after.wrapping_sub(named).wrapping_sub(1);
+        if end >= SHORT || named > last {
+            return None;
+        }
+        let rest = &debug_str[named as usize..];
+        let end = end as usize;
+        if rest[end] != 0 {
+            return None;
+        }
+        let offset = self.place_guessed(rest, end)?;
+        Some(offset as u64)
+    }
+
+    /// Rewrites the entries of a range, of four bytes each, from a number on, as far as each is
+    /// told so and isn't the last, in the room that they have behind its header; the number of the
+    /// next. `after` is where the next string begins, if the offsets are in order, as those that
+    /// compilers make are. Where `from` is less than `tried_from` none is rewritten.
+    #[inline(never)]
+    fn write_told(
+        &mut self,
+        range: &StringOffsets<'_>,
+        out: &mut [u8],
+        from: usize,
+        tried_from: usize,
+    ) -> usize
+        requires form { range.now.encoding.format ≡ Dwarf32 }
+        requires here { header_size range.now.encoding + from * 4 + 4 ≤ length out.old }
+        requires within { length out.old ≤ length range.now.offsets.now }
+        ensures further { from ≤ result }
+        ensures here { header_size range.now.encoding + result * 4 + 4 ≤ length out.old }
+        ensures long { length out.new ≡ length out.old }
+        ensures told { (old : List (List ℕ)) (front : List ℕ)
+            → AreWritten range.now.encoding range.now.strings.now range.now.offsets.now from front
+            old self.old out.old
+            → AreWritten range.now.encoding range.now.strings.now range.now.offsets.now result front
+            old self.new out.new }
+        ensures kept { take (length self.old) self.new ≡ self.old }
+    {
+        let StringOffsets {
+            strings,
+            offsets,
+            encoding,
+            ..
+        } = *range;
+        let first = encoding.string_offsets_header_size();
+        let last = (out.len() - first) / 4 - 1;
+        if from < tried_from || (strings.len() as u64) < SHORT {
+            return from;
+        }
+        let last_named = strings.len() as u64 - SHORT;
+        let mut index = from;
+        let mut named = word_at(offsets, encoding, from);
+        while index < last {
+            let after = word_at(offsets, encoding, index + 1);
+            let Some(offset) = self.guessed_offset(strings, last_named, named, after) else {
+                return index;
+            };
+            write_word(out, first + index * 4, offset);
+            named = after;
+            index += 1;
+        }
+        index
+    }
+
     /// The offset of the string that an entry names by this offset of its section, which is added
     /// where it is new.
     #[inline(always)]
@@ -109,7 +192,8 @@ impl PackageStringTable {
         }
     }
 
-    /// `remapped` of a range that is whole, with offsets of four bytes, the lowest first.
+    /// `remapped` of a range that is whole, with offsets of four bytes, the lowest first, which
+    /// isn't shorter than its header.
     #[inline(always)]
     #[tactic(auto, unfolding(crate::specs::StringOffsets::remapped))]
     pub(crate) fn remapped_words(
@@ -121,6 +205,8 @@ impl PackageStringTable {
         requires little { range.now.order ≡ Little }
         requires form { range.now.encoding.format ≡ Dwarf32 }
         requires whole { section_size ≤ length range.now.offsets.now }
+        requires some { section_size ≢ 0 }
+        requires headed { header_size range.now.encoding ≤ section_size }
         requires known { AreKnown range.now.strings.now self.old repeats.old }
         ensures meaning { Gives (λ bytes. (bytes.items, self.new)) result
             (remapped Little range.now.encoding range.now.strings.now range.now.offsets.now
@@ -131,15 +217,8 @@ impl PackageStringTable {
         // (copies, of which the compiler knows that no call changes them)
         let offsets = range.offsets;
         let encoding = dwarf32(range.encoding);
-        let alloc = self.alloc;
-        if section_size == 0 {
-            return Ok(Vec::new(alloc));
-        }
-        if section_size < encoding.string_offsets_header_size() as u64 {
-            return Err(Error::BadStringOffsets(0));
-        }
         let count = encoding.string_offsets_count(section_size) as usize;
-        let mut out = header(alloc, Endianness::Little, encoding, count as u64 * 4)?;
+        let mut out = header(self.alloc, Endianness::Little, encoding, count as u64 * 4)?;
         let first = out.len();
         // (room for each entry: the old ones)
         append_by_pieces(&mut out, &offsets[first..first + count * 4])?;

@@ -3,7 +3,7 @@ use Rattle.std.proofs.Common.{◌≡◌, [], Ok, sym, take, length, arith, appen
 use Rattle.std.proofs.lemmas.Result.{err_from_is_err_and}
 use Rattle.thorin_strings.specs.StringOffsets.{remapped_entry, remapped_entries}
 use Rattle.thorin_strings.specs.Known.{AreKnown}
-use Rattle.thorin_strings.proofs.KnownLemmas.{entry_told, remapped_refuses, rewritten_more}
+use Rattle.thorin_strings.proofs.KnownLemmas.{remapped_refuses, rewritten_more}
 use Rattle.thorin_strings.proofs.RemapLemmas.{kept_more}
 use Rattle.thorin_strings.proofs.table.PackageStringTable.remapped.Goals as goal
 use Rattle.std.proofs.Common.{rules}
@@ -31,13 +31,10 @@ loop-index-preserved c =
     let old = c.loop-index.self in
     let new = c.match-entry_told.self in
     let strings = c.args.range.now.strings.now in
-    let told = entry_told c.args.order c.args.encoding strings c.args.range.now.offsets.now
-    c.loop-index.index c.match-entry_told.offset old new c.known_entry-named.result
-    c.known_entry-named.ensures in
     let now : (remapped_entry c.args.order c.args.encoding strings c.args.range.now.offsets.now
     c.loop-index.index old ≡ Ok (c.match-entry_told.offset, new))
     × (take (length old) new ≡ old) × AreKnown strings new c.match-entry_told.repeats = (
-      grind (arith, told, c.match-entry_told.branch, c.offset_limit-limit.ensures),
+      grind (arith, c.match-entry_told.branch),
       grind (arith, c.match-entry_told.branch, c.entry_told.ensures.kept),
       grind (arith, c.match-entry_told.branch, c.entry_told.ensures.known),
     ) in
@@ -51,13 +48,6 @@ loop-index-preserved c =
 pub push_offset-requires : goal.push_offset-requires
 unfolding remapped
 push_offset-requires c = search rules
-
-pub returns-then-section_size-eq0-clause-kept : goal.returns-then-section_size-eq0-clause-kept
-returns-then-section_size-eq0-clause-kept c = grind (arith, elements)
-
-pub returns-then-section_size-string_offsets_header_size-clause-kept :
-    goal.returns-then-section_size-string_offsets_header_size-clause-kept
-returns-then-section_size-string_offsets_header_size-clause-kept c = grind (arith, elements)
 
 pub returns-in_err-out-clause-kept : goal.returns-in_err-out-clause-kept
 returns-in_err-out-clause-kept c = grind (arith, elements)

@@ -2,30 +2,35 @@ use Rattle.std.proofs.lemmas.Grind.{elements}
 use Rattle.std.proofs.Common.{arith}
 use Rattle.std.proofs.lemmas.Result.{err_from_is_err_and}
 use Rattle.thorin_strings.specs.StringOffsets.{named_at, remapped_entry}
-use Rattle.thorin_strings.proofs.KnownLemmas.{entry_unread}
 use Rattle.thorin_strings.proofs.table.PackageStringTable.remapped_entry.Goals as goal
-use Rattle.thorin_strings.proofs.KnownLemmas.{entry_large, entry_read}
+use Rattle.thorin_strings.proofs.KnownLemmas.{entry_large, entry_read, entry_unread, entry_was}
 
-pub returns-in_err-named-clause-meaning : goal.returns-in_err-named-clause-meaning
+pub returns-in-Err-clause-meaning : goal.returns-in-Err-clause-meaning
 unfolding named_at remapped_entry
-returns-in_err-named-clause-meaning c =
-    let was = err_from_is_err_and c.from_residual.result c.from_residual.ensures.1 in
-    grind (arith, was, c.in_err-named.ensures)
+returns-in-Err-clause-meaning c = grind (arith, c.in-Err.ensures)
 
 pub returns-in_err-offset-clause-meaning : goal.returns-in_err-offset-clause-meaning
 returns-in_err-offset-clause-meaning c =
-    let residual = c.from_residual-in_err-offset in
-    let was = err_from_is_err_and residual.result residual.ensures.1 in
-    rw (was.1, was.2) (λ other. entry_unread c.args.range.now.order c.args.range.now.encoding
-    _ _ _ _ _ _ c.in_ok-named.ensures (c.in_err-offset.ensures.meaning other))
+    let was = err_from_is_err_and c.from_residual.result c.from_residual.ensures.1 in
+    let range = c.args.range.now in
+    rw (was.1, was.2) (λ other. entry_unread range.order range.encoding _ _ _ _ _ _
+    (entry_was range.order range.encoding _ _ _ c.in-Ok.ensures)
+    (c.in_err-offset.ensures.meaning other))
 
 pub returns-clause-meaning : goal.returns-clause-meaning
-returns-clause-meaning c = grind (arith, entry_read, entry_large, entry_unread)
+returns-clause-meaning c =
+    let range = c.args.range.now in
+    let entry = entry_was range.order range.encoding range.offsets.now c.args.index c.in-Ok.named
+    c.in-Ok.ensures in
+    grind (arith, entry, entry_read)
 
 pub returns-then-offset_limit-offset-clause-meaning :
     goal.returns-then-offset_limit-offset-clause-meaning
 returns-then-offset_limit-offset-clause-meaning c =
-    grind (arith, entry_read, entry_large, entry_unread)
+    let range = c.args.range.now in
+    let entry = entry_was range.order range.encoding range.offsets.now c.args.index c.in-Ok.named
+    c.in-Ok.ensures in
+    grind (arith, entry, entry_large)
 
-pub returns-in_err-named-clause-kept : goal.returns-in_err-named-clause-kept
-returns-in_err-named-clause-kept c = grind (arith, elements)
+pub returns-in-Err-clause-kept : goal.returns-in-Err-clause-kept
+returns-in-Err-clause-kept c = grind (arith, elements)

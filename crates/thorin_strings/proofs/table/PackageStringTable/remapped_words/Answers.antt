@@ -93,13 +93,6 @@ loop-index-preserved c =
       known = c.other_word.ensures.known;
     })
 
-pub returns-then-section_size-eq0-clause-kept : goal.returns-then-section_size-eq0-clause-kept
-returns-then-section_size-eq0-clause-kept c = grind (arith, elements)
-
-pub returns-then-section_size-string_offsets_header_size-clause-kept :
-    goal.returns-then-section_size-string_offsets_header_size-clause-kept
-returns-then-section_size-string_offsets_header_size-clause-kept c = grind (arith, elements)
-
 pub returns-in_err-out-clause-kept : goal.returns-in_err-out-clause-kept
 returns-in_err-out-clause-kept c = grind (arith, elements)
 

@@ -1,7 +1,7 @@
 use Rattle.std.proofs.Common.{arith}
 use Rattle.std.proofs.lemmas.Grind.{elements}
 use Rattle.thorin_strings.specs.StringOffsets.{offset_at}
-use Rattle.thorin_strings.proofs.offsets.offset_at.Goals as goal
+use Rattle.thorin_strings.proofs.offsets.entry_at.Goals as goal
 
 pub returns-in-Dwarf32 : goal.returns-in-Dwarf32
 unfolding offset_at

@@ -1,0 +1,33 @@
+use Rattle.std.proofs.lemmas.Grind.{elements}
+use Rattle.std.proofs.Common.{◌-◌, arith, drop, length, refl, take}
+use Rattle.dwp_strings.proofs.OffsetLemmas.{offset_within}
+use Rattle.thorin_strings.proofs.KnownLemmas.{ended_read, read_used}
+use Rattle.thorin_strings.proofs.table.PackageStringTable.placed.Goals.{then-is_near+in_ok-end, else-is_near+in_ok-end-2}
+use Rattle.thorin_strings.proofs.table.PackageStringTable.placed.Goals as goal
+
+pub place-requires : goal.place-requires
+place-requires c =
+    let section = c.args.debug_str.now in
+    let rest = take (length section - c.args.named) (drop c.args.named section) in
+    (ended_read section rest c.args.named c.if-is_near.end (omega arith) refl
+    (elim c.if-is_near.branch [
+      | then-is_near+in_ok-end w ↦ rw w.end-is w.in_ok-end.ensures.some
+      | else-is_near+in_ok-end-2 w ↦ rw w.end-is w.in_ok-end-2.ensures.some
+    ])).1
+
+pub returns-clause-meaning : goal.returns-clause-meaning
+returns-clause-meaning c =
+    let section = c.args.debug_str.now in
+    let rest = take (length section - c.args.named) (drop c.args.named section) in
+    let read = ended_read section rest c.args.named c.if-is_near.end (omega arith) refl
+    (elim c.if-is_near.branch [
+      | then-is_near+in_ok-end w ↦ rw w.end-is w.in_ok-end.ensures.some
+      | else-is_near+in_ok-end-2 w ↦ rw w.end-is w.in_ok-end-2.ensures.some
+    ]) in
+    read_used _ _ _ _ _ _ read.0 c.in-Ok.ensures.placed
+
+pub returns-clause-fits : goal.returns-clause-fits
+returns-clause-fits c = grind (arith, offset_within, c.in-Ok.ensures.placed)
+
+pub returns-then-limit-data-clause-kept : goal.returns-then-limit-data-clause-kept
+returns-then-limit-data-clause-kept c = grind (arith, elements)
