@@ -4,10 +4,12 @@ use Rattle.dwp_strings.proofs.Terms
 use Terms.{[], add-one, All-cons, All-permutation, ap, append_assoc, arith, Bool, concat}
 use Terms.{concat-append, drop, filter, get_or, get_or-map, get_or_default, insert, IsChunked}
 use Terms.{IsPermutation-insert, IsPieceOf, length, length-append, List, map, refl, set, split_at}
-use Terms.{suc, sym, take, zero, ℕ, ◌++◌, ◌+◌, ◌-◌, ◌/◌, ◌<◌, ◌∙◌, ◌∷◌, ◌≡◌, ◌≤◌, ◌⊎◌}
+use Terms.{suc, sym, take, zero, ℕ, ◌++◌, ◌+◌, ◌-◌, ◌/◌, ◌<◌, ◌∙◌, ◌∷◌, ◌≡◌, ◌≤◌, ◌⊎◌, ap₂, pieces}
+use Terms.{take_rest, Vec}
 use Rattle.std.proofs.lemmas.List.{append-nil, get_or_append_left, get_or-append_right, set_split}
 use Rattle.std.proofs.lemmas.List.{ext_get_or, map_more, take_more_set, take_all, take_more}
 use Rattle.std.proofs.lemmas.List.{take-append-drop, drop_all, length-take, length-drop, length-set}
+use Rattle.std.proofs.lemmas.List.{map-append, map-set, take-map, drop-map, set-get_or, length-map}
 use Rattle.std.proofs.lemmas.List.Edits.{map_over_more, insert-append_left, insert-append_right}
 use Rattle.std.proofs.lemmas.List.Edits.{length-insert, get_or-insert_below, get_or-insert_at}
 use Rattle.std.proofs.lemmas.List.Edits.{get_or-insert_above}
@@ -255,3 +257,50 @@ module _ (ps qs : List (List ℕ)) (at : ℕ) (within : at < length ps)
         first = λ less. grind (arith, halves_begun, get_or-insert_below, length-starts_from);
         second = λ more. grind (arith, halves_begun, get_or-insert_above, length-starts_from);
       }
+
+pub length-pieces : {A B : Type 0} (chunks : Vec (Vec ℕ A) B) → length (pieces chunks.items) ≡
+    chunks.len
+length-pieces {A} chunks =
+    omega (arith, length-map chunks.items (λ (chunk : Vec ℕ A). chunk.items), chunks.ok.0)
+
+-- how many chunks and starts there are
+pub ruleset counts = (length-starts_from, length-pieces)
+
+module _ {A : Type 0} (chunks : List (Vec ℕ A)) (at : ℕ) (chunk : Vec ℕ A) where
+  pub pieces-set : pieces (set chunks at chunk) ≡ set (pieces chunks) at chunk.items
+  pieces-set = map-set (λ (chunk : Vec ℕ A). chunk.items) chunks at chunk
+
+  pub pieces-insert : pieces (insert chunks at chunk) ≡ insert (pieces chunks) at chunk.items
+  pieces-insert =
+      let f : Vec ℕ A → List ℕ = λ chunk. chunk.items in
+      map-append f (take at chunks) (chunk ∷ drop at chunks) ∙ ap₂ (λ l r. l ++ (chunk.items ∷ r))
+      (sym (take-map f at chunks)) (sym (drop-map f at chunks))
+
+-- a vector that was read, and then changed in its place
+module _ {A : Type 0} (chunks : List (Vec ℕ A)) (at : ℕ) (chunk : Vec ℕ A)
+    (within : at < length chunks) (read : chunk ≡ get_or chunks at chunk) where
+  pub piece_read : get_or (pieces chunks) at [] ≡ chunk.items
+  piece_read = get_or-map (λ (chunk : Vec ℕ A). chunk.items) chunks at chunk [] within ∙ ap
+      (λ (chunk : Vec ℕ A). chunk.items) (sym read)
+
+  pub piece_changed : (new : Vec ℕ A) (f : List ℕ → List ℕ) → new.items ≡ f chunk.items
+      → pieces (set chunks at new) ≡ set (pieces chunks) at (f (get_or (pieces chunks) at []))
+  piece_changed new f change = pieces-set chunks at new ∙ ap (set (pieces chunks) at)
+      (change ∙ ap f (sym piece_read))
+
+  pub piece_unchanged : (new : Vec ℕ A) → new.items ≡ chunk.items
+      → pieces (set chunks at new) ≡ pieces chunks
+  piece_unchanged new same = piece_changed new (λ l. l) same ∙ set-get_or (pieces chunks) at []
+
+  -- or cut in two
+  pub piece_halved : (all : List (Vec ℕ A)) (len : ℕ) (front back : Vec ℕ A)
+      → len ≡ length chunk.items → front.items ≡ take (len / 2) chunk.items
+      → back.items ≡ take (length chunk.items - len / 2) (drop (len / 2) chunk.items)
+      → all ≡ insert (set chunks at front) (at + 1) back → IsHalved (pieces chunks) (pieces all) at
+  piece_halved all len front back long is_front is_back is_all =
+      let whole = ap pieces is_all in
+      let inserted = pieces-insert (set chunks at front) (at + 1) back in
+      let changed = pieces-set chunks at front in
+      let upper = take_rest chunk.items (len / 2) in
+      let next = add-one at in
+      rw piece_read (cc)

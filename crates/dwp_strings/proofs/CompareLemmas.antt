@@ -1,15 +1,18 @@
 -- Comparing the string at a place with another one, without looking for its end: by as many bytes
--- as the other has, and whether a zero follows them. Halving a sorted list of positions.
+-- as the other has, and whether a zero follows them. Halving a sorted list of positions. The string
+-- at the front of some bytes, up to the first zero.
 use Rattle.dwp_strings.proofs.Terms
 use Terms.{[], All-head, All-tail, AllPairs, arith, before_first, cases_lt, cond, drop, eqb, Equal}
 use Terms.{exact_bytes, get_or, Greater, IsBefore, IsZeroFree, length, Less, List, nat_cmp_is}
 use Terms.{nat_list_cmp_total, nat_tests, not, Ordering, string_from, sym, take, take_rest}
-use Terms.{tied_itself, ℕ, ◌+◌, ◌-◌, ◌/◌, ◌<◌, ◌^◌, ◌↔◌, ◌∷◌, ◌≡◌, ◌≢◌, ◌≤◌}
+use Terms.{tied_itself, ℕ, ◌+◌, ◌-◌, ◌/◌, ◌<◌, ◌^◌, ◌↔◌, ◌∷◌, ◌≡◌, ◌≢◌, ◌≤◌, add-one}
+use Terms.{get_or_default, IsFirstZero, position_or_len_is, suc, take-suc, terminated, zero}
 use Rattle.std.specs.Ordering.{nat_cmp, ordering_then}
 use Rattle.std.specs.Cmp.Lexicographic.{slice_cmp}
 use Rattle.std.proofs.lemmas.List.{take_all, get_or_past}
 use Rattle.std.proofs.lemmas.List.Sums.{take_while-cons}
 use Rattle.std.proofs.Math.Nat.{pow-suc}
+use Rattle.std.proofs.Common.{get_or-take, length-take}
 
 -- the string at the front of some bytes
 abbrev pub front_string : List ℕ → List ℕ
@@ -93,3 +96,31 @@ module _ (bytes positions s : List ℕ) (m : ℕ) (sorted : AllPairs (λ p q.
       let before = nat_list_cmp_total.antisymm s middle in
       let next = nat_list_cmp_total.trans s middle (string_from bytes (get_or positions k 0)) in
       grind (arith, sorted m k 0, before, next)
+
+-- no byte of it is zero
+pub ended_free : (rest : List ℕ) (end : ℕ) → IsFirstZero rest end → IsZeroFree (take end rest)
+ended_free rest end is_zero = λ k d below same.
+    grind (arith, length-take, is_zero.before k, get_or_default rest k 0 d, get_or-take)
+
+-- bytes that are the same as far as a zero begin with the same string
+pub alike_front : (xs ys : List ℕ) (end : ℕ) → end < length xs → end < length ys
+    → get_or xs end 0 ≡ 0 → get_or ys end 0 ≡ 0 → take end xs ≡ take end ys
+    → front_string xs ≡ front_string ys
+alike_front (x ∷ xs) (y ∷ ys) zero within within' is_zero is_zero' same =
+    grind (arith, front_string-cons)
+alike_front (x ∷ xs) (y ∷ ys) (suc end) within within' is_zero is_zero' same =
+    grind (arith, front_string-cons, alike_front xs ys end)
+alike_front [] ys end within within' is_zero is_zero' same = absurd (omega arith)
+alike_front (x ∷ xs) [] end within within' is_zero is_zero' same = absurd (omega arith)
+
+-- the first zero ends it
+pub ended_front : (rest : List ℕ) (end : ℕ) → IsFirstZero rest end → front_string rest ≡ take end
+    rest
+ended_front rest end is_zero =
+    let first = position_or_len_is (λ b. eqb b 0) rest end 0 in
+    grind (arith, nat_tests, first, is_zero)
+
+-- a string and the zero behind it
+pub ended_take : (rest : List ℕ) (end : ℕ) → IsFirstZero rest end → take (end + 1) rest ≡
+    terminated (take end rest)
+ended_take rest end is_zero = grind (arith, add-one, take-suc rest end 0, is_zero)

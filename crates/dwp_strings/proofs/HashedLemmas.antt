@@ -14,13 +14,11 @@ use Rattle.std.proofs.lemmas.List.Sorted.{Contains-permutation, IsPermutation-fi
 use Rattle.std.proofs.lemmas.Grind.{common_steps}
 use Rattle.dwp_strings.specs.Places.{hash, shared, IsFound, AreRelated, AreFound}
 use Rattle.dwp_strings.specs.declared.entries.Entries.{Entries}
-use Rattle.dwp_strings.proofs.StringLemmas.{zero_free-strings_in}
-use Rattle.dwp_strings.proofs.OffsetLemmas.{has_Decides, offset_of-at, offsets_from-append}
-use Rattle.dwp_strings.proofs.OffsetLemmas.{offsets_from-below, offsets_from-take}
-use Rattle.dwp_strings.proofs.OffsetLemmas.{length-offsets_from}
+use Rattle.dwp_strings.proofs.OffsetLemmas.{zero_free-strings_in, has_Decides, offset_of-at}
+use Rattle.dwp_strings.proofs.OffsetLemmas.{offsets_from-append, offsets_from-below}
+use Rattle.dwp_strings.proofs.OffsetLemmas.{offsets_from-take, length-offsets_from}
 use Rattle.dwp_strings.proofs.TableLemmas.{strings_push, strings_few, positions_few, stands_apart}
-use Rattle.dwp_strings.proofs.TableLemmas.{indexed_more, indexed_take}
-use Rattle.dwp_strings.proofs.UsedLemmas.{used_new}
+use Rattle.dwp_strings.proofs.TableLemmas.{indexed_more, indexed_take, used_new}
 use Rattle.dwp_strings.proofs.Named.{begins_there}
 
 -- the place that a hash has among those of entries

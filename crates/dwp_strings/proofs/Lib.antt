@@ -1,16 +1,11 @@
 pub mod Terms
 pub mod CompareLemmas
 pub mod CopyLemmas
-pub mod StringLemmas
 pub mod OffsetLemmas
 pub mod TableLemmas
-pub mod PlaceLemmas
 pub mod ChunkLemmas
-pub mod PieceLemmas
 pub mod Named
-pub mod UsedLemmas
 pub mod PlacesLemmas
 pub mod HashedLemmas
 pub mod LaneLemmas
-pub mod EndLemmas
 pub mod HashLemmas

@@ -9,8 +9,8 @@ use Terms.{string_from, take, terminated, true, with_string, ℕ, ◌++◌, ◌+
 use Rattle.std.proofs.lemmas.List.Elements.{All-push, Contains-append_left, Contains-push}
 use Rattle.std.proofs.lemmas.List.Sums.{fails_before_first}
 use Rattle.dwp_bytes.specs.StringOffsets.{string_at}
-use Rattle.dwp_strings.proofs.StringLemmas.{data_of-cons, before_first-ended}
-use Rattle.dwp_strings.proofs.OffsetLemmas.{has_Decides, distinct_push}
+use Rattle.dwp_strings.proofs.OffsetLemmas.{data_of-cons, before_first-ended, has_Decides}
+use Rattle.dwp_strings.proofs.OffsetLemmas.{distinct_push}
 
 -- a string is among those of a list
 abbrev pub has : List (List ℕ) → List ℕ → Bool

@@ -1,12 +1,13 @@
--- Some positions of a table's strings, in the strings' order.
-use Rattle.std.proofs.Common.{take_at, append-nil, take-append-drop, length-take, get_or-take}
+-- Some positions of a table's strings, in the strings' order; places at which strings begin, and strings
+-- that are used.
 use Rattle.dwp_strings.proofs.Terms
 use Terms.{[], All, All-cons, All-contains, All-permutation, AllPairs, ap, arith, Contains, data_of}
 use Terms.{Decides-eqb, drop, filter, get_or, get_or-map, get_or_default, insert, IsBefore}
 use Terms.{IsIndexed, IsPermutation-insert, IsZeroFree, length, length-append, List, ltb, ltb-true}
 use Terms.{nat_eq_equiv, nat_list_cmp_total, offset_of, offsets_from, refl, StandsAt, string_from}
 use Terms.{strings_in, sym, take, terminated, tied_itself, ℕ, ⊎_elim, ◌++◌, ◌+◌, ◌-◌, ◌<◌, ◌∙◌, ◌∷◌}
-use Terms.{◌≡◌, ◌≢◌, ◌≤◌}
+use Terms.{◌≡◌, ◌≢◌, ◌≤◌, BeginsAt, by-bool, eqb, suc, zero, cond-true, IsPlaced}
+use Rattle.std.proofs.Common.{take_at, append-nil, take-append-drop, length-take, get_or-take}
 use Rattle.std.proofs.lemmas.List.Edits.{length-insert, get_or-insert_below, get_or-insert_at}
 use Rattle.std.proofs.lemmas.List.Edits.{get_or-insert_above}
 use Rattle.std.proofs.lemmas.List.{flat_map_more, nil_from_length}
@@ -17,11 +18,11 @@ use Rattle.std.proofs.lemmas.List.Kept.{AllPairs-filter}
 use Rattle.std.proofs.lemmas.Map.Made.{length-le_from_is_member, IsDistinct-from_AllPairs}
 use Rattle.std.proofs.lemmas.Map.Made.{is_member-Decides}
 use Rattle.std.proofs.lemmas.List.Concat.{flat_map-append}
-use Rattle.dwp_strings.proofs.StringLemmas.{strings_in-data_of, zero_free-strings_in}
-use Rattle.dwp_strings.proofs.StringLemmas.{string_from-ended}
-use Rattle.dwp_strings.proofs.OffsetLemmas.{map-string_from, length-offsets_from, offset_of-at}
-use Rattle.dwp_strings.proofs.OffsetLemmas.{length-data_of-cons, offsets_from-append}
+use Rattle.dwp_strings.proofs.OffsetLemmas.{strings_in-data_of, zero_free-strings_in}
+use Rattle.dwp_strings.proofs.OffsetLemmas.{string_from-ended, map-string_from, length-offsets_from}
+use Rattle.dwp_strings.proofs.OffsetLemmas.{offset_of-at, length-data_of-cons, offsets_from-append}
 use Rattle.dwp_strings.proofs.OffsetLemmas.{offsets_from-below, distinct_push, offsets_from-above}
+use Rattle.dwp_strings.proofs.OffsetLemmas.{offset_of-absent, has_Decides}
 
 -- a string that begins at an offset is the section's, whatever comes behind
 string_there : (bytes rest : List ℕ) (p : ℕ) → data_of (strings_in bytes) ≡ bytes
@@ -225,3 +226,51 @@ nothing_after bytes strings n m ended is_strings is_mark long =
     let none : length back ≡ 0 =
     grind (arith, strings_few back, parts, whole, ended, length-append) in
     grind (arith, parts, nil_from_length back none, append-nil)
+
+offset_from : (n : ℕ) (bytes : List ℕ) (at : ℕ) → BeginsAt bytes at
+    → Contains (offsets_from n (strings_in bytes)) (n + at)
+offset_from n [] at begins = absurd (omega (arith, begins.within))
+offset_from n (b ∷ bytes) zero begins = (0, grind arith, grind arith)
+offset_from n (b ∷ bytes) (suc m) begins =
+    let zero_behind : get_or (b ∷ bytes) m 0 ≡ 0 = grind (arith, begins.behind) in
+    let rest : BeginsAt bytes m = record {
+      within = omega (arith, begins.within);
+      behind = λ more. grind arith;
+    } in
+    let there = offset_from (n + 1) bytes m rest in
+    by-bool _ (eqb b 0) (λ zero. (suc there.0, grind arith, grind arith))
+    (λ other. (there.0, grind arith, grind arith))
+
+-- it is the offset of a string
+pub offset_there : (bytes : List ℕ) (at : ℕ) → BeginsAt bytes at
+    → Contains (offsets_from 0 (strings_in bytes)) at
+offset_there bytes at begins = grind (arith, offset_from 0 bytes at begins)
+
+-- of the string that begins there
+pub known_place_in : (bytes s : List ℕ) (at : ℕ) → data_of (strings_in bytes) ≡ bytes
+    → AllPairs (λ s t. s ≢ t) (strings_in bytes) → BeginsAt bytes at → string_from bytes at ≡ s
+    → Contains (strings_in bytes) s × (at ≡ offset_of (strings_in bytes) s)
+known_place_in bytes s at ended distinct begins is = known_offset_in bytes s at ended distinct
+    (offset_there bytes at begins) is
+
+-- a string that is there
+pub used_found : (ss : List (List ℕ)) (s : List ℕ) (p : ℕ) → Contains ss s → p ≡ offset_of ss s
+    → IsPlaced ss ss s p
+used_found ss s p there is = (is, sym (cond-true _ _ _ ((has_Decides ss s).1 there)))
+
+-- a string that stands where it was looked for
+pub used_there : (bytes positions s : List ℕ) (at : ℕ) → IsIndexed bytes positions
+    → BeginsAt bytes at × (string_from bytes at ≡ s)
+    → IsPlaced (strings_in bytes) (strings_in bytes) s at
+used_there bytes positions s at table here =
+    let known = known_place_in bytes s at table.ended table.distinct here.0 here.1 in
+    used_found (strings_in bytes) s at known.0 known.1
+
+-- a new one, which went last
+pub used_new : (bytes new s : List ℕ) (n : ℕ) → data_of (strings_in bytes) ≡ bytes → IsZeroFree s
+    → new ≡ bytes ++ terminated s → n ≡ length bytes → (Contains (strings_in bytes) s → ⊥)
+    → IsPlaced (strings_in bytes) (strings_in new) s n
+used_new bytes new s n ended free is_new is_long absent =
+    let ss = strings_in bytes in
+    let push = strings_push bytes s ended free in
+    grind (arith, has_Decides ss s, offset_of-absent ss s, push)

@@ -93,42 +93,28 @@ fn copy_lanes<const N: usize>(room: &mut [u8], bytes: &[u8], at: usize) -> Simd<
     lanes
 }
 
-/// Copies the next 64 bytes of two places; whether none of them is zero.
+/// Copies so many bytes of two places; whether none of them is zero.
 #[inline(always)]
-fn copy_many_some(room: &mut [u8], bytes: &[u8], at: usize, other: usize) -> bool
-    requires first { at + 64 ≤ length bytes.now }
-    requires second { other + 64 ≤ length bytes.now }
-    requires first_fits { at + 64 ≤ length room.old }
-    requires second_fits { other + 64 ≤ length room.old }
-    ensures some { IsTrue result → (k : ℕ) → k < 64
+fn copy_both<const N: usize>(room: &mut [u8], bytes: &[u8], at: usize, other: usize) -> bool
+    requires few { N ≤ 64 }
+    requires first { at + N ≤ length bytes.now }
+    requires second { other + N ≤ length bytes.now }
+    requires first_fits { at + N ≤ length room.old }
+    requires second_fits { other + N ≤ length room.old }
+    ensures some { IsTrue result → (k : ℕ) → k < N
         → (slice_index bytes.now (at + k) ≢ 0) × (slice_index bytes.now (other + k) ≢ 0) }
     ensures long { length room.new ≡ length room.old }
     ensures kept { (k : ℕ) → IsCopied bytes.now room.old k → IsCopied bytes.now room.new k }
-    ensures first { (k : ℕ) → at ≤ k → k < at + 64 → IsCopied bytes.now room.new k }
-    ensures second { (k : ℕ) → other ≤ k → k < other + 64 → IsCopied bytes.now room.new k }
+    ensures first { (k : ℕ) → at ≤ k → k < at + N → IsCopied bytes.now room.new k }
+    ensures second { (k : ℕ) → other ≤ k → k < other + N → IsCopied bytes.now room.new k }
 {
-    let first = copy_lanes::<64>(room, bytes, at);
-    let second = copy_lanes::<64>(room, bytes, other);
-    first.simd_min(second).simd_eq(u8x64::splat(0)).to_bitmask() == 0
-}
-
-/// Copies the next 32 bytes of two places; whether none of them is zero.
-#[inline(always)]
-fn copy_some(room: &mut [u8], bytes: &[u8], at: usize, other: usize) -> bool
-    requires first { at + 32 ≤ length bytes.now }
-    requires second { other + 32 ≤ length bytes.now }
-    requires first_fits { at + 32 ≤ length room.old }
-    requires second_fits { other + 32 ≤ length room.old }
-    ensures some { IsTrue result → (k : ℕ) → k < 32
-        → (slice_index bytes.now (at + k) ≢ 0) × (slice_index bytes.now (other + k) ≢ 0) }
-    ensures long { length room.new ≡ length room.old }
-    ensures kept { (k : ℕ) → IsCopied bytes.now room.old k → IsCopied bytes.now room.new k }
-    ensures first { (k : ℕ) → at ≤ k → k < at + 32 → IsCopied bytes.now room.new k }
-    ensures second { (k : ℕ) → other ≤ k → k < other + 32 → IsCopied bytes.now room.new k }
-{
-    let first = copy_lanes::<32>(room, bytes, at);
-    let second = copy_lanes::<32>(room, bytes, other);
-    first.simd_min(second).simd_eq(u8x32::splat(0)).to_bitmask() == 0
+    let first = copy_lanes::<N>(room, bytes, at);
+    let second = copy_lanes::<N>(room, bytes, other);
+    first
+        .simd_min(second)
+        .simd_eq(Simd::<u8, N>::splat(0))
+        .to_bitmask()
+        == 0
 }
 
 /// Copies the first 32 bytes; whether none of so many, fewer than 32, is zero.
@@ -162,27 +148,27 @@ fn copy_ended(room: &mut [u8], bytes: &[u8], end: usize) -> bool
     }
     room[end] = 0;
     if end <= LANES {
-        return copy_some(room, bytes, 0, end - HALF);
+        return copy_both::<32>(room, bytes, 0, end - HALF);
     }
     if end <= BOTH {
-        return copy_many_some(room, bytes, 0, end - LANES);
+        return copy_both::<64>(room, bytes, 0, end - LANES);
     }
-    if !copy_many_some(room, bytes, 0, LANES) {
+    if !copy_both::<64>(room, bytes, 0, LANES) {
         return false;
     }
     // (some are copied again where fewer are left)
     if end <= BOTH + LANES {
-        return copy_some(room, bytes, end - LANES, end - HALF);
+        return copy_both::<32>(room, bytes, end - LANES, end - HALF);
     }
     let last = end - BOTH;
     let mut at = BOTH;
     while at < last {
-        if !copy_many_some(room, bytes, at, at + LANES) {
+        if !copy_both::<64>(room, bytes, at, at + LANES) {
             return false;
         }
         at += BOTH;
     }
-    copy_many_some(room, bytes, last, last + LANES)
+    copy_both::<64>(room, bytes, last, last + LANES)
 }
 
 impl Buffer {

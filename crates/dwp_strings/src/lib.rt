@@ -6,7 +6,6 @@ mod ends;
 mod entries;
 mod hash;
 mod places;
-mod placing;
 mod positions;
 mod search;
 mod table;

@@ -84,7 +84,7 @@ fn raise(starts: &mut [usize], from: usize)
 }
 
 /// Cuts a chunk in two.
-#[tactic(auto, using(crate::proofs::PieceLemmas::counts))]
+#[tactic(auto, using(crate::proofs::ChunkLemmas::counts))]
 fn cut(
     alloc: Global,
     chunks: &mut Vec<Vec<u64>>,
@@ -113,7 +113,7 @@ fn cut(
 }
 
 /// Makes room for a number at a rank, and gives the chunk in which it goes.
-#[tactic(auto, using(crate::proofs::PieceLemmas::counts))]
+#[tactic(auto, using(crate::proofs::ChunkLemmas::counts))]
 fn room_at(
     alloc: Global,
     chunks: &mut Vec<Vec<u64>>,
@@ -155,7 +155,7 @@ fn keep(chunks: &mut Vec<Vec<u64>>, at: usize, limit: u64)
 }
 
 /// Keeps the numbers below a limit, and gives how many they are.
-#[tactic(auto, using(crate::proofs::PieceLemmas::counts))]
+#[tactic(auto, using(crate::proofs::ChunkLemmas::counts))]
 fn keep_all(chunks: &mut Vec<Vec<u64>>, starts: &mut [usize], limit: u64) -> usize
     requires begun { starts.old ≡ starts_from 0 (pieces chunks.old.items) }
     requires small { length (concat (pieces chunks.old.items)) < 2 ^ 64 }
@@ -194,7 +194,7 @@ impl Positions {
     }
 
     /// The number of a rank, and its chunk. The chunk `near` is tried first.
-    #[tactic(auto, using(crate::proofs::PieceLemmas::counts))]
+    #[tactic(auto, using(crate::proofs::ChunkLemmas::counts))]
     pub fn get_near(&self, rank: usize, near: usize) -> (u64, usize)
         requires { rank < length self.now }
         ensures { result.0 ≡ slice_index self.now rank }
@@ -208,7 +208,7 @@ impl Positions {
     ///
     /// # Errors
     /// Want of memory, and then the list is as it was.
-    #[tactic(auto, using(crate::proofs::PieceLemmas::counts))]
+    #[tactic(auto, using(crate::proofs::ChunkLemmas::counts))]
     pub fn insert(&mut self, rank: usize, position: u64) -> Result<(), AllocError>
         requires within { rank ≤ length self.old }
         requires small { length self.old + 1 < 2 ^ 64 }

@@ -40,27 +40,21 @@ pub(crate) fn begins_at(bytes: &[u8], at: usize) -> bool
     at < bytes.len() && (at == 0 || bytes[at - 1] == 0)
 }
 
-/// Whether the string at a place is one without zero bytes, which is told faster than their order.
-#[inline(always)]
-fn is_at(bytes: &[u8], at: usize, string: &[u8]) -> bool
-    requires within { at ≤ length bytes.now }
-    requires zero_free { IsZeroFree string.now }
-    ensures { IsTrue result ↔ (string_from bytes.now at ≡ string.now) }
-{
-    let rest = &bytes[at..];
-    if rest.len() <= string.len() {
-        return compare_at(bytes, at, string).is_eq();
-    }
-    rest[string.len()] == 0 && is_equal(&rest[..string.len()], string)
-}
-
-/// Whether a string begins at a place of a section of ended strings and is this one.
+/// Whether a string begins at a place of a section of ended strings and is this one, which is told
+/// faster than their order.
 #[inline(always)]
 pub(crate) fn stands_at(bytes: &[u8], at: usize, string: &[u8]) -> bool
     requires { IsZeroFree string.now }
     ensures { IsTrue result ↔ (BeginsAt bytes.now at × (string_from bytes.now at ≡ string.now)) }
 {
-    begins_at(bytes, at) && is_at(bytes, at, string)
+    if !begins_at(bytes, at) {
+        return false;
+    }
+    let rest = &bytes[at..];
+    if rest.len() <= string.len() {
+        return compare_at(bytes, at, string).is_eq();
+    }
+    rest[string.len()] == 0 && is_equal(&rest[..string.len()], string)
 }
 
 /// Whether the next 32 bytes of both are the same.
@@ -76,22 +70,6 @@ fn are_same(bytes: &[u8], other: &[u8], at: usize) -> bool
     first.simd_ne(second).to_bitmask() == 0
 }
 
-/// Whether so many first bytes of both are the same, which are fewer than 32.
-#[inline(always)]
-fn few_same(bytes: &[u8], other: &[u8], count: usize) -> bool
-    requires first { count ≤ length bytes.now }
-    requires second { 32 ≤ length other.now }
-    requires few { count < 32 }
-    ensures { IsTrue result → take count bytes.now ≡ take count other.now }
-{
-    if bytes.len() < LANES {
-        return is_equal(&bytes[..count], &other[..count]);
-    }
-    let first = u8x32::from_slice(bytes);
-    let second = u8x32::from_slice(other);
-    first.simd_ne(second).to_bitmask().trailing_zeros() as usize >= count
-}
-
 /// Whether so many first bytes of both are the same.
 #[inline(always)]
 fn begins_same(bytes: &[u8], other: &[u8], count: usize) -> bool
@@ -101,7 +79,12 @@ fn begins_same(bytes: &[u8], other: &[u8], count: usize) -> bool
     ensures { IsTrue result → take count bytes.now ≡ take count other.now }
 {
     if count < LANES {
-        return few_same(bytes, other, count);
+        if bytes.len() < LANES {
+            return is_equal(&bytes[..count], &other[..count]);
+        }
+        let first = u8x32::from_slice(bytes);
+        let second = u8x32::from_slice(other);
+        return first.simd_ne(second).to_bitmask().trailing_zeros() as usize >= count;
     }
     let last = count - LANES;
     let mut at = 0;

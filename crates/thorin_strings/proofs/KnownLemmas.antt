@@ -2,8 +2,7 @@
 -- another.
 use Rattle.std.proofs.Common.{◌≡◌, ℕ, zero, suc, ◌+◌, ◌*◌, ◌<◌, ◌≤◌, List, [], ◌∷◌, ◌++◌, length}
 use Rattle.std.proofs.Common.{take, Ok, Err, refl, arith, add-one, ◌-◌, ◌^◌, codes, Option, drop}
-use Rattle.std.proofs.Common.{None, Some}
-use Rattle.std.proofs.Common.{get_or, eqb, ap, ◌∙◌}
+use Rattle.std.proofs.Common.{None, Some, get_or, eqb, ap, ◌∙◌}
 use Rattle.std.proofs.lemmas.List.{flat_map_more, take_rest}
 use Rattle.std.proofs.lemmas.Bool.{cases_eq, eq-eqb}
 use Rattle.std.proofs.lemmas.List.Folds.{list_any_at}
@@ -24,8 +23,7 @@ use Rattle.thorin_strings.specs.Written.{AreWritten}
 use Rattle.dwp_strings.specs.Strings.{IsPlaced, IsZeroFree}
 use Rattle.thorin_strings.specs.Known.{offset_read, IsKnown, AreKnown}
 use Rattle.dwp_strings.specs.Ends.{IsFirstZero}
-use Rattle.dwp_strings.proofs.CompareLemmas.{front_string}
-use Rattle.dwp_strings.proofs.EndLemmas.{ended_front, ended_free}
+use Rattle.dwp_strings.proofs.CompareLemmas.{front_string, ended_front, ended_free}
 use Rattle.dwp_strings.proofs.Named.{there_later, there_once_used}
 
 -- the string at a place of a section, before any zero

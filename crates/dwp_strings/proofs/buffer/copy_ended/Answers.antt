@@ -20,7 +20,7 @@ returns-then-end-lt-HALF c =
 
 pub returns-then-end-le-LANES-clause-first : goal.returns-then-end-le-LANES-clause-first
 returns-then-end-le-LANES-clause-first c = λ is.
-    let some = c.copy_some.ensures.some is in
+    let some = c.copy_both.ensures.some is in
     record {
       within = c.requires.within;
       ended = c.requires.ended;
@@ -29,7 +29,7 @@ returns-then-end-le-LANES-clause-first c = λ is.
 
 pub returns-then-end-le-LANES-clause-copied : goal.returns-then-end-le-LANES-clause-copied
 returns-then-end-le-LANES-clause-copied c = λ is.
-    let both = c.copy_some.ensures in
+    let both = c.copy_both.ensures in
     fronts_copied _ _ _ c.requires.within
     (omega (arith, both.long, length-set c.args.room.now c.args.end 0))
     (λ k less. grind (arith, both.first k, both.second k))
@@ -38,7 +38,7 @@ returns-then-end-le-LANES-clause-copied c = λ is.
 
 pub returns-then-end-le-BOTH-clause-first : goal.returns-then-end-le-BOTH-clause-first
 returns-then-end-le-BOTH-clause-first c = λ is.
-    let some = c.copy_many_some.ensures.some is in
+    let some = c.copy_both-then-end-le-BOTH.ensures.some is in
     record {
       within = c.requires.within;
       ended = c.requires.ended;
@@ -47,7 +47,7 @@ returns-then-end-le-BOTH-clause-first c = λ is.
 
 pub returns-then-end-le-BOTH-clause-copied : goal.returns-then-end-le-BOTH-clause-copied
 returns-then-end-le-BOTH-clause-copied c = λ is.
-    let both = c.copy_many_some.ensures in
+    let both = c.copy_both-then-end-le-BOTH.ensures in
     fronts_copied _ _ _ c.requires.within
     (omega (arith, both.long, length-set c.args.room.now c.args.end 0))
     (λ k less. grind (arith, both.first k, both.second k))
@@ -56,8 +56,8 @@ returns-then-end-le-BOTH-clause-copied c = λ is.
 
 pub returns-then-end-clause-first : goal.returns-then-end-clause-first
 returns-then-end-clause-first c = λ is.
-    let front = c.if-not-copy_many_some.ensures.some refl in
-    let some = c.copy_some-then-end.ensures.some is in
+    let front = c.if-not-copy_both.ensures.some refl in
+    let some = c.copy_both-then-end.ensures.some is in
     let end = c.args.end in
     record {
       within = c.requires.within;
@@ -73,8 +73,8 @@ returns-then-end-clause-first c = λ is.
 
 pub returns-then-end-clause-copied : goal.returns-then-end-clause-copied
 returns-then-end-clause-copied c = λ is.
-    let one = c.if-not-copy_many_some.ensures in
-    let two = c.copy_some-then-end.ensures in
+    let one = c.if-not-copy_both.ensures in
+    let two = c.copy_both-then-end.ensures in
     fronts_copied _ _ _ c.requires.within
     (omega (arith, two.long, one.long, length-set c.args.room.now c.args.end 0))
     (λ k less. grind (
@@ -92,7 +92,7 @@ returns-then-end-clause-copied c = λ is.
 
 pub loop-at-init : goal.loop-at-init
 loop-at-init c =
-    let one = c.if-not-copy_many_some.ensures in
+    let one = c.if-not-copy_both.ensures in
     record {
       some = λ k less. grind (arith, one.some refl k, one.some refl (k - 64));
       long = refl;
@@ -103,7 +103,7 @@ loop-at-init c =
 
 pub loop-at-preserved : goal.loop-at-preserved
 loop-at-preserved c =
-    let both = c.if-not-copy_many_some-2.ensures in
+    let both = c.if-not-copy_both-2.ensures in
     let was = c.loop-at.invariant in
     let at = c.loop-at.at in
     record {
@@ -124,7 +124,7 @@ loop-at-preserved c =
 
 pub returns-clause-first : goal.returns-clause-first
 returns-clause-first c = λ is.
-    let some = c.copy_many_some-3.ensures.some is in
+    let some = c.copy_both-3.ensures.some is in
     let last = c.args.end - 128 in
     record {
       within = c.requires.within;
@@ -135,7 +135,7 @@ returns-clause-first c = λ is.
 
 pub returns-clause-copied : goal.returns-clause-copied
 returns-clause-copied c = λ is.
-    let both = c.copy_many_some-3.ensures in
+    let both = c.copy_both-3.ensures in
     let was = c.loop-at.invariant in
     let last = c.args.end - 128 in
     fronts_copied _ _ _ c.requires.within
@@ -143,7 +143,7 @@ returns-clause-copied c = λ is.
       arith,
       both.long,
       was.long,
-      c.if-not-copy_many_some.ensures.long,
+      c.if-not-copy_both.ensures.long,
       length-set c.args.room.now c.args.end 0,
     ))
     (λ k less. grind (

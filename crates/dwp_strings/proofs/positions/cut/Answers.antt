@@ -3,7 +3,7 @@ use Rattle.dwp_strings.proofs.Terms
 use Terms.{[], arith, get_or, get_or_read, length, pieces, ◌+◌, ◌/◌, ◌<◌, ◌≡◌}
 use Rattle.dwp_strings.specs.Chunks.{IsHalved}
 use Rattle.dwp_strings.proofs.ChunkLemmas.{start_within, halves_same, halves_begun, halves_short}
-use Rattle.dwp_strings.proofs.PieceLemmas.{counts, length-pieces, piece_read, piece_halved}
+use Rattle.dwp_strings.proofs.ChunkLemmas.{counts, length-pieces, piece_read, piece_halved}
 use Rattle.dwp_strings.proofs.positions.cut.Goals.{After-index}
 use Rattle.dwp_strings.proofs.positions.cut.Goals as goal
 

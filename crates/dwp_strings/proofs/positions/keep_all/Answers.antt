@@ -1,8 +1,7 @@
 use Rattle.std.proofs.Common.{length-set}
 use Rattle.dwp_strings.proofs.Terms.{ap, arith, length, nat_lt, pieces, ◌+◌, ◌<◌}
 use Rattle.dwp_strings.proofs.ChunkLemmas.{kept_within, kept_more, kept_all, chunked_all}
-use Rattle.dwp_strings.proofs.ChunkLemmas.{short_filter}
-use Rattle.dwp_strings.proofs.PieceLemmas.{length-pieces, piece_read, counts}
+use Rattle.dwp_strings.proofs.ChunkLemmas.{short_filter, length-pieces, piece_read, counts}
 use Rattle.dwp_strings.proofs.positions.keep_all.Goals as goal
 
 pub keep-requires : goal.keep-requires

@@ -1,7 +1,6 @@
 use Rattle.std.proofs.lemmas.Grind.{common_steps, elements}
 use Rattle.dwp_strings.proofs.Terms.{arith, get_or_read, length, pieces, rules, ◌<◌, ◌∙◌}
-use Rattle.dwp_strings.proofs.ChunkLemmas.{first_start, IsInHalf, halves_room, in_half}
-use Rattle.dwp_strings.proofs.PieceLemmas.{counts}
+use Rattle.dwp_strings.proofs.ChunkLemmas.{first_start, IsInHalf, halves_room, in_half, counts}
 use Rattle.dwp_strings.proofs.positions.room_at.Goals.{In_ok-cut}
 use Rattle.dwp_strings.proofs.positions.room_at.Goals as goal
 

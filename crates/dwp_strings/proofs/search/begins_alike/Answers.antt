@@ -1,6 +1,6 @@
 use Rattle.std.proofs.Common.{length-drop}
 use Rattle.dwp_strings.proofs.Terms.{arith, drop, get_or-drop, take_rest}
-use Rattle.dwp_strings.proofs.EndLemmas.{alike_front}
+use Rattle.dwp_strings.proofs.CompareLemmas.{alike_front}
 use Rattle.dwp_strings.proofs.search.begins_alike.Goals as goal
 
 pub returns-then-bytes-at-eq0 : goal.returns-then-bytes-at-eq0

@@ -1,6 +1,14 @@
-use Rattle.dwp_strings.proofs.Terms.{arith, refl, ◌-◌}
-use Rattle.dwp_strings.proofs.LaneLemmas.{same_fronts}
+use Rattle.dwp_strings.proofs.Terms.{arith, leb-true, refl, ◌-◌}
+use Rattle.dwp_strings.proofs.LaneLemmas.{lanes_same_before, same_fronts}
 use Rattle.dwp_strings.proofs.search.begins_same.Goals as goal
+
+pub returns-then-count-lt-LANES : goal.returns-then-count-lt-LANES
+returns-then-count-lt-LANES c = λ is.
+    let bytes = c.args.bytes.now in
+    let other = c.args.other.now in
+    let same = lanes_same_before 32 (omega arith) bytes other 0 0 (omega arith) (omega arith) in
+    same_fronts bytes other c.args.count c.requires.first (omega arith)
+    (λ k less. grind (arith, same k, leb-true))
 
 pub loop-at-preserved : goal.loop-at-preserved
 loop-at-preserved c = λ k less. grind (arith, c.if-not-are_same.ensures refl (k - c.loop-at.at))

@@ -1,7 +1,6 @@
 use Rattle.std.proofs.lemmas.Grind.{elements}
 use Rattle.dwp_strings.proofs.Terms.{arith, inl, refl, rules, ◌+◌}
-use Rattle.dwp_strings.proofs.HashedLemmas.{added, entries_few, unplaced, carried_kept}
-use Rattle.dwp_strings.proofs.HashedLemmas.{taken_back}
+use Rattle.dwp_strings.proofs.HashedLemmas.{added, entries_few, unplaced, carried_kept, taken_back}
 use Rattle.dwp_strings.proofs.TableLemmas.{indexed_push}
 use Rattle.dwp_strings.proofs.entries.Entries.add.Goals as goal
 

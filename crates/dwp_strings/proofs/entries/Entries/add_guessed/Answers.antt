@@ -1,5 +1,5 @@
 use Rattle.dwp_strings.proofs.Terms.{arith, inl, IsFirstZero, refl, rules, take, ◌+◌}
-use Rattle.dwp_strings.proofs.EndLemmas.{ended_free, ended_front, ended_take}
+use Rattle.dwp_strings.proofs.CompareLemmas.{ended_free, ended_front, ended_take}
 use Rattle.dwp_strings.proofs.HashedLemmas.{added, entries_few, unplaced, carried_kept}
 use Rattle.dwp_strings.proofs.TableLemmas.{indexed_push}
 use Rattle.dwp_strings.proofs.entries.Entries.add_guessed.Goals as goal

@@ -1,7 +1,7 @@
 use Rattle.std.proofs.Common.{arith}
 use Rattle.std.proofs.lemmas.Grind.{elements}
 use Rattle.dwp_strings.proofs.Terms.{refl, sym, ◌∙◌}
-use Rattle.dwp_strings.proofs.PlaceLemmas.{offset_there, known_place_in}
+use Rattle.dwp_strings.proofs.TableLemmas.{offset_there, known_place_in}
 use Rattle.dwp_strings.proofs.HashedLemmas.{hashed_kept, entries_few, carried_among, absent_there}
 use Rattle.dwp_strings.proofs.HashedLemmas.{inserted_or}
 use Rattle.dwp_strings.proofs.Named.{string_was}

@@ -1,11 +1,9 @@
 use Rattle.std.proofs.lemmas.Grind.{elements}
 use Rattle.dwp_strings.proofs.Terms
 use Terms.{arith, held, inr, insert, refl, rules, ◌+◌, ◌≡◌}
-use Rattle.dwp_strings.proofs.UsedLemmas.{used_found}
+use Rattle.dwp_strings.proofs.TableLemmas.{used_found, indexed_both}
 use Rattle.dwp_strings.proofs.HashedLemmas.{added, entries_few, unordered, among_more}
-use Rattle.dwp_strings.proofs.HashedLemmas.{carried_among, among_one, absent_there}
-use Rattle.dwp_strings.proofs.HashedLemmas.{taken_back}
-use Rattle.dwp_strings.proofs.TableLemmas.{indexed_both}
+use Rattle.dwp_strings.proofs.HashedLemmas.{carried_among, among_one, absent_there, taken_back}
 use Rattle.dwp_strings.proofs.entries.Entries.place_ordered.Goals as goal
 
 pub returns-in-Ok-clause-placed : goal.returns-in-Ok-clause-placed

@@ -2,7 +2,7 @@ use Rattle.std.proofs.lemmas.Grind.{elements}
 use Rattle.dwp_strings.proofs.Terms
 use Terms.{arith, concat, get_or, get_or_read, length, pieces, sym, ◌-◌, ◌<◌, ◌∙◌, ◌≡◌}
 use Rattle.dwp_strings.proofs.ChunkLemmas.{length-starts_from, first_start, some_piece, placed}
-use Rattle.dwp_strings.proofs.PieceLemmas.{piece_read, counts}
+use Rattle.dwp_strings.proofs.ChunkLemmas.{piece_read, counts}
 use Rattle.dwp_strings.proofs.positions.Positions.get_near.Goals.{After-index}
 use Rattle.dwp_strings.proofs.positions.Positions.get_near.Goals as goal
 

@@ -1,10 +1,9 @@
 use Rattle.dwp_strings.proofs.Terms
 use Terms.{All-contains, arith, Contains, false, false≢true, held, IsZeroFree, offset_of, refl, sym}
 use Terms.{true, ◌↔◌, ◌∙◌, ◌≡◌}
-use Rattle.dwp_strings.proofs.StringLemmas.{zero_within, zero_free-strings_in}
-use Rattle.dwp_strings.proofs.PlaceLemmas.{known_place_in}
+use Rattle.dwp_strings.proofs.OffsetLemmas.{zero_within, zero_free-strings_in}
+use Rattle.dwp_strings.proofs.TableLemmas.{known_place_in, positions_few}
 use Rattle.dwp_strings.proofs.HashedLemmas.{misplaced, unplaced, unordered, absent_there}
-use Rattle.dwp_strings.proofs.TableLemmas.{positions_few}
 use Rattle.dwp_strings.proofs.table.StringTable.find_counted.Goals as goal
 use Rattle.std.proofs.Common.{rules}
 

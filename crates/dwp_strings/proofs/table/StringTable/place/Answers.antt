@@ -1,5 +1,5 @@
 use Rattle.std.proofs.lemmas.Grind.{elements}
-use Rattle.dwp_strings.proofs.UsedLemmas.{used_there}
+use Rattle.dwp_strings.proofs.TableLemmas.{used_there}
 use Rattle.dwp_strings.proofs.table.StringTable.place.Goals as goal
 use Rattle.dwp_strings.proofs.table.StringTable.place.Goals.{in-Ok}
 use Rattle.dwp_strings.proofs.table.StringTable.place.Goals.{in-Ok-2+else-stands_at-2+in_ok-place-in-Ok-2+in_default+in_ok-share-in-Ok-2}

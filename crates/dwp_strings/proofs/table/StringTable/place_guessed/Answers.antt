@@ -1,5 +1,5 @@
 use Rattle.std.proofs.lemmas.Grind.{elements}
-use Rattle.dwp_strings.proofs.UsedLemmas.{used_there}
+use Rattle.dwp_strings.proofs.TableLemmas.{used_there}
 use Rattle.dwp_strings.proofs.table.StringTable.place_guessed.Goals as goal
 use Rattle.std.proofs.Common.{rules, arith}
 

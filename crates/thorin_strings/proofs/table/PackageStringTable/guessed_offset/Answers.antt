@@ -1,8 +1,7 @@
 use Rattle.std.proofs.lemmas.Grind.{elements}
-use Rattle.std.proofs.Common.{arith, refl}
+use Rattle.std.proofs.Common.{arith, refl, rules}
 use Rattle.thorin_strings.proofs.KnownLemmas.{read_front, read_used}
 use Rattle.thorin_strings.proofs.table.PackageStringTable.guessed_offset.Goals as goal
-use Rattle.std.proofs.Common.{rules}
 
 pub returns-clause-meaning : goal.returns-clause-meaning
 returns-clause-meaning c =

@@ -1,13 +1,12 @@
 use Rattle.std.proofs.lemmas.Grind.{elements}
 use Rattle.std.proofs.Common.{◌≡◌, [], Ok, sym, take, length, arith, append-nil, take_all, refl}
+use Rattle.std.proofs.Common.{rules}
 use Rattle.std.proofs.lemmas.Result.{err_from_is_err_and}
-use Rattle.thorin_strings.specs.StringOffsets.{remapped_entry, remapped_entries}
+use Rattle.thorin_strings.specs.StringOffsets.{remapped_entry, remapped_entries, remapped}
 use Rattle.thorin_strings.specs.Known.{AreKnown}
 use Rattle.thorin_strings.proofs.KnownLemmas.{remapped_refuses, rewritten_more}
 use Rattle.thorin_strings.proofs.RemapLemmas.{kept_more}
 use Rattle.thorin_strings.proofs.table.PackageStringTable.remapped.Goals as goal
-use Rattle.std.proofs.Common.{rules}
-use Rattle.thorin_strings.specs.StringOffsets.{remapped}
 
 pub loop-index-init : goal.loop-index-init
 unfolding remapped_entries

@@ -1,6 +1,6 @@
 use Rattle.dwp_strings.proofs.Terms.{arith, Equal-is, exact_bytes, nat_list_cmp_total, tied_itself}
 use Rattle.dwp_strings.proofs.CompareLemmas.{alike_at}
-use Rattle.dwp_strings.proofs.search.is_at.Goals as goal
+use Rattle.dwp_strings.proofs.search.stands_at.Goals as goal
 
 pub returns-then-rest-string : goal.returns-then-rest-string
 returns-then-rest-string c =

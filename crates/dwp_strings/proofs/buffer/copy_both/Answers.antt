@@ -1,15 +1,15 @@
 use Rattle.std.proofs.lemmas.Bool.{eqb-true}
-use Rattle.dwp_strings.proofs.Terms.{arith, ◌∙◌}
+use Rattle.dwp_strings.proofs.Terms.{◌∙◌}
 use Rattle.dwp_strings.proofs.LaneLemmas.{both_some}
-use Rattle.dwp_strings.proofs.buffer.copy_some.Goals as goal
+use Rattle.dwp_strings.proofs.buffer.copy_both.Goals as goal
 
 pub returns : goal.returns
-returns c =
+returns g c =
     let one = c.copy_lanes-first.ensures in
     let two = c.copy_lanes-second.ensures in
     record {
-      some = λ is k less. both_some 32 (omega arith) _ _ c.args.at c.args.other c.requires.first
-          c.requires.second k less (rw (one.lanes, two.lanes) at (eqb-true _ 0 is));
+      some = λ is k less. both_some g.row.N c.requires.few _ _ c.args.at c.args.other
+          c.requires.first c.requires.second k less (rw (one.lanes, two.lanes) at (eqb-true _ 0 is));
       long = two.long ∙ one.long;
       kept = λ k was. two.kept k (one.kept k was);
       first = λ k low less. two.kept k (one.copied k low less);
