@@ -1,8 +1,7 @@
 use Rattle.std.proofs.lemmas.Grind.{elements}
 use Rattle.std.proofs.Common.{◌≡◌, [], Ok, sym, take, length, arith, append-nil, take_all, refl}
-use Rattle.std.proofs.Common.{rules}
 use Rattle.std.proofs.lemmas.Result.{err_from_is_err_and}
-use Rattle.thorin_strings.specs.StringOffsets.{remapped_entry, remapped_entries, remapped}
+use Rattle.thorin_strings.specs.StringOffsets.{remapped_entry, remapped_entries}
 use Rattle.thorin_strings.specs.Known.{AreKnown}
 use Rattle.thorin_strings.proofs.KnownLemmas.{remapped_refuses, rewritten_more}
 use Rattle.thorin_strings.proofs.RemapLemmas.{kept_more}
@@ -43,10 +42,6 @@ loop-index-preserved c =
           c.in_ok-push_offset.ensures;
       known = now.2;
     }
-
-pub push_offset-requires : goal.push_offset-requires
-unfolding remapped
-push_offset-requires c = search rules
 
 pub returns-in_err-out-clause-kept : goal.returns-in_err-out-clause-kept
 returns-in_err-out-clause-kept c = grind (arith, elements)
