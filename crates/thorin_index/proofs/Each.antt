@@ -1,10 +1,12 @@
 -- What tests that all passed say.
 use Rattle.thorin_index.proofs.Terms
 use Terms.{◌*◌, ◌+◌, ◌++◌, ◌<◌, [], ◌^◌, All, ap, arith, at_drop_more, Bool, codes, cond}
-use Terms.{column_of, Contribution, contribution_kinds, contribution_to, contributions_test, drop, each}
+use Terms.{column_of, Contribution, contribution_kinds, contribution_to, contributions_test, drop}
+use Terms.{each}
 use Terms.{Encoding, encoding_test, Err, false, get_or, HoldsAll, index_version_of, IndexEntry}
 use Terms.{is_some, is_used, length, List, ltb-true, None, offset_or_0, Ok, Option, refl, Result}
-use Terms.{SectionKind, size_or_0, Some, suc, sym, tests_under, true, unwrap_or, zero, ℕ, ◌∙◌, ◌∷◌, ◌≡◌}
+use Terms.{SectionKind, size_or_0, Some, suc, sym, tests_under, true, unwrap_or, zero, ℕ, ◌∙◌, ◌∷◌}
+use Terms.{◌≡◌}
 use Rattle.std.proofs.lemmas.List.Folds.{Any-from_list_any}
 use Rattle.dwp_base.proofs.Steps.{bind-was}
 use Rattle.dwp_base.specs.declared.section.SectionKind.TheVariants.{Str, CuIndex, TuIndex}

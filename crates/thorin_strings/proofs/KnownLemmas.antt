@@ -76,7 +76,8 @@ are_known_later section old new pairs kept known = λ i d within.
 -- the offset that was read of an entry
 pub entry_was : (order : Endianness) (encoding : Encoding) (bytes : List ℕ) (index named : ℕ)
     → offset_at order encoding.format bytes (header_size encoding
-    + index * offset_size encoding.format) ≡ Ok named → entry_at order encoding bytes index ≡ Ok named
+    + index * offset_size encoding.format) ≡ Ok named → entry_at order encoding bytes
+    index ≡ Ok named
 entry_was order encoding bytes index named h = rw h refl
 
 -- what an entry comes to, by the offset that it has

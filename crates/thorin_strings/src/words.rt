@@ -1,8 +1,8 @@
 //! String offsets of four bytes, the lowest first, each rewritten in its place: most are such, and
 //! the strings of nearly all are told by their hashes, one after the other.
 
-ghost use Rattle.std.specs.Prelude.{◌≡◌, ◌≢◌, ◌≤◌, ◌<◌, ◌+◌, ◌^◌, ◌++◌, ◌*◌, ℕ, List, Ok, OnOk, IfOk};
-ghost use Rattle.std.specs.Prelude.{IfSome, IsNone, length, take};
+ghost use Rattle.std.specs.Prelude.{◌≡◌, ◌≢◌, ◌≤◌, ◌<◌, ◌+◌, ◌^◌, ◌++◌, ◌*◌, ℕ, List, Ok};
+ghost use Rattle.std.specs.Prelude.{OnOk, IfOk, IfSome, IsNone, length, take};
 ghost use Rattle.dwp_base.specs.declared.endian.Endianness.TheVariants.{Little};
 ghost use Rattle.dwp_base.specs.Numbers.{number_bytes};
 ghost use Rattle.dwp_bytes.specs.declared.encoding.Format.TheVariants.{Dwarf32};

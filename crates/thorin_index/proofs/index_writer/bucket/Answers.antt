@@ -13,7 +13,8 @@ loop-i-init g c =
     c.in_ok-slots.ensures.items_if_clones_equal (λ _ e. e) in
     record {
       table = rw (c.as_mut_slice-table.ensures.value, items)
-          (c.unused_slots_are_a_table.ensures size c.slot_count.ensures.power c.slot_count.type_inv);
+          (c.unused_slots_are_a_table.ensures size c.slot_count.ensures.power
+          c.slot_count.type_inv);
       looked = none_looked _ _ c.in_ok-looked.ensures.items;
     }
 
@@ -31,9 +32,15 @@ loop-i-preserved g c =
     let placed = c.place_row.ensures in
     let before = c.loop-i.invariant in
     let long : length c.loop-i.table ≡ c.slot_count.result =
-    omega (arith, c.loop-i.auto.table, c.as_mut_slice-table.ensures.len, c.in_ok-slots.ensures.len) in
+    omega (
+      arith,
+      c.loop-i.auto.table,
+      c.as_mut_slice-table.ensures.len,
+      c.in_ok-slots.ensures.len,
+    ) in
     record {
-      table = rw more (placed.table ids before.table (omega (arith, count)) (omega (arith, long, c.slot_count.ensures.room)));
+      table = rw more (placed.table ids before.table (omega (arith, count))
+          (omega (arith, long, c.slot_count.ensures.room)));
       looked = rw (more, c.in_ok-push.ensures.items) (looked_more ids c.loop-i.table
           c.place_row.new.slots
           c.loop-i.looked.items c.index.result c.unwrap.result placed.kept

@@ -18,7 +18,8 @@ loop-row-preserved c =
     let is : c.if-row-eq0.signature ≡ signature_of (entry_ids c.args.rows.now) row =
     elim c.if-row-eq0.branch [
       | then-row-eq0 w ↦ w.signature-is ∙ rw w.if-row-eq0.true refl
-      | else-row-eq0 w ↦ w.signature-is ∙ w.index-signature.ensures ∙ ap identifier_of w.unit.ensures
+      | else-row-eq0 w ↦ w.signature-is ∙ w.index-signature.ensures ∙ ap
+          identifier_of w.unit.ensures
           ∙ signature_at c.args.rows.now (row - 1) row blank (omega arith) (omega (arith, few))
     ] in
     one_piece (λ row. number_bytes c.args.order 8 (signature_of (entry_ids c.args.rows.now) row))

@@ -1,5 +1,6 @@
 use Rattle.thorin_index.proofs.Terms
-use Terms.{[], arith, blank, contribution_kinds, contribution_to, contributions_test, drop, drop_all}
+use Terms.{[], arith, blank, contribution_kinds, contribution_to, contributions_test, drop}
+use Terms.{drop_all}
 use Terms.{get_or, sym, test_of, ◌∙◌, ◌≡◌}
 use Rattle.std.proofs.lemmas.Result.{err_from_is_err_and}
 use Rattle.thorin_index.proofs.Each.{each_passed, next_fails, next_passes}
@@ -10,7 +11,8 @@ returns-in_err-test-clause-exact c =
     let entry = get_or c.args.rows.now c.loop-position.position blank in
     let p = err_from_is_err_and c.from_residual.result c.from_residual.ensures.1 in
     rw (p.1, p.2) (λ other. next_fails (contributions_test (test_of c.args.self)) c.args.rows.now
-    c.loop-position.position blank _ (omega (arith, c.loop-position-test.true, c.len-position-end.ensures))
+    c.loop-position.position blank _
+    (omega (arith, c.loop-position-test.true, c.len-position-end.ensures))
     c.loop-position.invariant (next_fails
     (λ kind. test_of c.args.self kind (contribution_to kind entry)) contribution_kinds
     c.loop-kind.kind-index _ _ c.loop-kind-test.true c.loop-kind.invariant
