@@ -1,4 +1,5 @@
--- The strings of a section in which each is ended by a zero byte, where each begins, and its offset.
+-- The strings of a section in which each is ended by a zero byte, where each begins, and its
+-- offset.
 use Rattle.dwp_strings.proofs.Terms
 use Terms.{[], All, All-cons, All-head, All-tail, append_assoc, arith, before_first, by-bool}
 use Terms.{data_of, drop_at, eqb, eqb-false, IsZeroFree, length, length-append, List, nat_tests}

@@ -1,5 +1,5 @@
--- Some positions of a table's strings, in the strings' order; places at which strings begin, and strings
--- that are used.
+-- Some positions of a table's strings, in the strings' order; places at which strings begin, and
+-- strings that are used.
 use Rattle.dwp_strings.proofs.Terms
 use Terms.{[], All, All-cons, All-contains, All-permutation, AllPairs, ap, arith, Contains, data_of}
 use Terms.{Decides-eqb, drop, filter, get_or, get_or-map, get_or_default, insert, IsBefore}

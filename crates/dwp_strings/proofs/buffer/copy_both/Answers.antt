@@ -9,7 +9,8 @@ returns g c =
     let two = c.copy_lanes-second.ensures in
     record {
       some = λ is k less. both_some g.row.N c.requires.few _ _ c.args.at c.args.other
-          c.requires.first c.requires.second k less (rw (one.lanes, two.lanes) at (eqb-true _ 0 is));
+          c.requires.first c.requires.second k less (rw (one.lanes, two.lanes) at
+          (eqb-true _ 0 is));
       long = two.long ∙ one.long;
       kept = λ k was. two.kept k (one.kept k was);
       first = λ k low less. two.kept k (one.copied k low less);
