@@ -46,8 +46,8 @@ impl<T: Copy> ByKind<T> {
         self.values[kind.rank() as usize] = value;
     }
 
-    /// What a function reads for each kind, one after another. `default` only fills the places until
-    /// then: it is in no answer.
+    /// What a function reads for each kind, one after another. `default` only fills the places
+    /// until then: it is in no answer.
     ///
     /// # Errors
     /// The first that it answers, in the order of the kinds.

@@ -97,10 +97,10 @@ fn with_plain(
 /// first section that has an error, `Header`, `UnknownType`, or `Zlib` or `Zstd` where its stream
 /// cannot write as many bytes as are told; then `Zlib` or `Zstd` for the first other stream that is
 /// damaged; `Unrepresentable` where the result's numbers don't fit the class, or the table of names
-/// is itself compressed, where all sections and their names have more than 16 times the bytes of the
-/// file, or where more is told than zlib could write (`plain_length`); and `Memory`. The result is
-/// read again and compared before it is given: where it were to mean anything else, the answer would
-/// be `Unrepresentable` too.
+/// is itself compressed, where all sections and their names have more than 16 times the bytes of
+/// the file, or where more is told than zlib could write (`plain_length`); and `Memory`. The result
+/// is read again and compared before it is given: where it were to mean anything else, the answer
+/// would be `Unrepresentable` too.
 #[tactic(auto, unfolding(crate::specs::Result::decompressed_of, crate::specs::Result::plain_length_of), using(crate::proofs::Limit::nothing_more))]
 pub fn decompressed(
     alloc: Global,

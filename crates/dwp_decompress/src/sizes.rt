@@ -28,12 +28,12 @@ use dwp_elf_read::{ElfFile, Section};
 /// is read, and compared with what is written.
 const MOST_TIMES: u64 = 16;
 
-/// How many bytes a byte of a file, or of its compressed sections, may bring: as many as zlib writes
-/// at most.
+/// How many bytes a byte of a file, or of its compressed sections, may bring: as many as zlib
+/// writes at most.
 const MOST_WRITTEN: u64 = 1032;
 
-/// How many bytes a section and its name have. A name that can't be read has as many as the table of
-/// names.
+/// How many bytes a section and its name have. A name that can't be read has as many as the table
+/// of names.
 fn read_size(section: &Section<'_>, table: u64) -> u64 {
     let name = match section.name() {
         Ok(name) => name.len() as u64,
@@ -213,10 +213,10 @@ pub(crate) fn length(asked: Asked, bytes: &[u8], file: &ElfFile<'_>) -> Result<u
 /// is taken. `None` where no section that is asked for is compressed.
 ///
 /// # Errors
-/// `Read`, `Header`, `UnknownType`, `Zlib` or `Zstd` where a stream cannot write as many bytes as are
-/// told, and `Unrepresentable`, as of `decompressed`: so where more than 1,032 bytes are told for
-/// each byte of the file, or of its compressed sections if these have more. Streams of zstd could
-/// write 32 times as many.
+/// `Read`, `Header`, `UnknownType`, `Zlib` or `Zstd` where a stream cannot write as many bytes as
+/// are told, and `Unrepresentable`, as of `decompressed`: so where more than 1,032 bytes are told
+/// for each byte of the file, or of its compressed sections if these have more. Streams of zstd
+/// could write 32 times as many.
 #[tactic(auto, unfolding(crate::specs::Result::plain_length_of), using(crate::proofs::Limit::nothing_more))]
 pub fn plain_length(bytes: &[u8], asked: Asked) -> Result<Option<u64>, DecompressError>
     ensures length { GivesFile (λ size. size) result (plain_length_of asked bytes.now) }

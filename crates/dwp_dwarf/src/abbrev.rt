@@ -151,7 +151,8 @@ fn read_declaration<R: Reader>(reader: &mut R) -> Result<Abbreviation<R>, ReadEr
     })
 }
 
-/// The declaration that stands there with its code, where one is known to: its list isn't gone over.
+/// The declaration that stands there with its code, where one is known to: its list isn't gone
+/// over.
 pub(crate) fn known_declaration<R: Reader>(mut at: R) -> Result<Abbreviation<R>, ReadError>
     ensures { IfOk result (λ found. (x : (ℕ × Declaration) × Input)
         → next_at (R.input at) ≡ Ok (Some x) → x.0.1 ≡ declaration_of R.input found) }
@@ -224,8 +225,8 @@ impl<R: Reader> Abbreviations<R> {
     /// further, so that errors after it don't count.
     ///
     /// # Errors
-    /// `ZeroTag`, `BadChildren`, `BigLeb` or `UnexpectedEof` for an error before the declaration and
-    /// before the table's end.
+    /// `ZeroTag`, `BadChildren`, `BigLeb` or `UnexpectedEof` for an error before the declaration
+    /// and before the table's end.
     pub fn get(&self, code: u64) -> Result<Option<Abbreviation<R>>, ReadError>
         ensures { Answers (found_of R.input) result (declaration code (table_of R.input self.now)) }
     {

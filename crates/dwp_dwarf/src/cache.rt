@@ -93,8 +93,9 @@ impl<R: Reader> AbbreviationCache<R> {
     /// forgotten when it would have more.
     ///
     /// Tables that overlap go on alike from each declaration that they share. So once more was read
-    /// than two times the section, what is said from a declaration on is remembered for all of them,
-    /// in some four nodes of 12 bytes for each byte of the section, and 20 bytes for each place.
+    /// than two times the section, what is said from a declaration on is remembered for all of
+    /// them, in some four nodes of 12 bytes for each byte of the section, and 20 bytes for each
+    /// place.
     ///
     /// # Errors
     /// `OffsetOutOfRange` past the section's end, and those of `Abbreviations::get`. Want of memory
@@ -119,9 +120,9 @@ impl<R: Reader> AbbreviationCache<R> {
             .get_further(self.section, offset, &mut self.tables.at_hand, code)
     }
 
-    /// The tag of the entry of a code in the table at that offset, whose values stand there, and the
-    /// number of its first attribute of a name whose form is data1, data2, data4, data8 or udata;
-    /// None where the table doesn't have the code.
+    /// The tag of the entry of a code in the table at that offset, whose values stand there, and
+    /// the number of its first attribute of a name whose form is data1, data2, data4, data8 or
+    /// udata; None where the table doesn't have the code.
     ///
     /// Once the code's declaration is remembered, its attributes are listed, where there is memory
     /// for it, but for those whose values have no bytes; the first DW_AT_dwo_name,
@@ -165,9 +166,9 @@ impl<R: Reader> AbbreviationCache<R> {
         }))
     }
 
-    /// The attributes that name the split object of the entry of a code in the table at that offset,
-    /// whose values stand there; None where the table doesn't have the code. What is listed of
-    /// a declaration is as at `number_in`, and an entry costs as much.
+    /// The attributes that name the split object of the entry of a code in the table at that
+    /// offset, whose values stand there; None where the table doesn't have the code. What is listed
+    /// of a declaration is as at `number_in`, and an entry costs as much.
     ///
     /// # Errors
     /// Those of `get`; `UnknownForm`, `BigLeb`, `UnexpectedEof` or `NoTerminator` for the first of
@@ -205,9 +206,9 @@ impl<R: Reader> AbbreviationCache<R> {
 
     /// Whether the table at an offset is known to have a declaration of a code that ends within the
     /// first `end` bytes of the section: so does then the table there of the section's part up to
-    /// there, and it is the same. To know it, the table is read to its end, once for all tables that
-    /// go on alike, and remembered by places. False too for want of memory, where as many nodes are
-    /// remembered as may be, and before the last 4 GiB of a section.
+    /// there, and it is the same. To know it, the table is read to its end, once for all tables
+    /// that go on alike, and remembered by places. False too for want of memory, where as many
+    /// nodes are remembered as may be, and before the last 4 GiB of a section.
     pub fn declares_within(&mut self, offset: u64, code: u64, end: usize) -> bool
         ensures declared { result ≡ true → (whole : Input)
             → from_at offset (R.input self.old) ≡ Ok whole → IsDeclared code whole }
@@ -267,8 +268,8 @@ impl SeenTables {
         self.read = self.read.saturating_add(read);
     }
 
-    /// What the table at an offset of the section says of a code, which starts there and wasn't used
-    /// before.
+    /// What the table at an offset of the section says of a code, which starts there and wasn't
+    /// used before.
     pub(crate) fn get_first<R: Reader>(
         &mut self,
         section: R,

@@ -118,8 +118,8 @@ impl Chains {
         Some(u64::from(declared.behind))
     }
 
-    /// Remembers the table at an offset of the section, and says how many bytes are left there. None
-    /// where there is none, or as much was taken as may be.
+    /// Remembers the table at an offset of the section, and says how many bytes are left there.
+    /// None where there is none, or as much was taken as may be.
     fn learn_table<R: Reader>(&mut self, section: R, offset: u64) -> Option<u64>
         ensures left { IfSome result (λ left. (table : Input)
             → from_at offset (R.input section) ≡ Ok table
@@ -201,8 +201,8 @@ impl Chains {
         lefts
     }
 
-    /// Remembers a place, where so many bytes are left. It isn't remembered where there is no memory,
-    /// or as much was taken as may be.
+    /// Remembers a place, where so many bytes are left. It isn't remembered where there is no
+    /// memory, or as much was taken as may be.
     fn learn<R: Reader>(&mut self, section: R, left: u64)
         ensures places { RemembersPlaces (R.input section) self.old
             → RemembersPlaces (R.input section) self.new }

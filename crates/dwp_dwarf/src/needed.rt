@@ -156,8 +156,8 @@ impl AttributeSpecification {
     }
 }
 
-/// Lists those attributes whose values have bytes, and of each name that may name a split object the
-/// first. None where there is no memory for the list.
+/// Lists those attributes whose values have bytes, and of each name that may name a split object
+/// the first. None where there is no memory for the list.
 fn list_needed<R: Reader>(
     alloc: Global,
     mut specifications: R,

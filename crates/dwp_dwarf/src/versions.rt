@@ -113,8 +113,8 @@ impl Versions {
     }
 
     /// A version that has this value for the key, and else what that version has. It takes as many
-    /// nodes as the number behind the key has bits, at most 33. None for the value 0, or where there
-    /// is no memory.
+    /// nodes as the number behind the key has bits, at most 33. None for the value 0, or where
+    /// there is no memory.
     pub(crate) fn insert(&mut self, version: u32, key: u32, value: u32) -> Option<u32>
         ensures grows { Grows self.old.nodes.items self.new.nodes.items }
         ensures fits { IfSome result (λ added. added ≤ length self.new.nodes.items) }

@@ -65,8 +65,8 @@ fn agrees(old: &ElfFile<'_>, new: &ElfFile<'_>, kept: KeptMacros) -> bool
     new.is_like(old) && sections_agree(old, new, kept)
 }
 
-/// Sets the size of the i-th section to 0, if its header lies in the file (ELF gABI, "ELF Header" and
-/// "Section Header").
+/// Sets the size of the i-th section to 0, if its header lies in the file (ELF gABI, "ELF Header"
+/// and "Section Header").
 fn empty(file: &ElfFile<'_>, bytes: &mut [u8], i: usize) -> Option<()> {
     let order = file.endianness();
     let (table, entry, size, word) = match file.class() {
