@@ -4,24 +4,23 @@
 -- bytes are read again, each has its strings, and what is written has the encoding, as an input.
 use Rattle.thorin_again.proofs.Terms
 use Terms.{All, All-cons, All-head, All-map, All-nil, All-tail, All-weaker, all_there, AllOf, ap}
-use Terms.{AreRowsOf, AreTaken, arith, bind-was, content_of, Contents, Dwarf32, DwarfObject}
-use Terms.{each-all, EachAdds, EachRow, Elf, elf_of, Encoding, encoding_of, Endianness, File}
-use Terms.{file_encoding, file_text, finish_test, finished-is, finished-order, finished-own}
-use Terms.{first_encoding, GivesNone, GivesUnit, has_sections, Header, header_at, HoldsOwn}
-use Terms.{HoldsPlain, IfSome, IndexEntry, inl, InProgress, Input, input-keeps, input_encoding, inr}
-use Terms.{IsFinished, IsFinishedState, IsInFormat, IsOfPlainObjects, IsPlain, IsPlainOf, IsSound}
-use Terms.{IsSoundBegun, Joins, kind_of, KindsDiffer, length, length-append, length-map, List}
-use Terms.{list_all, look_limit, lookup, made-order, map, MatchOption, Meaning, meaning_at, Members}
-use Terms.{members, names_in, NamesItself, None, Ok, older_at, one_answer, opened, Option, order_of}
-use Terms.{own_encoding, package_or_new, packs_again, place_of, ReadError, Reads, refl, same-begun}
-use Terms.{same-ok, same_name, section, section_has, sections-are, slice_get-get_or, Some, Source}
-use Terms.{source-made, source_units, start, State, subst, sym, taken, takes, TakesUnits, true}
-use Terms.{unit_at, unit_bytes, units, units_begun, units_in, units_of, units_within, UnitSection}
-use Terms.{WasRead, with_input, written_elf, written_object, ℕ, [], ◌+◌, ◌<◌, ◌↔◌, ◌∙◌, ◌∷◌, ◌≡◌}
-use Rattle.std.proofs.Common.{unwrap_or}
+use Terms.{AreRowsOf, arith, bind-was, content_of, Contents, DwarfObject, each-all, EachRow, Elf}
+use Terms.{elf_of, Encoding, encoding_of, Endianness, File, file_encoding, file_text, finished-is}
+use Terms.{finished-order, finished-own, first_encoding, Header, header_at, HoldsOwn, HoldsPlain}
+use Terms.{IfSome, IndexEntry, inl, InProgress, Input, input-keeps, input_encoding, inr, IsPlain}
+use Terms.{IsSound, IsSoundBegun, kind_of, KindsDiffer, length, length-append, length-map, List}
+use Terms.{list_all, lookup, made-order, map, Meaning, meaning_at, Members, members, NamesItself}
+use Terms.{None, Ok, older_at, opened, Option, own_encoding, package_or_new, place_of, ReadError}
+use Terms.{Reads, refl, same-begun, same-ok, same_name, section, section_has, sections-are}
+use Terms.{slice_get-get_or, Some, Source, source-made, source_units, subst, sym, takes, TakesUnits}
+use Terms.{true, unit_at, unit_bytes, units, units_begun, units_in, units_of, units_within}
+use Terms.{UnitSection, WasRead, with_input, written_elf, written_object, [], ℕ, ◌+◌, ◌<◌, ◌↔◌, ◌∙◌}
+use Terms.{◌∷◌, ◌≡◌}
+use Rattle.std.proofs.Common.{MatchOption, unwrap_or}
 use Rattle.thorin_again.proofs.Kept.OneEncoding.{Before, begun-all, begun-now, CanMean, own-adds}
 use Rattle.thorin_again.proofs.Kept.OneEncoding.{taken-holds, taken-plain, units-hold, units-names}
-use Rattle.thorin_again.specs.InFormat.{AreInFormat, HasEncodingOfOne, HaveEncodingsOf, IsOneOf}
+use Rattle.thorin_again.specs.InFormat.{AreInFormat, HasEncodingOfOne, HaveEncodingsOf, IsInFormat}
+use Rattle.thorin_again.specs.InFormat.{IsOneOf}
 use Rattle.thorin_again.proofs.Kept.EachUnit.{input-rows, of-one, OfOne, order-added}
 use Rattle.dwp_index.specs.Package.{encoding_in, found_counted, Package, package_of, unit_at_row}
 use Rattle.dwp_index.specs.Package.{unit_in}
@@ -31,32 +30,35 @@ use Rattle.thorin_again.specs.OneEncoding.{HaveEncodingOnceWritten, IsOfEncoding
 use Rattle.thorin_again.proofs.Opened.Sections.{first-written, input-encoding}
 use Rattle.thorin_again.proofs.Kept.Names.{HasInfo, info-there}
 use Rattle.thorin_again.proofs.Meant.RowByRow.{of-section, read-alone}
+use Rattle.dwp_bytes.specs.declared.encoding.Format.TheVariants.{Dwarf32}
+use Rattle.dwp_units.proofs.Readings.{one_answer}
+use Rattle.thorin_again.specs.PlainInputs.{AreTaken, EachAdds, IsOfPlainObjects, IsPlainOf}
+use Rattle.thorin_again.specs.Own.{has_sections, packs_again}
+use Rattle.thorin_join.specs.Join.{GivesNone, GivesUnit, Joins, look_limit}
+use Rattle.thorin_join.specs.Builder.{finish_test, IsFinished, IsFinishedState, names_in, order_of}
+use Rattle.thorin_join.specs.Builder.{start, State, taken}
 use Rattle.dwp_index.specs.Package as index
 use Rattle.dwp_units.specs.declared.unit.UnitSection.TheVariants as places
 
 -- what stays so of a builder, whatever executables refer to, as inputs of this kind are taken
 in-order : (Q : List ℕ → Type 0) (P : State → Type 0)
     → ((state : State) (targets : List DwarfObject) → P state
-    → P (record state { targets = targets }))
-    → ((bytes : List ℕ) (old new : State) → Q bytes → P old → taken bytes old ≡ Ok new → P new)
-    → (accepted : List (List ℕ)) (old new : State) → AreTaken accepted old new → All Q accepted
-    → P old → P new
+    → P (record state { targets = targets })) → ((bytes : List ℕ) (old new : State) → Q bytes
+    → P old → taken bytes old ≡ Ok new → P new) → (accepted : List (List ℕ)) (old new : State)
+    → AreTaken accepted old new → All Q accepted → P old → P new
 in-order Q P free step [] old new are all h = subst P (sym are.1) (free old are.0 h)
 in-order Q P free step (bytes ∷ rest) old new are all h =
-    in-order Q P free step rest are.1 new are.3 (All-tail Q bytes rest all)
-    (step bytes (record old { targets = are.0 }) are.1 (All-head Q bytes rest all)
-    (free old are.0 h) are.2)
+    in-order Q P free step rest are.1 new are.3 (All-tail Q bytes rest all) (step bytes
+    (record old { targets = are.0 }) are.1 (All-head Q bytes rest all) (free old are.0 h) are.2)
 
 -- what stays so of a sound package
 pub packages-in-order : (Q : List ℕ → Type 0) (P : Option InProgress → Type 0)
     → ((bytes : List ℕ) (begun now : Option InProgress) → Q bytes
-    → Joins bytes (units_begun begun) (units_begun now) → with_input bytes begun ≡ Ok now
-    → P begun → P now)
-    → (accepted : List (List ℕ)) (state : State) → AreTaken accepted start state
+    → Joins bytes (units_begun begun) (units_begun now) → with_input bytes begun ≡ Ok now → P begun
+    → P now) → (accepted : List (List ℕ)) (state : State) → AreTaken accepted start state
     → All Q accepted → P None → IsSoundBegun state.begun × P state.begun
 packages-in-order Q P step accepted state are all none =
-    in-order Q (λ s. IsSoundBegun s.begun × P s.begun) (λ s targets h. h)
-    (λ bytes old new q h took.
+    in-order Q (λ s. IsSoundBegun s.begun × P s.begun) (λ s targets h. h) (λ bytes old new q h took.
     let now = begun-now bytes old new took in
     let keeps = input-keeps bytes old.begun new.begun h.0 now in
     (keeps.sound, step bytes old.begun new.begun q keeps.joins now h.1))
@@ -77,14 +79,10 @@ inputs-hold accepted state are =
     let keeps = input-keeps bytes old.begun new.begun h.sound (begun-now bytes old new took) in
     assumption (keeps.sound, own, plain)) accepted start state are (λ k d within. tt) (grind arith)
 
--- ---- plain objects of one encoding
-
-plain-is : (bytes : List ℕ) (e : Encoding)
-    → (own_encoding bytes ≡ Ok (Some e)) ↔ IsPlainOf e bytes
+-- plain objects of one encoding
+plain-is : (bytes : List ℕ) (e : Encoding) → (own_encoding bytes ≡ Ok (Some e)) ↔ IsPlainOf e bytes
 unfolding own_encoding file_encoding
 plain-is bytes e = (λ found. grind arith, λ p. grind (arith, p))
-
--- ---- joins are one
 
 -- a unit with all that belongs to it, or with nothing
 abbrev pub meant_or : DwarfObject × Option Meaning → DwarfObject × Meaning
@@ -110,8 +108,7 @@ joins-more bytes old now before same j =
     let long = length-append (units_in old) j.added in
     grind (arith, j.is, long, units-names old.begun, units-names now)
 
--- ---- inputs in order
-
+-- inputs in order
 record Each (e : Encoding) (accepted : List (List ℕ)) (old new : State) : Type 0 where
   plain : All (IsPlainOf e) accepted
   adds : EachAdds accepted (units_in old) (units_in new)
@@ -157,8 +154,7 @@ exactly e (bytes ∷ rest) old new fine are =
           others.1 (assumption (plain, adds, own)),
     )
 
--- ---- from a new builder
-
+-- from a new builder
 pub again-exactly : (accepted : List (List ℕ)) (state : State)
     → AreTaken accepted start state → (packs_again state ≡ true) ↔ IsOfPlainObjects accepted state
 again-exactly accepted state are = (
@@ -176,8 +172,7 @@ again-exactly accepted state are = (
       grind (arith, before, is.sections),
 )
 
--- ---- rows in the format
-
+-- rows in the format
 pub rows-taken : (accepted : List (List ℕ)) (state : State) → AreTaken accepted start state
     → AreInFormat state.begun × HaveEncodingsOf accepted state.begun
 rows-taken accepted state are =
@@ -189,10 +184,7 @@ rows-taken accepted state are =
           (λ row format read. (bytes, among, read)) took h.1,
     )) accepted state are (λ i d less. (i, slice_get-get_or accepted i d less)) (tt, tt)).1
 
--- ---- where all units of each input have one encoding
-
--- ---- a header has one encoding, in whichever section it is read
-
+-- a header has one encoding, in whichever section it is read
 places-encoding : (p q : UnitSection) (i : Input) (u v : Header × Input) → unit_at p i ≡ Ok u
     → unit_at q i ≡ Ok v → u.0.encoding ≡ v.0.encoding
 unfolding unit_at header_at older_at
@@ -213,16 +205,14 @@ read-encoded source all has h =
     let a = w.so.0.0 in
     places-encoding place w.place (section order r.1.unit.whole.bytes) (found, rest)
     (a.alone, a.rest) (ap (λ l. unit_at place (section order l)) (sym made.1) ∙ is) a.read
-    ∙ a.encoding ∙ w.so.1 ∙ sym made.0)
-    all (sections-are source (OfOne source) source.object.sections all
-    (of-one source source.object.sections has) h)
+    ∙ a.encoding ∙ w.so.1 ∙ sym made.0) all (sections-are source
+    (OfOne source) source.object.sections all (of-one source source.object.sections has) h)
 
 -- so of units with all that belongs to each
 abbrev pub AreEncoded : Endianness → Members → Type 0
 AreEncoded order units = All (λ (u : DwarfObject × Meaning). IsEncoded order u.1) units
 
--- ---- a package keeps its byte order
-
+-- a package keeps its byte order
 new-order : (file : Elf) (begun : Option InProgress) → (package_or_new file begun).file.order
     ≡ order_of begun file.order
 new-order file = same-begun (λ b. order_of b file.order) file refl
@@ -239,8 +229,6 @@ input-order bytes file begun now order opens h =
       | inr none ↦ ap (λ b. order_of b order) (sym none.1)
     ] ∙ new-order t.file begun
     ∙ ap (λ (e : Elf). order_of begun e.order) (one_answer (opened bytes) t.opens opens)
-
--- ---- one input
 
 -- the header of each unit has the encoding that is recorded of it, in the package's byte order
 abbrev Encoded : Option InProgress → Type 0
@@ -263,8 +251,6 @@ input-encoded bytes begun now one j h before made is =
     (one t.file u.source.object u.source.encoding t.opens u.object_is u.encoding_is) read))
     (begun-all (IsEncoded order) begun (λ old was. subst (λ o. AreEncoded o (units_of old))
     (ap (λ b. order_of b t.file.order) (sym was) ∙ own) (before old was))))
-
--- ---- look-ups
 
 -- the header of a unit that was found
 found-header : (pack : Package) (name : DwarfObject) (found : index.FoundUnit) (count : ℕ)
@@ -294,9 +280,8 @@ answers-whole order units file back same are pack parsed finds = record {
   where
     by : (name : DwarfObject) (found : Option Meaning) → IfSome found (IsEncoded order)
         → MatchOption found (GivesNone pack name (look_limit units name))
-        (GivesUnit pack name (look_limit units name))
-        → MatchOption found (GivesNone pack name (look_limit units name))
-        (GivesWhole pack name (look_limit units name))
+        (GivesUnit pack name (look_limit units name)) → MatchOption found
+        (GivesNone pack name (look_limit units name)) (GivesWhole pack name (look_limit units name))
     by name None is h = h
     by name (Some unit) is g =
         let p = found-header pack name g.found g.count g.counted in
@@ -307,10 +292,9 @@ answers-whole order units file back same are pack parsed finds = record {
         sym (same-ok {E = ReadError} _ _ u.2) ∙ is p.0 u.0.0 u.0.1 u.1 in
         record { gives = g; encoding = encoding; string = g.is.string encoding }
 
-pub inputs-whole : (accepted : List (List ℕ)) (state : State)
-    → AreTaken accepted start state → All IsOfOneEncoding accepted → (file : File)
-    → finish_test state ≡ Ok tt → IsFinishedState state file
-    → AnswersOnceWritten (units_in state) file
+pub inputs-whole : (accepted : List (List ℕ)) (state : State) → AreTaken accepted start state
+    → All IsOfOneEncoding accepted → (file : File) → finish_test state ≡ Ok tt
+    → IsFinishedState state file → AnswersOnceWritten (units_in state) file
 inputs-whole accepted state are one file tested f differ back =
     let is = packages-in-order IsOfOneEncoding Encoded input-encoded accepted state are one
     (λ made none. absurd cc) in
@@ -319,8 +303,7 @@ inputs-whole accepted state are one file tested f differ back =
     (finished-order f.made file f.finished) (rw f.begun (is.1 f.made f.begun)) p.pack p.parsed
     p.finds
 
--- ---- own packages
-
+-- own packages
 module _ (order : Endianness) (encoding : Encoding) (contents : Contents)
     (strings : List (List ℕ)) where
   abbrev unit_of : IndexEntry → DwarfObject × Meaning
@@ -331,9 +314,8 @@ module _ (order : Endianness) (encoding : Encoding) (contents : Contents)
 
   rows-encoded : (rows : List IndexEntry)
       → AreRowsOf order contents strings rows (map {B = DwarfObject × Meaning} unit_of rows)
-      → EachRow (NamesItself order encoding contents) rows
-      → AllOf encoding (map {B = DwarfObject × Meaning} unit_of rows)
-      → All Is (map {B = DwarfObject × Meaning} unit_of rows)
+      → EachRow (NamesItself order encoding contents) rows → AllOf encoding (map {B = DwarfObject
+      × Meaning} unit_of rows) → All Is (map {B = DwarfObject × Meaning} unit_of rows)
   unfolding encoding_in
   rows-encoded [] are names all = All-nil Is
   rows-encoded (r ∷ rs) are names all =
@@ -345,17 +327,14 @@ module _ (order : Endianness) (encoding : Encoding) (contents : Contents)
       let has = λ (u : DwarfObject × Meaning). u.1.encoding ≡ encoding in
       let units = map {B = DwarfObject × Meaning} unit_of rs in
       All-cons Is (unit_of r) units (λ place found rest is. places-encoding place owns.place
-      (section order bytes) (found, rest) u.0 is u.1 ∙ named.0
-      ∙ sym (All-head has (unit_of r) units all))
-      (rows-encoded rs are.1 names.1 (All-tail has (unit_of r) units all))
+      (section order bytes) (found, rest) u.0 is u.1 ∙ named.0 ∙ sym (All-head has
+      (unit_of r) units all)) (rows-encoded rs are.1 names.1 (All-tail has (unit_of r) units all))
 
 -- the units of an own package
 pub own-encoded : (made : InProgress) (encoding : Encoding) → IsSound made → IsPlain encoding made
     → AllOf encoding (units_of made) → AreEncoded made.file.order (units_of made)
 own-encoded made encoding sound plain all = rows-encoded made.file.order encoding made.file.contents
     made.strings made.rows sound.units.rows plain.units all
-
--- ---- the encoding of what is written
 
 -- a unit is encoded, and has the encoding
 abbrev pub IsAlike : Endianness → Encoding → DwarfObject × Meaning → Type 0
@@ -368,10 +347,9 @@ unfolding units units_within
 units-there order bytes some none = grind arith
 
 -- so has the first unit that is read of info
-pub first-of : (made : InProgress) (file : File) (encoding : Encoding)
-    → IsSound made → IsFinished made file → KindsDiffer file.contents
-    → All (IsAlike made.file.order encoding) (units_of made)
-    → 0 < length (content_of (kind_of places.Info) file.contents)
+pub first-of : (made : InProgress) (file : File) (encoding : Encoding) → IsSound made
+    → IsFinished made file → KindsDiffer file.contents → All (IsAlike made.file.order encoding)
+    (units_of made) → 0 < length (content_of (kind_of places.Info) file.contents)
     → encoding_of (written_object file) ≡ Ok encoding
 unfolding encoding_of
 first-of made file encoding sound fin differ alike some =
@@ -382,17 +360,13 @@ first-of made file encoding sound fin differ alike some =
     let own = finished-own made file fin places.Info in
     let held = first-written (kind_of places.Info) file.contents differ ∙ own in
     (λ i. first_encoding (units places.Info (section (finished-order made file fin i) (held i))))
-    ∙ of-section order contents places.Info made.rows
-    (λ todo got. All Is (members mean todo) → (got ≡ [] → ⊥) → first_encoding got ≡ Ok encoding)
-    (λ are none. absurd (none refl))
+    ∙ of-section order contents places.Info made.rows (λ todo got. All Is (members mean todo)
+    → (got ≡ [] → ⊥) → first_encoding got ≡ Ok encoding) (λ are none. absurd (none refl))
     (λ r rs got other later are. later (All-tail Is (r.id, mean r) (members mean rs) are))
     (λ r rs h got u later are none.
     let is = All-head Is (r.id, mean r) (members mean rs) are in
     ap Ok (u.shifted.encoding ∙ is.0 (place_of r.id r.debug_types) u.alone u.rest (read-alone u)
-    ∙ is.1))
-    sound.laid.once sound.laid.info alike (units-there order _ (rw own at some))
-
--- ---- inputs of this encoding
+    ∙ is.1)) sound.laid.once sound.laid.info alike (units-there order _ (rw own at some))
 
 -- all units have the encoding too, and info has bytes where there are units
 abbrev Filled : Encoding → Option InProgress → Type 0

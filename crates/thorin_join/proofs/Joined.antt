@@ -4,11 +4,11 @@ use Rattle.thorin_join.proofs.Terms
 use Terms.{adding, ap, append-nil, arith, begun_by, bind-ok, can_join, content_of, Contents}
 use Terms.{DwarfObject, Each, Elf, false, first, has_info, indexes_of, inl, InProgress}
 use Terms.{input_file_of, InputFile, inr, is_copied, IsSound, IsSoundBegun, IsTable, joined_parts}
-use Terms.{joining, Joins, keys, kind_of, List, map, Meaning, Members, named_in, names_of, New}
-use Terms.{new_units, None, offsets_used, Ok, opened, Option, order_test, package_or_new, parts_of}
-use Terms.{refl, Represents, same_kind, SectionKind, Some, Source, source_units, Str, strings_begun}
-use Terms.{subst, sum_by, sym, true, unit_bytes, units_begun, units_of, with_input, with_new_units}
-use Terms.{with_parts, with_source, ℕ, [], ◌++◌, ◌∙◌, ◌∷◌, ◌≡◌, ◌⊎◌}
+use Terms.{joining, Joins, keys, kind_of, List, map, Meaning, Members, names_of, New, new_units}
+use Terms.{None, offsets_used, Ok, opened, Option, order_test, package_or_new, parts_of, refl}
+use Terms.{Represents, same_kind, SectionKind, Some, Source, source_units, Str, subst, sum_by, sym}
+use Terms.{true, unit_bytes, units_begun, units_of, with_input, with_new_units, with_parts}
+use Terms.{with_source, [], ℕ, ◌++◌, ◌∙◌, ◌∷◌, ◌≡◌, ◌⊎◌}
 use Rattle.thorin_join.specs.State.{held_units, with_all}
 use Rattle.thorin_join.specs.Meaning.{input_meaning, meant, object_meaning, source_meaning}
 use Rattle.thorin_join.proofs.Units.InRows.{apart-none, joined_distinct, keys-units, rows-keys}
@@ -26,10 +26,9 @@ use Rattle.dwp_base.specs.declared.section.SectionKind.TheVariants as kinds
 use Rattle.dwp_units.specs.declared.unit.UnitSection.TheVariants as places
 use Rattle.thorin_input.specs.Encodings.{encoding_of}
 use Rattle.thorin_join.specs.Builder.{order_of, source_for, with_source_or_new, with_units}
-use Rattle.thorin_join.specs.FirstUse.{named_in_file, used_by, UsesStrings}
+use Rattle.thorin_join.specs.FirstUse.{named_in, named_in_file, strings_begun, used_by, UsesStrings}
 
--- ---- joining keeps what belongs to units
-
+-- joining keeps what belongs to units
 abbrev all_meant : Source → Reads → List (DwarfObject × Option Meaning)
 all_meant source us = map {B = DwarfObject × Option Meaning} (meant source) us
 
@@ -39,8 +38,6 @@ join-meant : (source : Source) (names : List DwarfObject) (us : Reads)
 join-meant source names [] = (refl, refl)
 join-meant source names (u ∷ us) =
     grind (arith, join-meant source names us, join-meant source (names ++ u.0 ∷ []) us)
-
--- ---- the units that are added, with all that belongs to them
 
 -- units with all that belongs to them
 abbrev pub all_there : Members → List (DwarfObject × Option Meaning)
@@ -53,8 +50,7 @@ record Ready (source : Source) (c : Contents) (after : List (List ℕ)) (ns : Ne
   can : AllCanBeAdded source.object.order c after ns members
 
 module _ (source : Source) (before : InProgress) (parts : Contents) (after : List (List ℕ))
-    (table : IsTable before.strings)
-    (h : parts_of source before.strings ≡ Ok (parts, after)) where
+    (table : IsTable before.strings) (h : parts_of source before.strings ≡ Ok (parts, after)) where
   ready : (ns : News) (rs : Reads) → AreAdded (adding source before parts) ns rs
       → Each (Goes source.object.order) rs
       → Ready source (with_parts parts before.file.contents) after ns rs
@@ -134,9 +130,8 @@ source-joins bytes source before now sound same meaning h =
     (rw (added, ← keys-held before) (joined-new held j.all))
     (subst (λ o. AllCanBeAdded o q.file.contents m.after us r.members) same r.can)
     (keep-rows before.file.order old q.file.contents before.strings m.after before.rows ms
-    (grows-with_parts parts old) kept.kept rep.rows)
-    (laid-lies before parts (λ place. none (kind_of place) (not-shared place).0
-    (not-shared place).2) sound.laid) in
+    (grows-with_parts parts old) kept.kept rep.rows) (laid-lies before parts
+    (λ place. none (kind_of place) (not-shared place).0 (not-shared place).2) sound.laid) in
     let still : (kind : SectionKind) → same_kind kinds.Info kind ≡ false
     → same_kind kinds.Types kind ≡ false → is_copied kind ≡ false
     → same_kind kinds.StrOffsets kind ≡ false → content_of kind old ≡ []
@@ -172,8 +167,6 @@ source-joins bytes source before now sound same meaning h =
       };
     })
 
--- ---- an input that is taken
-
 -- what is read of an input with units, and the package with them
 pub record TakesUnits (file : Elf) (begun now : Option InProgress) : Type 0 where
   pub source : Source
@@ -196,11 +189,10 @@ pub takes : (bytes : List ℕ) (begun now : Option InProgress) → with_input by
 unfolding with_input with_units source_for with_source_or_new
 takes bytes begun now h = grind arith
 
--- ---- strings
-pub source-brings : (source : Source) (before now : InProgress) → Made source before now
-    → Brings (first Str source.object.sections) before.strings
-    (named_in source source.object.sections) (sum_by offsets_used source.object.sections)
-    now.strings
+-- strings
+pub source-brings : (source : Source) (before now : InProgress) → Made source before now → Brings
+    (first Str source.object.sections) before.strings (named_in source source.object.sections)
+    (sum_by offsets_used source.object.sections) now.strings
 source-brings source before now m =
     rw (ap (λ (n : InProgress). n.strings) (sym m.is) ∙ units-strings _ m.new.units)
     (each-brings source source.object.sections ([], before.strings) (m.parts, m.after)
@@ -236,11 +228,9 @@ uses-strings bytes begun now fine h =
       }
     ]
 
--- ---- its units
-
+-- its units
 pub made-order : (file : Elf) (object : InputFile) (begun : Option InProgress)
-    → input_file_of file ≡ Ok object
-    → order_test (order_of begun object.order) object.order ≡ Ok tt
+    → input_file_of file ≡ Ok object → order_test (order_of begun object.order) object.order ≡ Ok tt
     → object.order ≡ (package_or_new file begun).file.order
 unfolding input_file_of order_test
 made-order file object begun h t = grind arith

@@ -1,29 +1,31 @@
 -- What is read of bytes is read alike wherever they stand, and a unit whatever follows it.
 use Rattle.thorin_join.proofs.Terms
-use Terms.{add_assoc, Answer, ap, arith, bind_alike, Bool, cond, DebugAttribute, drop}
-use Terms.{drop-append-le, Encoding, Endianness, entry_identity, Err, first_identifier, Format}
-use Terms.{Header, identity, Input, is_some, length, length-append, length-take-le, List, more}
-use Terms.{nat_tests, number_front, offset_size, Ok, ok_or, ReadError, refl, Result, root_identity}
-use Terms.{suc, sym, take, take-append-drop, take-append-le, true, type_signature, unit_at}
-use Terms.{unit_takes, UnitSection, UnitType, zero, ℕ, ℤ, [], ◌++◌, ◌+◌, ◌-◌, ◌>>=◌, ◌∙◌, ◌∷◌, ◌≡◌}
-use Terms.{◌≤◌, ◌⊎◌}
+use Terms.{ap, arith, Bool, cond, drop, drop-append-le, Encoding, Endianness, entry_identity, Err}
+use Terms.{first_identifier, Format, identity, Input, is_some, length, length-append, List}
+use Terms.{nat_tests, number_front, offset_size, Ok, ReadError, refl, Result, root_identity, suc}
+use Terms.{sym, take, take-append-drop, take-append-le, true, type_signature, unit_takes}
+use Terms.{UnitSection, zero, [], ℕ, ◌++◌, ◌+◌, ◌-◌, ◌>>=◌, ◌∙◌, ◌∷◌, ◌≡◌, ◌≤◌, ◌⊎◌}
 use Rattle.dwp_bytes.specs.Input.{after, byte_at, is_address_size, number_at, offset_at}
 use Rattle.dwp_bytes.specs.Input.{relocated_at, skip_at, split_at}
 pub use Rattle.dwp_index.proofs.TwoPlaces.{plain}
 use Rattle.dwp_bytes.specs.Leb.{sleb_at, uleb_at}
-use Rattle.dwp_units.proofs.Readings.{bind-bind, by-result, Reads, reads_byte, reads_sleb}
-use Rattle.dwp_units.proofs.Readings.{reads_uleb}
+use Rattle.dwp_units.proofs.Readings.{Answer, bind-bind, bind_alike, by-result, more, Reads}
+use Rattle.dwp_units.proofs.Readings.{reads_byte, reads_sleb, reads_uleb}
 use Rattle.dwp_bytes.specs.declared.error.ReadError.TheVariants.{AddressSize, UnknownForm}
 use Rattle.dwp_dwarf.specs.Abbreviations.{Specification}
-use Rattle.dwp_dwarf.specs.Entries.{attribute_at, attributes, number_of}
+use Rattle.dwp_dwarf.specs.Entries.{attribute_at, attributes, DebugAttribute, number_of}
 use Rattle.dwp_units.specs.AbbreviationCodes.{code_at, root_code_at}
 use Rattle.dwp_dwarf.specs.Forms.{block_length_at, layout_of, named_form_at, named_within}
 use Rattle.dwp_dwarf.specs.Forms.{past_value, text_at, value_at}
 use Rattle.std.specs.Prelude.{is_ok}
 use Rattle.dwp_bytes.specs.declared.encoding.Format.TheVariants.{Dwarf32, Dwarf64}
 use Rattle.dwp_units.specs.Units.{address_size_at, header_at, initial_length_at, newer_at, older_at}
-use Rattle.dwp_units.specs.Units.{older_type_at, type_at, unit_code_at, unit_type_at}
+use Rattle.dwp_units.specs.Units.{older_type_at, type_at, Unit as Header, unit_at, unit_code_at}
+use Rattle.dwp_units.specs.Units.{unit_type_at}
 use Rattle.dwp_units.specs.declared.unit.UnitSection.TheVariants.{Types}
+use Rattle.std.proofs.Common.{add_assoc, length-take-le, ℤ}
+use Rattle.std.specs.Option.{ok_or}
+use Rattle.dwp_units.specs.declared.unit.UnitType.{UnitType}
 
 -- what was read, moved
 abbrev pub moved : {A : Type 0} → (A → A) → Result A ReadError → Result A ReadError
@@ -83,8 +85,6 @@ module _ (d : ℕ) (by : (ℕ → ℕ → ℕ) → ℕ → ℕ → ℕ) where
 -- the readings that others are made of
 pub ruleset readings = (byte-there, number-there, skip-there, split-there, uleb-there, sleb-there)
 
--- ---- a unit's root entry
-
 -- the same bytes at a place behind others
 abbrev pub shifted : ℕ → Input → Input
 shifted d i = record i { place = d + i.place }
@@ -104,8 +104,6 @@ module _ (d : ℕ) where
   abbrev away : Input → Input
   away = there d same
 
-  -- ---- values, which are inputs themselves
-
   -- the bytes up to where a reading ends
   up-to : (i : Input) (here away' : Result Input ReadError) → away' ≡ moved away here
       → (away' >>= λ rest. split_at (rest.place - (away i).place) (away i) >>= λ value.
@@ -119,33 +117,30 @@ module _ (d : ℕ) where
   value-shifts encoding form i =
       let layout = ok_or (layout_of encoding form) UnknownForm in
       bind_alike layout _ _ (λ l _. up-to i (past_value l i) (past_value l (away i))
-      (grind (arith, there-is, readings)))
-      ∙ sym (bind-bind layout _ _)
+      (grind (arith, there-is, readings))) ∙ sym (bind-bind layout _ _)
 
   named-shifts : (n form : ℕ) → Shifts d same ℕ (named_within n form)
   unfolding named_within
   named-shifts zero form i = grind arith
   named-shifts (suc n) form i = grind (arith, readings, named-shifts n)
 
-  -- ---- attributes
+  -- attributes
   abbrev attribute_away : DebugAttribute → DebugAttribute
   attribute_away a = record a { value = away a.value }
 
-  attribute-shifts : (encoding : Encoding) (s : Specification) (i : Input)
-      → attribute_at encoding s (away i)
-      ≡ moved (λ x. (attribute_away x.0, away x.1)) (attribute_at encoding s i)
+  attribute-shifts : (encoding : Encoding) (s : Specification) (i : Input) → attribute_at encoding s
+      (away i) ≡ moved (λ x. (attribute_away x.0, away x.1)) (attribute_at encoding s i)
   unfolding attribute_at named_form_at
   attribute-shifts encoding s i = grind (arith, there-is, named-shifts, value-shifts)
 
-  first-same : (encoding : Encoding) (specs : List Specification) (i : Input)
-      → first_identifier (attributes encoding specs (away i))
-      ≡ first_identifier (attributes encoding specs i)
+  first-same : (encoding : Encoding) (specs : List Specification) (i : Input) → first_identifier
+      (attributes encoding specs (away i)) ≡ first_identifier (attributes encoding specs i)
   unfolding number_of
   first-same encoding [] i = refl
   first-same encoding (s ∷ ss) i =
       grind (arith, readings, attribute-shifts, first-same encoding ss)
 
-  -- ---- the identity in a root entry
+  -- the identity in a root entry
   root-same : (section : Input) (unit other : Header) → IsShifted d unit other
       → root_identity section other ≡ root_identity section unit
   unfolding root_identity root_code_at code_at entry_identity
@@ -159,10 +154,7 @@ pub identity-shifted : (section : Input) (d : ℕ) (unit other : Header) → IsS
 unfolding identity
 identity-shifted section d unit other h = grind (arith, root-same d section unit other h)
 
--- ---- a unit's header
-
--- ---- behind others
-
+-- behind others
 module _ (d : ℕ) where
   -- the relocations are moved too
   abbrev by : (ℕ → ℕ → ℕ) → ℕ → ℕ → ℕ
@@ -213,8 +205,7 @@ module _ (d : ℕ) where
   unit-shifts place i =
       grind (arith, length-shifts, readings, there-is, newer-shifts, older-shifts)
 
--- ---- with more behind them
-
+-- with more behind them
 module _ (rest : List ℕ) where
   unfoldable longer : Input → Input
   longer i = more i rest
@@ -244,8 +235,6 @@ module _ (rest : List ℕ) where
   unfolding unit_at
   unit-more place i h = grind (arith, length-more, split-more, place-longer)
 
--- ---- a unit
-
 -- the same unit, read where its bytes stand behind others and before more
 pub record Moved (order : Endianness) (place : UnitSection) (own more : List ℕ) (d : ℕ)
     (u : Header) : Type 0 where
@@ -261,9 +250,8 @@ pub record Moved (order : Endianness) (place : UnitSection) (own more : List ℕ
   pub entries : unit.entries ≡ shifted d u.entries
 
 -- a unit of some bytes alone is read alike at another place, with more behind them
-pub unit-moves : (order : Endianness) (place : UnitSection)
-    (own more : List ℕ) (d : ℕ) (u : Header) (r : Input) → unit_at place (plain order 0 own) ≡ Ok
-    (u, r) → Moved order place own more d u
+pub unit-moves : (order : Endianness) (place : UnitSection) (own more : List ℕ) (d : ℕ) (u : Header)
+    (r : Input) → unit_at place (plain order 0 own) ≡ Ok (u, r) → Moved order place own more d u
 unfolding there longer
 unit-moves order place own rest d u r h =
     let i = plain order 0 own in
@@ -285,8 +273,7 @@ unit-moves order place own rest d u r h =
       entries = grind (arith, t.inside.is, t.whole);
     }
 
--- ---- the same of both sections: units of version 5
-
+-- the same of both sections: units of version 5
 pub newer-five : (format : Format) (whole i : Input) (u : Header) → newer_at format whole i ≡ Ok u
     → u.encoding.version ≡ 5
 unfolding newer_at

@@ -3,27 +3,29 @@
 use Rattle.thorin_join.proofs.Terms
 use Terms.{Adding, adding, All, ap, appended, arith, begun_by, bind-was, bytes_of_contents}
 use Terms.{bytes_of_strings, Contents, data_of, DwarfObject, Elf, Endianness, ErrorValue, every}
-use Terms.{File, file_text, first, flat_map-map, Header, IndexEntry, InProgress, IsFinished}
-use Terms.{IsIndexOf, joining, KindsDiffer, leb-true, length, length-append, length-KindsDiffer}
-use Terms.{length-map, List, map, name_of, named_at, named_sections, nat_le, nat_tests, NewUnit}
-use Terms.{None, offsets_used, Ok, Option, refl, same-ok, SectionKind, Some, Source, Str}
-use Terms.{strings_begun, suc, sum_by, sum_by-append, sum_by-cons, sym, unit_section, UnitRead}
-use Terms.{units_whole, UnitSection, Used, with_bytes, with_input, with_new_units, with_parts}
-use Terms.{with_source, ℕ, [], ◌*◌, ◌++◌, ◌+◌, ◌∙◌, ◌∷◌, ◌≡◌, ◌≤◌}
+use Terms.{first, flat_map-map, IndexEntry, InProgress, IsFinished, IsIndexOf, joining, KindsDiffer}
+use Terms.{leb-true, length, length-append, List, map, name_of, nat_le, nat_tests, NewUnit, None}
+use Terms.{offsets_used, Ok, Option, refl, same-ok, SectionKind, Some, Source, Str, suc, sum_by}
+use Terms.{sym, unit_section, UnitRead, units_whole, UnitSection, Used, with_bytes, with_input}
+use Terms.{with_new_units, with_parts, with_source, [], ℕ, ◌*◌, ◌++◌, ◌+◌, ◌∙◌, ◌∷◌, ◌≡◌, ◌≤◌}
 use Rattle.std.proofs.lemmas.List.Concat.{length-flat_map}
-use Rattle.std.proofs.lemmas.List.Sums.{sum_by-le-sum_by}
-use Rattle.dwp_units.specs.Units.{unit_bytes as bytes_of_unit}
+use Rattle.std.proofs.lemmas.List.Sums.{sum_by-append, sum_by-cons, sum_by-le-sum_by}
+use Rattle.dwp_units.specs.Units.{Unit as Header, unit_bytes as bytes_of_unit}
 use Rattle.thorin_join.specs.Sizes.{bytes_begun, bytes_of_index, carried, carried_size}
 use Rattle.thorin_join.specs.Sizes.{container_most, IsSizeFinished, IsSizeOfIndex, sections_in}
 use Rattle.thorin_join.specs.Sizes.{sections_of_input, used_size, with_inputs}
 use Rattle.thorin_join.proofs.Joined.{same-begun, source-brings, source-made, takes}
 use Rattle.thorin_join.proofs.Parts.Added.{each-brings, each-unit, long, part_bytes, used-most}
 use Rattle.thorin_join.proofs.Units.ReadInTurn.{AreAdded, each-named, News, Reads, units-joined}
-use Rattle.dwp_elf.specs.FileText.{content_bytes, names_of}
+use Rattle.dwp_elf.specs.FileText.{content_bytes, file_text, names_of, Object as File}
 use Rattle.dwp_elf.proofs.Limits.{length-file_text, length-number_bytes}
 use Rattle.thorin_index.specs.IndexText.{index_bytes}
+use Rattle.std.proofs.lemmas.List.{length-map}
+use Rattle.thorin_join.specs.Meaning.{named_at, named_sections}
+use Rattle.thorin_join.specs.FirstUse.{strings_begun}
+use Rattle.dwp_elf.proofs.KindCounts.{length-KindsDiffer}
 
--- ---- bytes that are added to a kind's
+-- bytes that are added to a kind's
 appended-long : (k : SectionKind) (bytes : List ℕ) (c : Contents)
     → bytes_of_contents (appended k bytes c) ≡ bytes_of_contents c + length bytes
 appended-long k bytes [] = omega (arith, sum_by-cons long (k, bytes) [])
@@ -43,7 +45,7 @@ with_parts-long [] c = omega arith
 with_parts-long (p ∷ ps) c =
     grind (arith, with_parts-long ps, with_bytes-long p.0 p.1 c, sum_by-cons long p ps)
 
--- ---- units
+-- units
 abbrev unit_long : DwarfObject × NewUnit → ℕ
 unit_long unit = length unit.1.bytes
 
@@ -55,14 +57,14 @@ units-within = each-unit (λ made units now. bytes_of_contents now.file.contents
     (λ made unit units now later. omega (arith, sum_by-cons unit_long unit units, later))
     (λ made unit units now later. grind (arith, sum_by-cons unit_long unit units, with_bytes-long))
 
--- ---- the units that are read by their names have all bytes of their section
+-- the units that are read by their names have all bytes of their section
 abbrev read_unit : DwarfObject × UnitRead → Header
 read_unit read = read.1.unit
 
 abbrev read_bytes : DwarfObject × UnitRead → ℕ
 read_bytes read = length read.1.unit.whole.bytes
 
--- ---- by sections
+-- by sections
 abbrev placed_bytes : Option UnitSection → Used → ℕ
 placed_bytes None from = 0
 placed_bytes (Some place) from = length from.bytes
@@ -92,7 +94,7 @@ module _ (source : Source) where
       let later = sections-within rest b.0 b.1 in
       grind (arith, b.2, sum_by-append read_bytes a.0 b.0, sum_by-cons unit_bytes from rest)
 
--- ---- what is added of them
+-- what is added of them
 joining-within : (names : List DwarfObject) (us : Reads)
     → sum_by read_bytes (joining names us) ≤ sum_by read_bytes us
 joining-within names [] = omega arith
@@ -107,8 +109,7 @@ added-long adding (n ∷ ns) (r ∷ rs) are =
     grind (arith, added-long adding ns rs, sum_by-cons unit_long, sum_by-cons read_bytes)
 added-long adding _ _ are = absurd are
 
--- ---- a section goes to one place at most
-
+-- a section goes to one place at most
 places-within : (sections : List Used) → sum_by part_bytes sections + sum_by unit_bytes sections ≤
     sum_by carried sections
 places-within [] = omega arith
@@ -116,7 +117,6 @@ places-within (s ∷ ss) =
     let own = sum_by-cons carried s ss in
     grind (arith, places-within ss, sum_by-cons part_bytes, sum_by-cons unit_bytes)
 
--- ---- an input with units
 -- a measure of a package grows by at most so much with the units of an input
 pub record Grows (measure : Option InProgress → ℕ) (most : List Used → ℕ) : Type 0 where
   pub begins : (file : Elf) → measure (Some (begun_by file)) ≡ measure None
@@ -145,7 +145,7 @@ strings-grow = record {
       grind (arith, b.are, b.most, used-most before.strings);
 }
 
--- ---- inputs, one after another
+-- inputs, one after another
 module _ {measure : Option InProgress → ℕ} {most : List Used → ℕ} (grows : Grows measure most) where
   -- an input begins a package at most, or its units are added
   pub input-most : (bytes : List ℕ) (begun now : Option InProgress) → with_input bytes begun ≡ Ok
@@ -165,7 +165,7 @@ module _ {measure : Option InProgress → ℕ} {most : List Used → ℕ} (grows
       let later = inputs-most inputs s.0 now s.2 in
       omega (arith, input-most bytes begun s.0 s.1, later, sum_by-cons {X = List ℕ})
 
--- ---- where used sections don't overlap
+-- where used sections don't overlap
 pub carried-used : (bytes : List ℕ) → carried_size bytes ≤ used_size bytes
 carried-used bytes = sum_by-le-sum_by carried (λ used. length used.bytes) (sections_of_input bytes)
     (λ s. grind arith)
@@ -183,7 +183,7 @@ pub files-within : (inputs : List (List ℕ)) (begun now : Option InProgress)
 files-within inputs begun now apart h =
     omega (arith, inputs-most bytes-grow inputs begun now h, lengths-within inputs apart)
 
--- ---- a finished package
+-- a finished package
 strings-long : (strings : List (List ℕ)) → length (data_of strings) ≡ bytes_of_strings strings
 strings-long strings = simp (length-flat_map, length-append)
 
@@ -217,7 +217,7 @@ finished-size made file f = record {
   is = grind (arith, f.contents, with_bytes-long, strings-long made.strings);
 }
 
--- ---- an ELF file has few bytes beside its contents
+-- an ELF file has few bytes beside its contents
 contents-long : (cs : Contents) → length (content_bytes cs) ≡ bytes_of_contents cs
 unfolding content_bytes
 contents-long [] = refl

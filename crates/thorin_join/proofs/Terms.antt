@@ -1,17 +1,14 @@
 -- The names that proofs of this crate cite most, passed on from one place. Declares nothing.
 pub use Rattle.std.proofs.ByRecursion.{All-append, All-weaker}
-pub use Rattle.std.proofs.Common.{add_assoc, All, AllPairs, ap, append-nil, append_assoc, arith}
-pub use Rattle.std.proofs.Common.{Bool, codes, cond, drop, eqb, Err, false, filter, if◌then◌else◌}
-pub use Rattle.std.proofs.Common.{inl, inr, is_none, is_some, IsOk, le-leb, leb, leb-false}
-pub use Rattle.std.proofs.Common.{leb-true, length, length-append, length-drop, length-take}
-pub use Rattle.std.proofs.Common.{length-take-le, List, map, MatchOption, nat_eq, nat_le, nat_lt}
+pub use Rattle.std.proofs.Common.{All, AllPairs, ap, append-nil, append_assoc, arith, Bool, codes}
+pub use Rattle.std.proofs.Common.{cond, drop, eqb, Err, false, filter, if◌then◌else◌, inl, inr}
+pub use Rattle.std.proofs.Common.{is_none, is_some, le-leb, leb-true, length, length-append}
+pub use Rattle.std.proofs.Common.{length-drop, length-take, List, map, MatchOption, nat_eq, nat_le}
 pub use Rattle.std.proofs.Common.{ne_eqb, None, not, Ok, Option, refl, Result, slice_get}
 pub use Rattle.std.proofs.Common.{slice_index, slice_range, Some, subst, suc, sym, take}
-pub use Rattle.std.proofs.Common.{take-append-drop, take_all, true, true≢false, zero, ℕ, ℤ, []}
-pub use Rattle.std.proofs.Common.{⊎_elim, ◌&&◌, ◌*◌, ◌++◌, ◌+◌, ◌-◌, ◌/◌, ◌<◌, ◌^◌, ◌||◌, ◌∙◌, ◌∷◌}
-pub use Rattle.std.proofs.Common.{◌≡◌, ◌≤◌, ◌⊎◌}
-pub use Rattle.std.proofs.Math.Seq.{drop-append-add, drop-append_seam, take-length}
-pub use Rattle.std.proofs.lemmas.Bool.{eqb-false, false_from_ne_true}
+pub use Rattle.std.proofs.Common.{take-append-drop, true, zero, [], ℕ, ◌&&◌, ◌*◌, ◌++◌, ◌+◌, ◌-◌}
+pub use Rattle.std.proofs.Common.{◌<◌, ◌^◌, ◌||◌, ◌∙◌, ◌∷◌, ◌≡◌, ◌≤◌, ◌⊎◌}
+pub use Rattle.std.proofs.Math.Seq.{take-length}
 pub use Rattle.std.proofs.lemmas.Bool.Decides.{nat_tests}
 pub use Rattle.std.proofs.lemmas.List.{drop-append-le, length-map, map-append, nil_from_length}
 pub use Rattle.std.proofs.lemmas.List.{take-append-le}
@@ -21,14 +18,12 @@ pub use Rattle.std.proofs.lemmas.Option.{none-some, same_Some}
 pub use Rattle.std.specs.List.{AllByRecursion as Each, find, list_all, list_any, position_or_len}
 pub use Rattle.std.specs.List.{sum_by}
 pub use Rattle.std.specs.Map.{lookup}
-pub use Rattle.std.specs.Option.{ok_or}
 pub use Rattle.std.specs.Result.{result_unwrap_or}
 pub use Rattle.dwp_base.proofs.Bools.{by-bool}
 pub use Rattle.dwp_base.proofs.EveryKind.{every, is-same, same-each, same-self}
 pub use Rattle.dwp_base.proofs.Steps.{bind-ok, bind-was, same-ok}
 pub use Rattle.dwp_base.specs.Reading.{read_each, ◌>>=◌}
 pub use Rattle.dwp_base.specs.Sections.{all_kinds, name_of, same_kind}
-pub use Rattle.dwp_base.specs.declared.class.Class.{Class}
 pub use Rattle.dwp_base.specs.declared.endian.Endianness.{Endianness}
 pub use Rattle.dwp_base.specs.declared.section.Contribution.{Contribution}
 pub use Rattle.dwp_base.specs.declared.section.SectionKind.{SectionKind}
@@ -36,27 +31,17 @@ pub use Rattle.dwp_base.specs.declared.section.SectionKind.TheVariants.{Str, Str
 pub use Rattle.dwp_bytes.specs.Encoding.{index_version_of, offset_size}
 pub use Rattle.dwp_bytes.specs.Input.{Input, section}
 pub use Rattle.dwp_bytes.specs.StringOffsets.{entry_count, header_size}
-unfoldable pub use Rattle.dwp_bytes.specs.StringOffsets.{entry_in, string_at, string_in}
+unfoldable pub use Rattle.dwp_bytes.specs.StringOffsets.{string_at, string_in}
 pub use Rattle.dwp_bytes.specs.declared.encoding.Encoding.{Encoding}
 pub use Rattle.dwp_bytes.specs.declared.encoding.Format.{Format}
 pub use Rattle.dwp_bytes.specs.declared.error.ReadError.{ReadError}
-pub use Rattle.dwp_bytes.specs.declared.error.ReadError.TheVariants.{UnexpectedEof}
-pub use Rattle.dwp_units.proofs.Readings.{Answer, bind_alike, more}
 pub use Rattle.dwp_units.proofs.Units.{unit_taken, unit_takes, units_whole}
-pub use Rattle.dwp_dwarf.specs.Entries.{DebugAttribute}
-pub use Rattle.dwp_units.specs.Units.{listed, Unit as Header}
-unfoldable pub use Rattle.dwp_units.specs.Units.{unit_at, units}
 pub use Rattle.dwp_units.specs.declared.unit.UnitSection.{UnitSection}
-pub use Rattle.dwp_units.specs.declared.unit.UnitType.{UnitType}
 pub use Rattle.dwp_elf.specs.Contents.{appended, content_of, count_of, KindsDiffer}
-pub use Rattle.dwp_elf.specs.FileText.{file_text, Object as File}
 pub use Rattle.dwp_elf_read.specs.Elf.{Elf, elf_of}
-pub use Rattle.dwp_index.specs.Finding.{IsNotNamed, IsUnitOf, own_bytes, own_place, unit_of}
-pub use Rattle.dwp_index.specs.Holding.{sections_of}
 pub use Rattle.dwp_index.specs.Index.{column_place, Index, Ranges}
 unfoldable pub use Rattle.dwp_index.specs.Index.{range_in, row_in}
-pub use Rattle.dwp_index.specs.Package.{index_in_section, is_outside, kind_of, Package, package_of}
-pub use Rattle.dwp_index.specs.Package.{part_of, place_of}
+pub use Rattle.dwp_index.specs.Package.{is_outside, kind_of, Package, part_of, place_of}
 unfoldable pub use Rattle.dwp_index.specs.Package.{encoding_in, row_bytes}
 pub use Rattle.dwp_strings.specs.Strings.{data_of, IsTable, IsZeroFree, with_string}
 pub use Rattle.dwp_table.specs.Objects.{identifier_of}
@@ -70,7 +55,6 @@ unfoldable pub use Rattle.thorin_identity.specs.Identity.{entry_identity, identi
 pub use Rattle.thorin_index.specs.Entries.{contribution_to, entry_by}
 pub use Rattle.thorin_index.specs.EntryTests.{index_tests}
 pub use Rattle.thorin_index.specs.IndexText.{entry_ids, IsIndexOf}
-pub use Rattle.thorin_index.specs.ReadRows.{HasEntries}
 pub use Rattle.thorin_index.specs.declared.entry.IndexEntry.{IndexEntry}
 pub use Rattle.thorin_input.specs.Format.{is_copied, is_shared}
 pub use Rattle.dwp_elf.specs.Growing.{Contents, contribution_put, HasFront, with_bytes}
@@ -83,36 +67,28 @@ pub use Rattle.thorin_input.specs.Names.{is_compilation, same_name}
 pub use Rattle.thorin_input.specs.NewUnits.{Adding, kept_bytes, New, NewUnit, place_for}
 pub use Rattle.thorin_input.specs.NewUnits.{unit_section}
 unfoldable pub use Rattle.thorin_input.specs.NewUnits.{name_for, new_units, with_unit}
-unfoldable pub use Rattle.thorin_input.specs.Rows.{row_test, unit_row}
 pub use Rattle.thorin_input.specs.Used.{first, has_info, InputFile, opened, Used}
 unfoldable pub use Rattle.thorin_input.specs.Used.{input_file_of}
 pub use Rattle.thorin_package_input.proofs.OffsetsJoined.{joined_read, no_header, number_front}
 pub use Rattle.thorin_package_input.proofs.OffsetsJoined.{strings_again}
 unfoldable pub use Rattle.thorin_package_input.specs.PackagedOffsets.{packaged_offsets}
-pub use Rattle.thorin_package_input.specs.PackagedReading.{range_bytes}
 pub use Rattle.thorin_package_input.specs.ReadStrings.{ReadsAlike}
 pub use Rattle.thorin_strings.proofs.NamedEntries.{range_named}
-unfoldable pub use Rattle.thorin_strings.specs.StringOffsets.{remapped, remapped_entries}
+unfoldable pub use Rattle.thorin_strings.specs.StringOffsets.{remapped}
 pub use Rattle.thorin_join.proofs.Chosen.{is_chosen, rows_of}
 pub use Rattle.thorin_join.specs.Builder.{begun_by, IdentifiersFit, IsFinished, package_or_new}
 unfoldable pub use Rattle.thorin_join.specs.Builder.{order_test, with_input}
-pub use Rattle.thorin_join.specs.FirstUse.{named_in, strings_begun, with_strings}
-pub use Rattle.thorin_join.specs.Join.{GivesNone, GivesUnit, IsPackageOnceWritten, IsUnit, Joins}
-pub use Rattle.thorin_join.specs.Join.{limit_of, same_sort}
+pub use Rattle.thorin_join.specs.Join.{Joins}
 pub use Rattle.thorin_join.specs.Laid.{IsWhole, name_signature, type_signature}
-pub use Rattle.thorin_join.specs.Meaning.{can_join, contributions_by, joining, keys, Meaning}
-pub use Rattle.thorin_join.specs.Meaning.{Members, named_at, source_units, UnitRead, whole_entries}
+pub use Rattle.thorin_join.specs.Meaning.{can_join, joining, keys, Meaning, Members, source_units}
+pub use Rattle.thorin_join.specs.Meaning.{UnitRead, whole_entries}
 pub use Rattle.thorin_join.specs.Represents.{AreApart, AreRowsOf, IsRowOf, IsSound, IsSoundBegun}
 pub use Rattle.thorin_join.specs.Represents.{LieInside, meaning_at, Owns, Represents, Shares}
 pub use Rattle.thorin_join.specs.Represents.{units_begun, units_in, units_of}
 pub use Rattle.thorin_join.specs.Sizes.{bytes_of_contents, bytes_of_strings, offsets_used}
 pub use Rattle.thorin_join.specs.State.{adding, InProgress, names_of, row_at, with_unit_added}
 unfoldable pub use Rattle.thorin_join.specs.State.{with_new_unit, with_new_units, with_source}
-pub use Rattle.thorin_join.specs.Strings.{each_from, offset_of_entry, strings_of}
-unfoldable pub use Rattle.thorin_join.specs.Strings.{strings_at}
+pub use Rattle.thorin_join.specs.Strings.{strings_of}
 pub use Rattle.thorin_input.specs.Held.{unit_bytes}
-pub use Rattle.std.proofs.lemmas.List.Sums.{sum_by-append, sum_by-cons}
-unfoldable pub use Rattle.thorin_join.specs.Meaning.{named_sections}
-pub use Rattle.dwp_elf.proofs.KindCounts.{length-KindsDiffer}
-pub use Rattle.thorin_join.specs.StandApart.{LieBehind}
 pub use Rattle.thorin_strings.proofs.RemapLemmas.{kept_more}
+pub use Rattle.dwp_elf.specs.FileText.{file_text}

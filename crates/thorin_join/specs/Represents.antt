@@ -62,9 +62,8 @@ pub record LieInside (contents : Contents) (row : IndexEntry) : Type 0 where
 -- what a unit shares with others stands in the ranges of its row, whatever strings are added
 pub record Shares (order : Endianness) (contents : Contents) (strings : List (List ℕ))
     (row : IndexEntry) (unit : Meaning) : Type 0 where
-  pub content : (kind : SectionKind) (copied : is_copied kind ≡ true)
-      → part_of (content_of kind contents) (contribution_to kind row) ≡
-      unit.contributions kind copied
+  pub content : (kind : SectionKind) (copied : is_copied kind ≡ true) → part_of
+      (content_of kind contents) (contribution_to kind row) ≡ unit.contributions kind copied
   pub string : (final : List (List ℕ)) → IsTable final
       → take (length strings) final ≡ strings → (i : ℕ)
       → string_in order unit.encoding (data_of final) (part_of (content_of StrOffsets contents)

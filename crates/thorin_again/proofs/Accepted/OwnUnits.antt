@@ -1,33 +1,32 @@
 -- The units of a written package of plain objects are taken as those of an input, and each gets a
 -- row: by a package without units all of them, since no name comes twice; by any other unless a
 -- compilation unit is there already.
-use Rattle.thorin_join.proofs.Rows.OfUnits.{adjustor, own-index, some-index}
+use Rattle.thorin_join.proofs.Rows.OfUnits.{adjustor, own-index, some-index, whole-part}
 use Rattle.thorin_again.proofs.Terms
-use Terms.{Adding, adding, adjusted, adjusted_contribution, all_kept_by, all_kinds, and-false, ap}
-use Terms.{AreApart, arith, Bool, both_ways, by-bool, content_of, Contents, Contribution}
-use Terms.{contribution_put, contribution_to, count_of, DuplicateUnit, DwarfObject, EachRow}
-use Terms.{Encoding, eqb, eqb-false, ErrorValue, false, File, finished-grows, finished-order}
-use Terms.{get_or-map, get_or_from_slice_get, HasRows, Header, identifier_of, identity-shifted}
-use Terms.{Index, IndexEntry, Indexes, InProgress, is_at, is_chosen, is_shared, is_some, is_used}
-use Terms.{IsPlain, IsTable, joined_parts, kind-place, kind_of, KindsDiffer, length, length-append}
-use Terms.{length-map, LieInside, List, lookup, map, moved, name_for, NamesItself, New, new_units}
-use Terms.{NewUnit, None, Ok, Option, own_source, part-there, parts_of, place-put, place_of}
-use Terms.{range-none, range_in, ReadError, refl, Result, row_of, row_test, rows_of, same-self}
+use Terms.{Adding, adding, adjusted, all_kept_by, all_kinds, ap, AreApart, arith, both_ways}
+use Terms.{by-bool, content_of, Contents, Contribution, contribution_put, contribution_to, count_of}
+use Terms.{DwarfObject, EachRow, Encoding, eqb-false, ErrorValue, false, File, finished-grows}
+use Terms.{finished-order, get_or-map, get_or_from_slice_get, HasRows, Header, identifier_of}
+use Terms.{identity-shifted, Index, IndexEntry, Indexes, InProgress, is_at, is_chosen, is_shared}
+use Terms.{is_used, IsPlain, IsTable, joined_parts, kind-place, kind_of, KindsDiffer, length}
+use Terms.{length-append, length-map, LieInside, List, lookup, map, moved, name_for, NamesItself}
+use Terms.{New, new_units, NewUnit, None, Ok, Option, own_source, part-there, parts_of, place-put}
+use Terms.{place_of, range-none, ReadError, refl, Result, row_of, row_test, rows_of, same-self}
 use Terms.{same_name, same_name-sym, same_place, section, SectionKind, slice_get, slice_get_within}
 use Terms.{Some, sound-inside, Source, StrOffsets, subst, sym, true, unit_section, units}
-use Terms.{UnitSection, Used, whole-part, with_first, written_used, ℕ, [], ◌++◌, ◌+◌, ◌<◌, ◌>>=◌}
-use Terms.{◌||◌, ◌∙◌, ◌∷◌, ◌≡◌, ◌≢◌, ◌≤◌, ◌⊎◌}
-use Rattle.std.proofs.Common.{le-leb}
+use Terms.{UnitSection, Used, written_used, [], ℕ, ◌++◌, ◌+◌, ◌<◌, ◌>>=◌, ◌∙◌, ◌∷◌, ◌≡◌, ◌≤◌, ◌⊎◌}
+use Rattle.std.proofs.Common.{Bool, eqb, is_some, le-leb, ◌||◌, ◌≢◌}
 use Rattle.dwp_base.specs.Reading.{read_each}
 use Rattle.thorin_input.specs.Adjusting.{Adjustor, has_column_for, moved_range, other_index}
 use Rattle.thorin_input.specs.Adjusting.{own_index, without_column}
-use Rattle.thorin_input.specs.Rows.{unit_contribution, unit_row}
+use Rattle.thorin_input.specs.Rows.{adjusted_contribution, unit_contribution, unit_row}
 use Rattle.thorin_again.proofs.Offsets.RewrittenAgain.{at-row, by-passing, used-chosen}
 use Rattle.thorin_again.proofs.Opened.Sections.{and-then, answered, behind, Fares, front}
 use Rattle.thorin_again.proofs.Opened.Sections.{rest-differ, section_of, then-fares, Unless}
 use Rattle.thorin_input.specs.NewUnits.{is_met, kept_bytes, none_met, once_test, SeenSections}
-use Rattle.thorin_input.specs.NewUnits.{with_each_read, with_each_section, with_met, with_read}
-use Rattle.thorin_input.specs.NewUnits.{with_section, with_section_at, with_section_in, with_unit}
+use Rattle.thorin_input.specs.NewUnits.{with_each_read, with_each_section, with_first, with_met}
+use Rattle.thorin_input.specs.NewUnits.{with_read, with_section, with_section_at, with_section_in}
+use Rattle.thorin_input.specs.NewUnits.{with_unit}
 use Rattle.thorin_again.proofs.Meant.RowByRow.{IsUnitOf, of-section, place-eq, place-is, read-alone}
 use Rattle.thorin_again.proofs.Meant.RowByRow.{row-there}
 use Rattle.thorin_again.proofs.Opened.Indexes.{finished-shared, IsReadOf, lie-kept}
@@ -36,17 +35,18 @@ use Rattle.thorin_again.proofs.Meant.OneRow.{row-tested}
 use Rattle.thorin_again.proofs.Kept.Names.{keep-names}
 use Rattle.thorin_join.proofs.Parts.ReadAlike.{parts-first, rows-read}
 use Rattle.thorin_join.proofs.Parts.Added.{copied-or-offsets}
+use Rattle.dwp_index.specs.Index.{range_in}
+use Rattle.std.proofs.Math.Bool.{and-false}
+use Rattle.thorin_errors.specs.Errors.{DuplicateUnit}
 
--- ---- a unit's part is moved
-
+-- a unit's part is moved
 abbrev Fine : {X : Type 0} → Result X ErrorValue → Type 0
 Fine r = Unless (λ e. ⊥) r
 
 -- a part of a section which as a whole has so many bytes
 moved-fine : (kind : SectionKind) (id : ℕ) (range : Option Contribution) (x : List ℕ)
-    (before : Contents) → ((r : Contribution) → range ≡ Some r
-    → (r.offset.0 + r.size ≤ length x) × (0 < r.size))
-    → Fine (moved_range kind id range (contribution_put kind x before))
+    (before : Contents) → ((r : Contribution) → range ≡ Some r → (r.offset.0 + r.size ≤ length x)
+    × (0 < r.size)) → Fine (moved_range kind id range (contribution_put kind x before))
 unfolding moved
 moved-fine kind id range x before h = grind (arith, h, place-put kind x before, le-leb)
 
@@ -97,24 +97,20 @@ module _ {encoding : Encoding} {file : File} {indexes : Indexes} {made : InProgr
       rw (some-index indexes.compilations indexes.types is.again.packed, own)
       (by-bool _ (has_column_for kind (own_index a row.id)) (λ mine. rw mine moved)
       (λ none. by-bool _ (has_column_for kind (other_index a row.id))
-      (λ others. rw (none, others) tt)
-      (λ no. rw (none, no) (none-fine kind x before (λ some.
+      (λ others. rw (none, others) tt) (λ no. rw (none, no) (none-fine kind x before (λ some.
       grind (arith, used some, none, no, compilations, types))))))
 
   -- where the wholes lie
   pub row-given : (whole : IndexEntry) (x : SectionKind → List ℕ) (before : Contents)
-      → ((kind : SectionKind) → is_shared kind ≡ true → length (x kind) ≡ length
-      (content_of kind file.contents))
-      → ((kind : SectionKind) → is_shared kind ≡ true → contribution_to kind whole ≡
-      contribution_put kind
-      (x kind) before) → (given : IndexEntry) × (unit_row indexes whole row.id ≡ Ok given)
+      → ((kind : SectionKind) → is_shared kind ≡ true
+      → length (x kind) ≡ length (content_of kind file.contents)) → ((kind : SectionKind)
+      → is_shared kind ≡ true → contribution_to kind whole ≡ contribution_put kind (x kind) before)
+      → (given : IndexEntry) × (unit_row indexes whole row.id ≡ Ok given)
   unfolding unit_row
   row-given whole x before long put = answered _ (and-then (λ e. ⊥) _ _ (each-fine
       (λ kind. unit_contribution indexes row.id kind (contribution_to kind whole)) (λ kind.
       let fine = λ (s : is_shared kind ≡ true). part-fine kind s (x kind) before (long kind s) in
       grind (arith, put kind, fine)) all_kinds) (λ parts are. tt))
-
--- ---- names that are free
 
 -- none of the units has the name
 abbrev pub Free : DwarfObject → New → Type 0
@@ -142,8 +138,6 @@ rows-differ rows apart i j a b at there differ =
     let within = slice_get_within rows i a at in
     let inside = slice_get_within rows j b there in
     grind (arith, apart, flips a.id b.id, id i a, id j a, long, one, other, within, inside)
-
--- ---- section by section: no section of units comes twice
 
 -- the sections of units that are still to come weren't met
 abbrev Unmet : SeenSections → Contents → Type 0
@@ -184,10 +178,9 @@ module _ (Fresh : Type 0) (E : ErrorValue → Type 0)
   Open met new = Fresh → (n : ℕ) (row : IndexEntry) → slice_get made.rows n ≡ Some row
       → is_met (place_of row.id row.debug_types) met ≡ false → Free row.id new
 
-  -- ---- one section
+  -- one section
   module _ (met : SeenSections) (place : UnitSection) (from : Used)
-      (from_is : from.kind ≡ kind_of place)
-      (address : eqb from.address 0 ≡ true)
+      (from_is : from.kind ≡ kind_of place) (address : eqb from.address 0 ≡ true)
       (bytes : from.bytes ≡ content_of (kind_of place) file.contents)
       (unmet : is_met place met ≡ false) where
     unit-fares : (h : Header) (new : New) (row : IndexEntry) (kept : Option (List ℕ))
@@ -267,10 +260,9 @@ module _ (Fresh : Type 0) (E : ErrorValue → Type 0)
   each-taken (c ∷ cs) differ held met new unmet so =
       let later = each-taken cs (rest-differ c cs differ) (λ kind some.
       let is = behind kind c cs differ some in held kind (rw is some) ∙ is) in
-      by-bool _ (eqb (length c.1) 0)
-      (λ none. rw none (later met new (λ place some. unmet place (omega (arith, some))) so))
-      (λ some. rw some (by (unit_section c.0) refl (omega (arith, eqb-false (length c.1) 0 some))
-      later))
+      by-bool _ (eqb (length c.1) 0) (λ none.
+      rw none (later met new (λ place some. unmet place (omega (arith, some))) so)) (λ some.
+      rw some (by (unit_section c.0) refl (omega (arith, eqb-false (length c.1) 0 some)) later))
     where
       by : (place : Option UnitSection) → unit_section c.0 ≡ place → 0 < length c.1
           → ((m : SeenSections) (n : New) → Unmet m cs → Open m n
@@ -286,9 +278,8 @@ module _ (Fresh : Type 0) (E : ErrorValue → Type 0)
           rw (kind, same-self (kind_of place)) (omega arith) in
           let one = section-taken met place (section_of c) kind refl bytes (unmet place counted) new
           so in
-          rw (unmet place counted, and-false) (then-fares E
-          (λ next. (next.0 ≡ with_met place met) × Open next.0 next.1) (λ next. Unit {0})
-          (_ >>= λ n. Ok (with_met place met, n)) _
+          rw (unmet place counted, and-false) (then-fares E (λ next. (next.0 ≡ with_met place met)
+          × Open next.0 next.1) (λ next. Unit {0}) (_ >>= λ n. Ok (with_met place met, n)) _
           (then-fares E (Open (with_met place met)) _ _ _ one (λ n taken. (refl, taken)))
           (λ next goes. later next.0 next.1 (λ other some.
           let same = place-eq place other in

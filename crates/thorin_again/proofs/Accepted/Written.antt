@@ -1,30 +1,28 @@
 -- A written package of plain objects of one encoding is accepted: by any package of its byte
 -- order, unless it is foreseen otherwise, and by a new one.
 use Rattle.thorin_again.proofs.Terms
-use Terms.{abbreviations_test, adding, All-from_recursion, all_meant, AllOf, ap, append_assoc}
-use Terms.{arith, Bool, both, cond, content_of, counts_once, data_of, DwarfObject, elf_of, Encoding}
-use Terms.{ErrorValue, false, File, file_encoding, file_text, finish_test, finished-is}
-use Terms.{finished-order, finished-own, finished-strings, has_content, has_sections}
-use Terms.{HaveEncodingOf, HoldsOwn, HoldsPlain, Indexes, indexes_of, inl, InProgress, input-keeps}
-use Terms.{input_meaning, inr, is_used, IsEquivalence, IsFinishedState, IsForeseen, IsOwn}
-use Terms.{IsPermutation, IsPermutation-map, IsPlain, IsSoundBegun, joining, Joins, keys}
-use Terms.{keys-units, KindsDiffer, length, length-append, length-filter, length-map, limit_of}
-use Terms.{List, list_any-append, list_any_none, look_limit, Meaning, Members, nat_tests, new-sound}
-use Terms.{new_units, None, not, Ok, Option, order_of, own_encoding, own_source, package_or_new}
-use Terms.{packs_again, Parts, parts_of, refl, rewritten, same_name, same_name-self, same_name-true}
-use Terms.{same_sort, SectionKind, Some, start, State, subst, sym, taken, true, units_begun}
-use Terms.{units_in, units_of, with_source, with_source_or_new, written_elf, written_object, ℕ, []}
-use Terms.{◌++◌, ◌<◌, ◌||◌, ◌∙◌, ◌∷◌, ◌≡◌}
+use Terms.{abbreviations_test, adding, All-from_recursion, AllOf, ap, append_assoc, arith, both}
+use Terms.{content_of, counts_once, data_of, DwarfObject, elf_of, Encoding, ErrorValue, false, File}
+use Terms.{file_encoding, file_text, finished-is, finished-order, finished-own, finished-strings}
+use Terms.{HoldsOwn, HoldsPlain, Indexes, indexes_of, inl, InProgress, input-keeps, inr, is_used}
+use Terms.{IsEquivalence, IsForeseen, IsOwn, IsPlain, IsSoundBegun, joining, keys, keys-units}
+use Terms.{KindsDiffer, length, length-append, length-map, List, list_any-append, list_any_none}
+use Terms.{Meaning, Members, nat_tests, new-sound, new_units, None, Ok, Option, own_encoding}
+use Terms.{own_source, package_or_new, Parts, parts_of, refl, rewritten, same_name, same_name-self}
+use Terms.{same_name-true, SectionKind, Some, subst, sym, true, units_begun, units_in, units_of}
+use Terms.{with_source, written_elf, written_object, [], ℕ, ◌++◌, ◌<◌, ◌∙◌, ◌∷◌, ◌≡◌}
 use Rattle.thorin_again.proofs.Lists.{answers-whole, AreEncoded, Finds, first-of, input-order}
 use Rattle.thorin_again.proofs.Lists.{meant_or, own-encoded, there-back}
-use Rattle.std.proofs.Common.{ltb-true, nat_lt}
-use Rattle.thorin_join.specs.Builder.{begun_by}
-use Rattle.std.proofs.lemmas.List.Sorted.{IsPermutation-middle, sum_by-IsPermutation}
+use Rattle.std.proofs.Common.{Bool, cond, IsPermutation, ltb-true, nat_lt, not, ◌||◌}
+use Rattle.thorin_join.specs.Builder.{begun_by, finish_test, IsFinishedState, order_of, start}
+use Rattle.thorin_join.specs.Builder.{State, taken, with_source_or_new}
+use Rattle.std.proofs.lemmas.List.Sorted.{IsPermutation-map, IsPermutation-middle}
+use Rattle.std.proofs.lemmas.List.Sorted.{sum_by-IsPermutation}
 use Rattle.std.specs.List.{IsDistinct}
 use Rattle.std.proofs.lemmas.Simd.{map-map}
 use Rattle.std.proofs.lemmas.Map.Keys.{IsDistinct-from_apart, IsDistinct-IsPermutation}
 use Rattle.indexmap.proofs.MapLemmas.{lookup_permutation}
-use Rattle.thorin_join.specs.Join.{IsPackageOf}
+use Rattle.thorin_join.specs.Join.{IsPackageOf, Joins, limit_of, look_limit, same_sort}
 use Rattle.thorin_again.proofs.Accepted.OwnUnits.{flips, taken-all}
 use Rattle.thorin_again.specs.OwnAccepted.{IsAccepted, IsAcceptedByNew}
 use Rattle.thorin_again.proofs.Opened.Indexes.{finished-shared, in-format, lie-kept, lie-used}
@@ -35,11 +33,14 @@ use Rattle.thorin_again.proofs.Opened.Sections.{object-written, opened-elf, own-
 use Rattle.thorin_again.proofs.Opened.Sections.{present-written, Unless}
 use Rattle.thorin_again.proofs.Kept.OneEncoding.{begun-now}
 use Rattle.thorin_again.proofs.Meant.Package.{again-is}
+use Rattle.thorin_again.specs.Again.{all_meant, HaveEncodingOf}
+use Rattle.thorin_again.specs.Own.{has_content, has_sections, packs_again}
+use Rattle.std.proofs.lemmas.List.Sums.{length-filter}
+use Rattle.thorin_join.specs.Meaning.{input_meaning}
 use Rattle.dwp_base.specs.declared.section.SectionKind.TheVariants as kinds
 use Rattle.dwp_units.specs.declared.unit.UnitSection.TheVariants as places
 
--- ---- names
-
+-- names
 equivalence : IsEquivalence same_name
 equivalence = record {
   refl = same_name-self;
@@ -60,18 +61,14 @@ joining-apart names (u ∷ us) h =
     let rest = joining-apart (names ++ u.0 ∷ []) us in
     grind (arith, new, there, h, rest, append_assoc names (u.0 ∷ []) (keys us))
 
--- ---- units
-
 -- the units that were joined alone are those that the input means
-alone-units : (bytes : List ℕ) (us now : Members) → IsDistinct same_name
-    (keys us) → Joins bytes [] now
-    → ((meant : List (DwarfObject × Option Meaning)) → input_meaning bytes ≡ Ok meant
-    → IsPermutation (all_meant us) meant) → IsPermutation us now
+alone-units : (bytes : List ℕ) (us now : Members) → IsDistinct same_name (keys us)
+    → Joins bytes [] now → ((meant : List (DwarfObject × Option Meaning))
+    → input_meaning bytes ≡ Ok meant → IsPermutation (all_meant us) meant) → IsPermutation us now
 alone-units bytes us now distinct joins means =
     let perm = means joins.units joins.meaning in
     let apart = IsDistinct-IsPermutation same_name flips (keys (all_meant us)) (keys joins.units)
-    (IsPermutation-map (λ u. u.0) (all_meant us) joins.units perm)
-    (rw map-map distinct) in
+    (IsPermutation-map (λ u. u.0) (all_meant us) joins.units perm) (rw map-map distinct) in
     let units : joins.units ≡ all_meant joins.added = sym (joining-apart [] joins.units apart)
     ∙ joins.joined in
     let full = IsPermutation-map meant_or (all_meant us) _ (rw units at perm) in
@@ -86,13 +83,11 @@ alone-finds us vs bytes perm distinct p name =
     let same = lookup_permutation equivalence us vs perm apart (same_name name)
     (equivalence.congr name) in
     let test : DwarfObject × Meaning → Bool = λ u. same_sort name u.0 in
-    let limit : look_limit us name ≡ look_limit vs name = ap limit_of (length-filter test us
-    ∙ sym (sum_by-IsPermutation (λ u. cond (test u) 1 0) us vs perm)
-    ∙ sym (length-filter test vs)) in
+    let limit : look_limit us name ≡ look_limit vs name = ap limit_of (length-filter test us ∙ sym
+    (sum_by-IsPermutation (λ u. cond (test u) 1 0) us vs perm) ∙ sym (length-filter test vs)) in
     rw (limit, ← same) (p.finds name)
 
--- ---- what the state of a written file has
-
+-- what the state of a written file has
 data-there : (strings : List (List ℕ)) → 0 < length strings → 0 < length (data_of strings)
 data-there [] h = absurd (omega (arith, h))
 data-there (s ∷ ss) h = simp length-append (omega arith)
@@ -159,8 +154,6 @@ module _ (state : State) (file : File) (sound : IsSoundBegun state.begun) (holds
       (lie-kept _ _ has.sound.laid f.finished places.Types) some
   kind-used kind some once =
       grind (arith, plain.named kind, finished-shared f.made file f.finished kind)
-
-  -- ---- the file's bytes are taken, as far as its parts and its units are
 
   -- they are, or refused with an error of some sort, where its string offsets and its units are
   abbrev TakesUnless : (ErrorValue → Type 0) → Indexes → InProgress → Type 0

@@ -2,29 +2,32 @@
 -- turn: each section that units share has a part that a row names, where plain objects add units;
 -- and rows have contributions only to sections in the format of their input's version.
 use Rattle.thorin_again.proofs.Terms
-use Terms.{Adding, adding, adjusted, All-weaker, AllPass-from_list_all, AllSo, ap, AreAdded, arith}
-use Terms.{bind-was, by-bool, content-with_bytes, content-with_parts, content_of, Contents}
-use Terms.{Contribution, contribution_put, contribution_to, DwarfObject, Each, each-all}
-use Terms.{each-joining, EachRow, Encoding, eqb, eqb-true, ErrorValue, false, get_or_from_slice_get}
-use Terms.{Goes, has_encoding, HasNamedParts, Header, IndexEntry, inl, InProgress, input_encoding}
-use Terms.{inr, is-same, is_in_format, is_package, is_shared, is_some, is_used, IsAdded, IsInFormat}
-use Terms.{IsKnown, joined_parts, joined_parts-other, joining, keys, kind-place, kind_of, known-in}
-use Terms.{length, length-append, List, list_all, list_any, list_any-append, Made, moved, nat_tests}
-use Terms.{News, NewUnit, None, Ok, Option, or-right, package_or_new, Parts, Reads}
+use Terms.{Adding, adding, adjusted, All-weaker, ap, AreAdded, arith, bind-was, by-bool, content_of}
+use Terms.{Contents, Contribution, contribution_put, contribution_to, DwarfObject, Each, each-all}
+use Terms.{each-joining, EachRow, Encoding, ErrorValue, false, get_or_from_slice_get, has_encoding}
+use Terms.{HasNamedParts, Header, IndexEntry, inl, InProgress, input_encoding, inr, is-same}
+use Terms.{is_in_format, is_package, is_shared, is_used, joined_parts, joining, keys, kind-place}
+use Terms.{kind_of, length, length-append, List, list_all, list_any, list_any-append, Made, moved}
+use Terms.{nat_tests, NewUnit, None, Ok, Option, or-right, package_or_new, Parts, Reads}
 use Terms.{recursion_from_All, refl, row_at, same-begun, same-ok, same_encoding, section}
 use Terms.{section_has, SectionKind, sections-are, slice_get_within, Source, source-made, subst}
-use Terms.{sym, takes, true, UnitRead, units, units-go, UnitSection, Used, WasRead, whole-part}
-use Terms.{with_all_parts, with_each_part, with_input, with_new_units, with_part, with_unit_added}
-use Terms.{ℕ, [], ◌++◌, ◌<◌, ◌∙◌, ◌∷◌, ◌≡◌}
-use Rattle.thorin_join.proofs.Parts.Added.{each-unit as unit-by-unit, step}
-use Rattle.thorin_join.proofs.Units.ReadInTurn.{units-joined, UnitsJoined}
+use Terms.{sym, takes, true, UnitRead, units, UnitSection, Used, WasRead, with_all_parts}
+use Terms.{with_input, with_new_units, with_unit_added, [], ℕ, ◌++◌, ◌<◌, ◌∙◌, ◌∷◌, ◌≡◌}
+use Rattle.thorin_join.proofs.Parts.Added.{content-with_bytes, content-with_parts}
+use Rattle.thorin_join.proofs.Parts.Added.{each-unit as unit-by-unit, joined_parts-other, step}
+use Rattle.thorin_join.proofs.Units.ReadInTurn.{AllSo, IsAdded, News, units-joined, UnitsJoined}
 use Rattle.thorin_join.proofs.Rows.OfUnits.{adjusted-plain, is-unit_row, IsUnitRow, whole-else}
+use Rattle.thorin_join.proofs.Rows.OfUnits.{whole-part}
 use Rattle.thorin_join.specs.StandApart.{rows_begun}
 use Rattle.thorin_join.proofs.Rows.OneAdded.{row-part}
 use Rattle.std.proofs.ByRecursion.{All-append}
+use Rattle.std.proofs.Common.{eqb, eqb-true, is_some}
+use Rattle.thorin_join.proofs.Units.Whole.{Goes, IsKnown, known-in, units-go}
+use Rattle.thorin_again.specs.InFormat.{IsInFormat}
+use Rattle.thorin_input.specs.Parts.{with_each_part, with_part}
+use Rattle.std.proofs.lemmas.List.Sums.{AllPass-from_list_all}
 
--- ---- encodings that are alike are one
-
+-- encodings that are alike are one
 pub encoding-eq : (a b : Encoding) → same_encoding a b ≡ true → a ≡ b
 encoding-eq a b h = grind (arith, nat_tests)
 
@@ -50,13 +53,10 @@ of-one source sections has =
     (known-in order place used.bytes k unit there, same))
     sections (recursion_from_All _ sections all)
 
--- ---- units that are added
-
 -- what holds of a unit for one that was read
-each-new : (add : Adding) (P : DwarfObject × NewUnit → Type 0)
-    (Q R : DwarfObject × UnitRead → Type 0) → ((n : DwarfObject × NewUnit)
-    (r : DwarfObject × UnitRead) → IsAdded add n r → Q r → R r → P n) → (ns : News) (rs : Reads)
-    → AreAdded add ns rs → Each Q rs → Each R rs → Each P ns
+each-new : (add : Adding) (P : DwarfObject × NewUnit → Type 0) (Q R : DwarfObject × UnitRead
+    → Type 0) → ((n : DwarfObject × NewUnit) (r : DwarfObject × UnitRead) → IsAdded add n r → Q r
+    → R r → P n) → (ns : News) (rs : Reads) → AreAdded add ns rs → Each Q rs → Each R rs → Each P ns
 each-new add P Q R f [] rs are h k = tt
 each-new add P Q R f (n ∷ ns) rs are h k = grind (arith, f n, each-new add P Q R f ns)
 
@@ -74,13 +74,11 @@ pub shared-row : (shared : IndexEntry) (c : Contents) (name : DwarfObject) (x : 
     → contribution_to kind (row_at shared c name x place) ≡ contribution_to kind shared
 shared-row shared c name x place kind is = grind arith
 
--- ---- a plain object that was added
-
+-- a plain object that was added
 pub plain-part : (source : Source) (made : InProgress) (parts : Contents) (n : DwarfObject
     × NewUnit) (r : DwarfObject × UnitRead) → is_package source.indexes ≡ false
-    → IsAdded (adding source made parts) n r
-    → (kind : SectionKind) → is_shared kind ≡ true → contribution_to kind n.1.row ≡
-    contribution_put kind
+    → IsAdded (adding source made parts) n r → (kind : SectionKind) → is_shared kind ≡ true
+    → contribution_to kind n.1.row ≡ contribution_put kind
     (joined_parts kind parts) made.file.contents
 plain-part source made parts n r plain is kind shared =
     same-ok {E = ErrorValue} _ _
@@ -110,9 +108,8 @@ module _ {source : Source} {before now : InProgress} (a : Made source before now
       → Each Q a.new.units → P parted → P now
   with-each P Q keeps new h = subst P a.is (each-added P Q keeps parted a.new.units new h)
 
-  pub with-any : (P : InProgress → Type 0)
-      → ((p : InProgress) (u : DwarfObject × NewUnit) → P p → P (with_unit_added p u))
-      → P parted → P now
+  pub with-any : (P : InProgress → Type 0) → ((p : InProgress) (u : DwarfObject × NewUnit) → P p
+      → P (with_unit_added p u)) → P parted → P now
   with-any P keeps = with-each P (λ u. Unit {0}) (λ p u one. keeps p u) (each-all _ (λ u. tt) _)
 
   pub order-added : now.file.order ≡ before.file.order
@@ -125,22 +122,19 @@ module _ {source : Source} {before now : InProgress} (a : Made source before now
       (λ p. content_of kind p.file.contents ≡ content_of kind before.file.contents ++ joined_parts
       kind a.parts)
       (λ p u h. let put = content-with_bytes kind (kind_of u.1.place) u.1.bytes p.file.contents in
-      grind (arith, put, h, shared))
-      (content-with_parts kind a.parts before.file.contents)
+      grind (arith, put, h, shared)) (content-with_parts kind a.parts before.file.contents)
 
   -- what a unit more makes so, where one was added
-  pub once-more : length before.rows < length now.rows
-      → (P : InProgress → Type 0) (Q : DwarfObject × NewUnit → Type 0)
-      → ((p : InProgress) (u : DwarfObject × NewUnit) → Q u → P (with_unit_added p u))
-      → Each Q a.new.units → P now
+  pub once-more : length before.rows < length now.rows → (P : InProgress → Type 0) (Q : DwarfObject
+      × NewUnit → Type 0) → ((p : InProgress) (u : DwarfObject × NewUnit) → Q u
+      → P (with_unit_added p u)) → Each Q a.new.units → P now
   once-more more P Q makes new = with-each (λ p. length before.rows < length p.rows → P p) Q
       (λ p u has k less. makes p u has) new (λ less. absurd (omega (arith, less))) more
 
   -- what holds of each unit that was added, for the unit that was read
-  pub news-are : (T : UnitSection → Header → Type 0)
-      → Each (AllSo source T) source.object.sections → (P : DwarfObject × NewUnit → Type 0)
-      → ((n : DwarfObject × NewUnit) (r : DwarfObject × UnitRead)
-      → IsAdded (adding source before a.parts) n r → Goes source.object.order r
+  pub news-are : (T : UnitSection → Header → Type 0) → Each (AllSo source T) source.object.sections
+      → (P : DwarfObject × NewUnit → Type 0) → ((n : DwarfObject × NewUnit) (r : DwarfObject
+      × UnitRead) → IsAdded (adding source before a.parts) n r → Goes source.object.order r
       → WasRead source T r → P n) → Each P a.new.units
   news-are T read P f =
       let held = keys (adding source before a.parts).held in
@@ -176,8 +170,6 @@ module _ {source : Source} {before now : InProgress} (a : Made source before now
       (λ p u has. last p u ∙ or-right (list_any test p.rows) _ (rw (has p.file.contents) refl))
       (rows-share plain kind shared (λ o. is_some o ≡ true) (rw there refl)))
 
--- ---- sections in the format
-
 -- a section of this place is in the format
 abbrev pub InFormat : Source → UnitSection → Header → Type 0
 InFormat source place unit = is_in_format source.encoding (kind_of place) ≡ true
@@ -193,8 +185,7 @@ each-format source (s ∷ ss) before after h =
       each-format source ss next.0 after next.2,
     )
 
--- ---- sections outside the format have no parts
-
+-- sections outside the format have no parts
 module _ (source : Source) (kind : SectionKind)
     (none : is_in_format source.encoding kind ≡ false) where
   part-outside : (before : Parts) (s : Used) (next : Parts) → with_part source before s ≡ Ok next
@@ -214,8 +205,7 @@ module _ (source : Source) (kind : SectionKind)
       let next = bind-was (with_part source before s) _ after h in
       parts-outside ss next.0 after next.2 ∙ part-outside before s next.0 next.1
 
--- ---- the row of a unit
-
+-- the row of a unit
 module _ {source : Source} {before now : InProgress} (a : Made source before now) where
   module _ (n : DwarfObject × NewUnit) (r : DwarfObject × UnitRead)
       (is : IsAdded (adding source before a.parts) n r) where
@@ -231,8 +221,7 @@ module _ {source : Source} {before now : InProgress} (a : Made source before now
     unfolding adjusted moved
     nothing-outside kind none =
         let else = whole-else source.encoding before.file.contents a.parts in
-        by-bool _ (is_shared kind)
-        (λ shared.
+        by-bool _ (is_shared kind) (λ shared.
         let parts = parts-outside source kind none source.object.sections _ _ a.parts_are in
         let put = whole-part source.encoding before.file.contents a.parts kind shared in
         let absent : contribution_to kind whole ≡ None = put ∙ rw parts refl in
@@ -254,19 +243,15 @@ module _ {source : Source} {before now : InProgress} (a : Made source before now
         grind (arith, new-encoding c, some, format)
 
   -- what holds of rows in the format with the input's encoding stays so of all rows
-  pub rows-kept : (P : IndexEntry → Type 0)
-      → ((row : IndexEntry) → IsInFormat row → row.encoding ≡ source.encoding → P row)
-      → EachRow P before.rows → EachRow P now.rows
+  pub rows-kept : (P : IndexEntry → Type 0) → ((row : IndexEntry) → IsInFormat row
+      → row.encoding ≡ source.encoding → P row) → EachRow P before.rows → EachRow P now.rows
   rows-kept P new old =
-      with-each a (λ p. EachRow P p.rows) (RowHas P)
-      (λ p u has all. All-append P p.rows (row_with p.file.contents u ∷ [])
-      all (has p.file.contents, tt))
-      (news-are a (InFormat source)
+      with-each a (λ p. EachRow P p.rows) (RowHas P) (λ p u has all. All-append P p.rows
+      (row_with p.file.contents u ∷ []) all (has p.file.contents, tt)) (news-are a (InFormat source)
       (each-format source source.object.sections _ _ a.parts_are) (RowHas P)
       (λ n r is goes w c. new (row_with c n) (new-format n r is w c) (new-encoding n r is c))) old
 
--- ---- an input
-
+-- an input
 pub input-rows : (P : IndexEntry → Type 0) (bytes : List ℕ) (begun now : Option InProgress)
     → ((row : IndexEntry) → IsInFormat row → input_encoding bytes ≡ Ok row.encoding → P row)
     → with_input bytes begun ≡ Ok now → EachRow P (rows_begun begun) → EachRow P (rows_begun now)

@@ -4,33 +4,32 @@
 -- object's encoding, and its name's unit goes there.
 use Rattle.thorin_again.proofs.Terms
 use Terms.{abbreviations_for, adding, ap, append-nil, append_assoc, arith, bind-was, by-bool}
-use Terms.{content-put, content-with_bytes, content-with_parts, content_of, Contents}
-use Terms.{contribution_to, drop-append-le, DwarfObject, Each, each-all, each-named, EachRow}
-use Terms.{Encoding, encoding_of, Endianness, ErrorValue, false, first, first_encoding, front-long}
-use Terms.{Goes, goes-alone, grows-with_parts, HasFront, HasNamedUnits, Header, header_at, identity}
-use Terms.{identity-shifted, identity-sort, IndexEntry, InProgress, Input, is-same, is_package}
-use Terms.{IsAdded, IsSound, joined_parts, joining, keys, keys-held, kind_of, known-in, length}
-use Terms.{length-append, LieInside, List, list_all, list_any, list_any-append, Listed, Made, map}
-use Terms.{map-append, more, name-identity, name_for, name_signature, named_each, named_sections}
-use Terms.{names_of, NamesItself, newer-five, News, NewUnit, nil_from_length, None, Ok, older_at}
-use Terms.{Option, or-right, own-place, part_of, parts-copied, place_for, place_of, ReadError}
-use Terms.{Reads, refl, row-name, row-own, row_at, same-ok, same_kind, same_name, same_name-self}
-use Terms.{same_name-true, section, section_has, SectionKind, slice_get, Some, sound-inside, Source}
-use Terms.{subst, sym, true, type_signature, unit_at, unit_bytes, unit_section, UnitRead, units}
-use Terms.{units_within, Used, WasRead, whole_behind, with_bytes, with_new_units, with_parts}
-use Terms.{with_unit_added, ℕ, [], ◌++◌, ◌<◌, ◌∙◌, ◌∷◌, ◌≡◌, ◌⊎◌}
-use Rattle.dwp_units.proofs.Readings.{takes_more}
+use Terms.{content_of, Contents, contribution_to, drop-append-le, DwarfObject, Each, each-all}
+use Terms.{EachRow, Encoding, encoding_of, Endianness, ErrorValue, false, first, first_encoding}
+use Terms.{grows-with_parts, HasFront, HasNamedUnits, Header, header_at, identity-shifted}
+use Terms.{IndexEntry, InProgress, Input, is-same, is_package, IsSound, joined_parts, joining, keys}
+use Terms.{keys-held, kind_of, length, length-append, LieInside, List, list_all, list_any}
+use Terms.{list_any-append, Made, map, map-append, name-identity, name_for, name_signature}
+use Terms.{NamesItself, newer-five, NewUnit, nil_from_length, None, Ok, older_at, Option, or-right}
+use Terms.{part_of, place_for, place_of, ReadError, Reads, refl, row_at, same-ok, same_kind}
+use Terms.{same_name, same_name-self, same_name-true, section, section_has, SectionKind, slice_get}
+use Terms.{Some, sound-inside, Source, subst, sym, true, type_signature, unit_at, unit_bytes}
+use Terms.{unit_section, UnitRead, units, units_within, Used, WasRead, with_bytes, with_new_units}
+use Terms.{with_unit_added, [], ℕ, ◌++◌, ◌<◌, ◌∙◌, ◌∷◌, ◌≡◌, ◌⊎◌}
+use Rattle.dwp_units.proofs.Readings.{more, takes_more}
 use Rattle.dwp_units.specs.Units.{older_type_at}
-use Rattle.thorin_join.proofs.Rows.OneAdded.{Grows, grows-trans, grows-with_bytes, keep-part}
+use Rattle.thorin_join.proofs.Rows.OneAdded.{content-put, front-long, Grows, grows-trans}
+use Rattle.thorin_join.proofs.Rows.OneAdded.{grows-with_bytes, keep-part, own-place, row-name}
+use Rattle.thorin_join.proofs.Rows.OneAdded.{row-own, whole_behind}
 use Rattle.dwp_dwarf.proofs.Tables.{next_takes, said}
 use Rattle.dwp_dwarf.proofs.Offsets.{from_is, from_within}
 use Rattle.dwp_dwarf.specs.Offsets.{from_at}
 use Rattle.dwp_dwarf.specs.Grammar.{DeclarationsLie, IsBehindOthers}
 use Rattle.dwp_dwarf.specs.Abbreviations.{Declaration, declaration}
-use Rattle.thorin_identity.specs.Identity.{root_identity}
-use Rattle.thorin_join.specs.Meaning.{joined_content, named_at}
-use Rattle.thorin_join.specs.State.{with_new_unit}
-use Rattle.thorin_join.proofs.Units.ReadInTurn.{added-keys}
+use Rattle.thorin_identity.specs.Identity.{identity, root_identity}
+use Rattle.thorin_join.specs.Meaning.{joined_content, named_at, named_each, named_sections}
+use Rattle.thorin_join.specs.State.{names_of, with_new_unit}
+use Rattle.thorin_join.proofs.Units.ReadInTurn.{added-keys, each-named, IsAdded, Listed, News}
 use Rattle.thorin_again.proofs.Kept.EachUnit.{each-added, each-format, InFormat, joined, news-are}
 use Rattle.thorin_again.proofs.Kept.EachUnit.{of-one, OfOne, order-added, parted, plain-part}
 use Rattle.thorin_again.proofs.Kept.EachUnit.{shared-row, with-any, with-each}
@@ -39,9 +38,11 @@ use Rattle.thorin_join.proofs.Rows.AllAdded.{AllNew, can-lie, joined-new, names-
 use Rattle.dwp_base.specs.declared.section.SectionKind.TheVariants as kinds
 use Rattle.dwp_units.specs.declared.unit.UnitSection.TheVariants as places
 use Rattle.std.proofs.ByRecursion.{All-append}
+use Rattle.thorin_input.specs.Parts.{with_parts}
+use Rattle.thorin_join.proofs.Units.Whole.{Goes, goes-alone, identity-sort, known-in}
+use Rattle.thorin_join.proofs.Parts.Added.{content-with_bytes, content-with_parts, parts-copied}
 
--- ---- what is read of a table of abbreviations stays where more bytes follow
-
+-- what is read of a table of abbreviations stays where more bytes follow
 module _ (rest : List ℕ) where
   -- declarations lie so where more bytes follow
   lie-more : (ds : List (ℕ × Declaration)) (i left : Input) → DeclarationsLie i ds left
@@ -63,8 +64,7 @@ module _ (rest : List ℕ) where
       record { others = s.1.others; lie = lie; other = s.1.other } in
       (said code (more i rest) (Ok (Some d))).1 (more s.0 rest, behind, (more s.2.0 rest, next))
 
-  -- ---- the identity of a unit
-
+  -- the identity of a unit
   from-stays : (offset : ℕ) (i table : Input) → from_at offset i ≡ Ok table
       → from_at offset (more i rest) ≡ Ok (more table rest)
   from-stays offset i table h =
@@ -84,8 +84,7 @@ pub identity-stays : (section : Input) (rest : List ℕ) (unit : Header) (name :
 unfolding identity
 identity-stays section rest unit name h = grind (arith, root-stays rest section unit name)
 
--- ---- the abbreviations of a row begin with those of the first section
-
+-- the abbreviations of a row begin with those of the first section
 first-front : (kind : SectionKind) (sections : List Used)
     → HasFront (first kind sections) (joined_content kind sections)
 first-front kind [] = record { rest = []; is = refl }
@@ -98,8 +97,7 @@ put-stays front x {whole = whole} same h =
     let middle = part-middle front x h.rest whole (length front) in
     grind (arith, nil_from_length x, append_assoc front x h.rest, middle, h.is)
 
--- ---- rows name their units, however contents grow
-
+-- rows name their units, however contents grow
 pub keep-names : (order : Endianness) (encoding : Encoding) (c d : Contents) → Grows c d
     → (rows : List IndexEntry) → EachRow (LieInside c) rows
     → EachRow (NamesItself order encoding c) rows → EachRow (NamesItself order encoding d) rows
@@ -202,8 +200,7 @@ module _ {source : Source} {before now : InProgress} (plain : is_package source.
       ) in
       rw (order-added a ∙ sym same) (all.1 now.file.contents (grows-self _))
 
--- ---- a unit in info is of version 5, or no type unit
-
+-- a unit in info is of version 5, or no type unit
 unit-none : (i rest : Input) (u : Header) → unit_at places.Info i ≡ Ok (u, rest)
     → (u.encoding.version ≡ 5) ⊎ (type_signature u.unit_type ≡ None)
 unfolding unit_at header_at older_at older_type_at
@@ -213,8 +210,6 @@ unit-none i rest u h = grind (arith, newer-five)
 first-read : (encoding : Encoding) (reads : Listed) → first_encoding reads ≡ Ok encoding
     → (unit : Header) × (slice_get reads 0 ≡ Some (Ok unit)) × (unit.encoding ≡ encoding)
 first-read encoding reads h = grind arith
-
--- ---- its name
 
 -- units of the name go to info, wherever they stand
 abbrev GoesToInfo : Encoding → DwarfObject → Type 0
@@ -246,8 +241,7 @@ module _ (source : Source) (encoding : Encoding) where
       let a = bind-was (named_at source from (unit_section from.kind)) _ all h in
       let b = bind-was (named_sections source rest) _ all a.2 in
       rw (← same-ok {E = ErrorValue} (a.0 ++ b.0) all b.2, map-append (λ u. u.0) a.0 b.0)
-      (by-bool _ (same_kind from.kind kinds.Info)
-      (λ is.
+      (by-bool _ (same_kind from.kind kinds.Info) (λ is.
       let f = first-read encoding _ (rw is at e) in
       let known = (known-in source.object.order places.Info from.bytes 0 f.0 f.1).0 in
       let read : named_at source from (Some places.Info) ≡ Ok a.0 =
@@ -260,8 +254,6 @@ module _ (source : Source) (encoding : Encoding) where
       (head.0, there ∙ rw head.1 refl, goes))
       (λ other. let l = first-named rest b.0 b.1 (rw other at e) in
       (l.0, list_any-append (same_name l.0) (keys a.0) (keys b.0) ∙ or-right _ _ l.1, l.2)))
-
--- ---- units that are added
 
 -- info has bytes, and more where a unit is added
 abbrev pub HasInfo : InProgress → Type 0
@@ -316,8 +308,7 @@ info-there {source} {before} {now} a is info =
     let there = list_any-append (same_name n.0) held (keys j.all) ∙ or-right _ _ n.1 in
     let names = joining-there n.0 held j.all there in
     let added = added-keys add a.new.units (joining held j.all) j.are in
-    by-bool _ (list_any (same_name n.0) held)
-    (λ old.
+    by-bool _ (list_any (same_name n.0) held) (λ old.
     let some = (elim before.rows as (λ rows. IsThere n.0 (map (λ (r : IndexEntry). r.id) rows)
     → 0 < length rows) [ [] ↦ λ e. absurd cc | r ∷ rs ↦ λ e. omega arith ])
     (rw (keys-held before) at old) in

@@ -5,19 +5,20 @@ use Terms.{All, All-append, All-cons, All-nil, All-weaker, all_there, ap, arith,
 use Terms.{data_of, DwarfObject, Each, each-all, each-joining, each-mapped, Elf, Encoding}
 use Terms.{ErrorValue, false, file_encoding, first, has_info, HasTiledOffsets, HoldsOwn, HoldsPlain}
 use Terms.{IfSome, IfSome_then, index_in, IndexEntry, Indexes, indexes_of, inl, InProgress}
-use Terms.{input-keeps, input_meaning, InputFile, inr, is_index, is_package, is_plain, IsPlain}
-use Terms.{IsSoundBegun, Joins, keys, length, length-map, List, list_all, list_any, made-order}
-use Terms.{Meaning, meaning_by, meant, Members, names_in, nat_tests, new-sound, new-units, None}
-use Terms.{object_meaning, Ok, Option, own_encoding, package_or_new, Ranges, Reads, refl, same-ok}
-use Terms.{same_Some, section_has, Some, Source, source-made, source_meaning, source_units, State}
-use Terms.{subst, sym, taken, Takes, takes, TakesUnits, true, TuIndex, unit_meaning, UnitRead}
-use Terms.{units_begun, units_of, Used, with_input, ℕ, [], ◌<◌, ◌↔◌, ◌∙◌, ◌∷◌, ◌≡◌}
+use Terms.{input-keeps, InputFile, inr, is_index, is_package, is_plain, IsPlain, IsSoundBegun, keys}
+use Terms.{length, length-map, List, list_all, list_any, made-order, Meaning, Members, nat_tests}
+use Terms.{new-sound, new-units, None, Ok, Option, own_encoding, package_or_new, Ranges, Reads}
+use Terms.{refl, same-ok, same_Some, section_has, Some, Source, source-made, source_units, subst}
+use Terms.{sym, Takes, takes, TakesUnits, true, TuIndex, UnitRead, units_begun, units_of, Used}
+use Terms.{with_input, [], ℕ, ◌<◌, ◌↔◌, ◌∙◌, ◌∷◌, ◌≡◌}
 use Rattle.thorin_again.proofs.Kept.EachUnit.{encoding-eq, named-kept}
 use Rattle.thorin_again.proofs.Kept.Names.{info-there, names-kept}
 use Rattle.thorin_again.proofs.Offsets.RewrittenAgain.{no-turn}
 use Rattle.thorin_again.proofs.Offsets.Tiled.{tiled-kept}
-
--- ---- what an input means
+use Rattle.thorin_join.specs.Meaning.{input_meaning, meaning_by, meant, object_meaning}
+use Rattle.thorin_join.specs.Meaning.{source_meaning, unit_meaning}
+use Rattle.thorin_join.specs.Join.{Joins}
+use Rattle.thorin_join.specs.Builder.{names_in, State, taken}
 
 -- a unit has the encoding of its input, and the bytes that were read
 abbrev pub MadeOf : Source → List ℕ → Meaning → Type 0
@@ -33,8 +34,7 @@ unit-made : (source : Source) (read : DwarfObject × UnitRead)
 unfolding unit_meaning
 unit-made source read = grind (arith, by-made)
 
--- ---- the units that an input adds
-
+-- the units that an input adds
 module _ (P : Meaning → Type 0) where
   -- it holds of units with all that belongs to each
   abbrev pub HoldsOf : Members → Type 0
@@ -53,9 +53,8 @@ module _ (P : Meaning → Type 0) where
   all-of (u ∷ us) h = All-cons (λ v. P v.1) u us h.0 (all-of us h.1)
 
   -- what holds of the units of a package, if one has begun
-  pub begun-all : (begun : Option InProgress)
-      → ((made : InProgress) → begun ≡ Some made → HoldsOf (units_of made))
-      → HoldsOf (units_begun begun)
+  pub begun-all : (begun : Option InProgress) → ((made : InProgress) → begun ≡ Some made
+      → HoldsOf (units_of made)) → HoldsOf (units_begun begun)
   begun-all None all = All-nil (λ u. P u.1)
   begun-all (Some made) all = all made refl
 
@@ -79,8 +78,7 @@ module _ (P : Meaning → Type 0) where
     | inr none ↦ subst HoldsOf (sym (new-units t.file begun) ∙ ap units_begun none.1) before
   ]
 
--- ---- the encoding of a builder's inputs
-
+-- the encoding of a builder's inputs
 pub begun-now : (bytes : List ℕ) (old new : State) → taken bytes old ≡ Ok new
     → with_input bytes old.begun ≡ Ok new.begun
 unfolding taken
@@ -140,8 +138,7 @@ taken-holds bytes old new sound holds h = record {
       (λ made is. rw is at (holds.all e (a.before made is))));
 }
 
--- ---- a plain object has no index
-
+-- a plain object has no index
 none-found : (ss : List Used) → list_any is_index ss ≡ false → (first CuIndex ss ≡ [])
     × (first TuIndex ss ≡ [])
 none-found [] h = (refl, refl)
@@ -155,9 +152,8 @@ plain-indexes object encoding indexes plain h = grind (arith, none-found object.
 
 -- the package before it is of such objects, or a new one
 plain-before : (encoding : Encoding) (file : Elf) (begun : Option InProgress)
-    (own : Option Encoding) → Before begun own encoding
-    → ((made : InProgress) → own ≡ Some encoding → begun ≡ Some made → IsPlain encoding made)
-    → IsPlain encoding (package_or_new file begun)
+    (own : Option Encoding) → Before begun own encoding → ((made : InProgress) → own ≡ Some encoding
+    → begun ≡ Some made → IsPlain encoding made) → IsPlain encoding (package_or_new file begun)
 plain-before encoding file None own before holds =
     let none : HasTiledOffsets encoding (package_or_new file None) = record {
       ranges = [];

@@ -1,31 +1,32 @@
 -- What a unit of a written package means as an input: just what was joined.
 use Rattle.thorin_again.proofs.Terms
-use Terms.{abbreviations_for, All-filter, AllOf, ap, ap₂, AreRowsOf, arith, Bool, by-bool}
-use Terms.{content_of, Contents, Contribution, contribution_to, contributions-same, DwarfObject}
-use Terms.{Encoding, Endianness, entry_ids, eqb-true, false, File, filter-append, FindsExactly}
-use Terms.{first, get_or_append_left, HasContributions, HasEntries, HasRows, Header, id-at}
-use Terms.{identifier_of, identity, identity-sort, Index, index_for, IndexEntry, Indexes}
+use Terms.{abbreviations_for, All-filter, AllOf, ap, AreRowsOf, arith, by-bool, content_of}
+use Terms.{Contents, Contribution, contribution_to, contributions-same, DwarfObject, Encoding}
+use Terms.{Endianness, entry_ids, false, File, first, get_or_append_left, HasContributions}
+use Terms.{HasEntries, HasRows, Header, id-at, identifier_of, Index, index_for, IndexEntry, Indexes}
 use Terms.{InProgress, Input, is_chosen, is_compilation, is_outside, IsRowOf, kind_of, length}
-use Terms.{lie_inside, LieInside, List, looked_up, Meaning, meaning_at, meaning_by, members}
-use Terms.{name-identity, name_for, name_signature, nat_eq, nat_tests, None, none-some, not-outside}
-use Terms.{Ok, Option, own_source, part-there, part_of, range_in, Ranges, refl, row_abbreviations}
-use Terms.{row_of, row_test, rows_of, section, SectionKind, slice_get, slice_get-get_or}
-use Terms.{slice_get_within, Some, Source, strings_of, suc, sym, take-length, true, unit_meaning}
-use Terms.{UnitSection, zero, ℕ, [], ◌++◌, ◌+◌, ◌<◌, ◌∙◌, ◌∷◌, ◌≡◌, ◌≢◌, ◌≤◌}
-use Rattle.std.proofs.Common.{find, get_or, is_none}
-use Rattle.thorin_join.specs.Meaning.{meaning_with, shared_kinds}
-use Rattle.dwp_index.specs.Index.{row_in}
+use Terms.{LieInside, List, looked_up, Meaning, meaning_at, members, name-identity, name_for}
+use Terms.{name_signature, nat_tests, None, none-some, not-outside, Ok, Option, own_source}
+use Terms.{part-there, part_of, Ranges, refl, row_of, row_test, rows_of, section, SectionKind}
+use Terms.{slice_get, slice_get-get_or, slice_get_within, Some, Source, strings_of, suc, sym}
+use Terms.{take-length, true, UnitSection, zero, [], ℕ, ◌++◌, ◌+◌, ◌<◌, ◌∙◌, ◌∷◌, ◌≡◌, ◌≤◌}
+use Rattle.std.proofs.Common.{ap₂, Bool, eqb-true, find, get_or, is_none, nat_eq, ◌≢◌}
+use Rattle.thorin_join.specs.Meaning.{lie_inside, meaning_by, meaning_with, shared_kinds}
+use Rattle.thorin_join.specs.Meaning.{unit_meaning}
+use Rattle.dwp_index.specs.Index.{range_in, row_in}
 use Rattle.dwp_table.specs.Probing.{found_row, look_count}
 use Rattle.thorin_package_input.specs.RowPlaces.{row_by_place}
-use Rattle.thorin_input.specs.Rows.{numbered_abbreviations, own_contribution}
+use Rattle.thorin_input.specs.Rows.{numbered_abbreviations, own_contribution, row_abbreviations}
 use Rattle.thorin_again.proofs.Meant.RowByRow.{at-seam, bytes-own, IsBelow, IsUnitOf, range_at}
 use Rattle.thorin_package_input.proofs.FirstRow.{first_found}
 use Rattle.dwp_table.proofs.Tables.{finds_exactly}
 use Rattle.thorin_join.proofs.Parts.Ranges.{strings-are}
 use Rattle.thorin_again.proofs.Opened.Indexes.{IsReadOf, rows-kept}
+use Rattle.dwp_table.specs.Table.{FindsExactly}
+use Rattle.thorin_join.proofs.Units.Whole.{identity-sort}
+use Rattle.thorin_identity.specs.Identity.{identity}
+use Rattle.std.proofs.lemmas.List.Elements.{filter-append}
 use Rattle.dwp_base.specs.declared.section.SectionKind.TheVariants as kinds
-
--- ---- names
 
 -- names of one sort, and of type units of one signature, are one where compilations of one index
 -- have one identifier
@@ -33,8 +34,6 @@ same-name : (indexes : Indexes) (id name : DwarfObject) → name_signature name 
     → (is_compilation name ≡ true → index_for indexes name ≡ index_for indexes id
     → identifier_of id ≡ identifier_of name) → name ≡ id
 same-name indexes id name h same = grind arith
-
--- ---- rows
 
 -- where there is a row, there is an index
 some-index : (index : Option Index) (rows : List IndexEntry) (row : IndexEntry) (n : ℕ)
@@ -114,8 +113,7 @@ module _ {encoding : Encoding} {file : File} {indexes : Indexes} {made : InProgr
   pub found-range : (k : SectionKind) → range_in parts.row k ≡ contribution_to k row
   found-range k = parts.contributions k ∙ part-there (contribution_to k row) (row-lies.some k)
 
-  -- ---- its row by place
-
+  -- its row by place
   none-before : (lower : ℕ) (other : Ranges) → lower < number + 1 → row_in index lower ≡ Ok other
       → range_in other kind ≢ Some range
   unfolding row_in
@@ -142,8 +140,7 @@ module _ {encoding : Encoding} {file : File} {indexes : Indexes} {made : InProgr
       let low : 1 ≤ number + 1 = omega arith in
       first_found index kind range (number + 1) (search (parts.there, has, low, high, none-before))
 
-  -- ---- what belongs to it
-
+  -- what belongs to it
   bytes-are : (k : SectionKind) → part_of (first k source.object.sections) (range_in parts.row k) ≡
       part_of (content_of k file.contents) (contribution_to k row)
   bytes-are k = ap₂ part_of (read.again.held k) (found-range k)
@@ -161,11 +158,10 @@ module _ {encoding : Encoding} {file : File} {indexes : Indexes} {made : InProgr
       grind (arith, bytes-own u, is.owns.place_is, is.owns.bytes) in
       let inside : lie_inside source (Some parts.row) ≡ true = λ i. is_none (find (λ k. outside k i)
       shared_kinds) in
-      let strings_are =
-      (λ i. strings_of file.order (joined.1 i)
+      let strings_are = (λ i. strings_of file.order (joined.1 i)
       ((read.again.held kinds.Str ∙ read.again.strings_are) i) (bytes-are kinds.StrOffsets i))
-      ∙ strings-are _ _ _ _ _ (is.shares.string made.strings read.again.table
-      (take-length made.strings)) in
+      ∙ strings-are _ _ _ _ _
+      (is.shares.string made.strings read.again.table (take-length made.strings)) in
       rw inside (ap (meaning_with source u.own (Some parts.row)) strings_are
       ∙ (λ i. Some (record {
         bytes = own_is i;
@@ -175,8 +171,7 @@ module _ {encoding : Encoding} {file : File} {indexes : Indexes} {made : InProgr
         encoding = joined.1 i;
       })))
 
-  -- ---- the row of its identifier
-
+  -- the row of its identifier
   finds : (name : DwarfObject) → FindsExactly (entry_ids chosen) (identifier_of name)
       (found_row index.signatures index.rows (identifier_of name))
       (look_count index.signatures index.rows (identifier_of name))

@@ -1,24 +1,22 @@
 -- A finished package, taken as an input, means the units that were joined in it.
 use Rattle.thorin_again.proofs.Terms
-use Terms.{Adding, adding, All, All-drop, All-from_recursion, All-head, All-tail, All-take}
-use Terms.{all_meant, AllOf, Any-from_list_any, ap, append-nil, ap₂, AreAdded, arith, bind-was}
-use Terms.{by-bool, content_of, Contents, drop-append_seam, DwarfObject, Each, elf_of, Encoding}
-use Terms.{encoding_of, eqb-suc-zero, ErrorValue, File, file_text, finish_test, first, has_info}
-use Terms.{HaveEncodingOf, IndexEntry, Indexes, indexes_of, InProgress, input_meaning, is_at}
-use Terms.{is_compilation, IsFinishedState, IsOwn, IsPermutation, IsPermutation-filter_both}
-use Terms.{IsPermutation-map, IsSound, IsSoundBegun, joining, kind_of, KindsDiffer, length}
-use Terms.{length-map, List, map, map-append, Meaning, meaning_at, MeansWhereTaken, meant, Members}
-use Terms.{members, name_for, named_each, named_sections, NewUnit, nil_from_length, object_meaning}
-use Terms.{Ok, opened, Option, order_of, order_test, own_source, package_or_new, Reads, refl}
-use Terms.{Result, row_test, rows_at, same-ok, section, SectionKind, Source, source-made}
-use Terms.{source_for, source_meaning, source_units, State, subst, sym, take-append_seam, taken}
-use Terms.{true, unit_section, UnitRead, units, units_in, units_of, units_within, UnitSection}
-use Terms.{with_input, with_source, with_source_or_new, with_units, written_elf, written_object}
-use Terms.{written_used, ℕ, [], ◌++◌, ◌<◌, ◌∙◌, ◌∷◌, ◌≡◌, ◌≢◌}
+use Terms.{Adding, adding, All, All-drop, All-from_recursion, All-head, All-tail, All-take, AllOf}
+use Terms.{Any-from_list_any, ap, append-nil, AreAdded, arith, bind-was, by-bool, content_of}
+use Terms.{Contents, DwarfObject, Each, elf_of, Encoding, encoding_of, ErrorValue, File, file_text}
+use Terms.{first, has_info, IndexEntry, Indexes, indexes_of, InProgress, is_at, is_compilation}
+use Terms.{IsOwn, IsSound, IsSoundBegun, joining, kind_of, KindsDiffer, length, length-map, List}
+use Terms.{map, map-append, Meaning, meaning_at, Members, members, name_for, NewUnit}
+use Terms.{nil_from_length, Ok, opened, Option, own_source, package_or_new, Reads, refl, Result}
+use Terms.{row_test, rows_at, same-ok, section, SectionKind, Source, source-made, source_for}
+use Terms.{source_units, subst, sym, true, unit_section, UnitRead, units, units_in, units_of}
+use Terms.{units_within, UnitSection, with_input, with_source, with_units, written_elf}
+use Terms.{written_object, written_used, [], ℕ, ◌++◌, ◌<◌, ◌∙◌, ◌∷◌, ◌≡◌}
 use Rattle.std.proofs.lemmas.List.Sorted.{All-permutation, IsPermutation-append_comm}
-use Rattle.std.proofs.lemmas.List.Sorted.{IsPermutation-append_right, IsPermutation-refl}
-use Rattle.std.proofs.lemmas.List.Sorted.{IsPermutation-sym, IsPermutation-trans}
-use Rattle.thorin_join.specs.Meaning.{can_join, named_at, named_unit}
+use Rattle.std.proofs.lemmas.List.Sorted.{IsPermutation-append_right, IsPermutation-filter_both}
+use Rattle.std.proofs.lemmas.List.Sorted.{IsPermutation-map, IsPermutation-refl, IsPermutation-sym}
+use Rattle.std.proofs.lemmas.List.Sorted.{IsPermutation-trans}
+use Rattle.thorin_join.specs.Meaning.{can_join, input_meaning, meant, named_at, named_each}
+use Rattle.thorin_join.specs.Meaning.{named_sections, named_unit, object_meaning, source_meaning}
 use Rattle.thorin_again.proofs.Opened.Sections.{empty-first, first-written, input-encoding, no-info}
 use Rattle.thorin_again.proofs.Opened.Sections.{none-behind, object-written, opened-elf}
 use Rattle.thorin_again.proofs.Opened.Sections.{rest-differ, section_of}
@@ -26,6 +24,12 @@ use Rattle.thorin_again.proofs.Meant.RowByRow.{of-section}
 use Rattle.thorin_again.proofs.Meant.OneRow.{row-means-again}
 use Rattle.thorin_again.proofs.Opened.Indexes.{IsReadOf, lie-kept, lie-used, read-of}
 use Rattle.thorin_again.proofs.Kept.EachUnit.{joined}
+use Rattle.std.proofs.Math.Dec.{eqb-suc-zero}
+use Rattle.std.proofs.Math.Seq.{drop-append_seam, take-append_seam}
+use Rattle.thorin_again.specs.Again.{all_meant, HaveEncodingOf, MeansWhereTaken}
+use Rattle.thorin_join.specs.Builder.{finish_test, IsFinishedState, order_of, order_test, State}
+use Rattle.thorin_join.specs.Builder.{taken, with_source_or_new}
+use Rattle.std.proofs.Common.{ap₂, IsPermutation, ◌≢◌}
 use Rattle.dwp_base.specs.declared.section.SectionKind.TheVariants as kinds
 use Rattle.dwp_units.specs.declared.unit.UnitSection.TheVariants as places
 
@@ -34,17 +38,14 @@ abbrev IsTested : Source → DwarfObject × UnitRead → Type 0
 IsTested source u = is_compilation u.0 ≡ true → row_test source.indexes u.1.from u.0
     u.1.unit ≡ Ok tt
 
-joined-tested : (adding : Adding) (names : List DwarfObject) (all : Reads)
-    (ns : List (DwarfObject × NewUnit))
-    → can_join names all ≡ true → AreAdded adding ns (joining names all)
+joined-tested : (adding : Adding) (names : List DwarfObject) (all : Reads) (ns : List (DwarfObject
+    × NewUnit)) → can_join names all ≡ true → AreAdded adding ns (joining names all)
     → Each (IsTested adding.source) all
 joined-tested adding names [] ns can are = tt
 joined-tested adding names (u ∷ us) [] can are = grind (arith, joined-tested adding names us [])
 joined-tested adding names (u ∷ us) (n ∷ ns) can are =
     let passed = joined-tested adding names us (n ∷ ns) in
     grind (arith, passed, joined-tested adding (names ++ u.0 ∷ []) us ns)
-
--- ---- the units of info and of types
 
 -- what is read of the content of a section of units
 abbrev read_at : Source → Contents → UnitSection → Result Reads ErrorValue
@@ -57,10 +58,9 @@ Split source cs all = (infos types : Reads) × (read_at source cs places.Info �
     × (read_at source cs places.Types ≡ Ok types) × IsPermutation (infos ++ types) all
 
 -- one more section, behind which no other of its place has units
-section-split : (source : Source) (c : SectionKind × List ℕ) (cs : Contents)
-    (here others : Reads) → KindsDiffer (c ∷ cs) → Split source cs others
-    → named_at source (section_of c) (unit_section c.0) ≡ Ok here
-    → Split source (c ∷ cs) (here ++ others)
+section-split : (source : Source) (c : SectionKind × List ℕ) (cs : Contents) (here others : Reads)
+    → KindsDiffer (c ∷ cs) → Split source cs others → named_at source (section_of c)
+    (unit_section c.0) ≡ Ok here → Split source (c ∷ cs) (here ++ others)
 unfolding named_each units units_within
 section-split source (kinds.Info, bytes) cs here others apart rest h =
     let behind = none-behind kinds.Info (kinds.Info, bytes) cs apart refl in
@@ -93,8 +93,6 @@ sections-split source ((kind, b ∷ bs) ∷ cs) all differ h =
     rw (← same-ok _ all s2.2) (section-split source c cs s1.0 s2.0 differ
     (sections-split source cs s2.0 (rest-differ c cs differ) s2.1) s1.1)
 
--- ---- the file, taken as an input
-
 -- an input without info has no encoding
 encoding-none : (file : File) (e : Encoding) → KindsDiffer file.contents
     → content_of kinds.Info file.contents ≡ [] → encoding_of (written_object file) ≡ Ok e → ⊥
@@ -116,19 +114,16 @@ module _ {encoding : Encoding} {file : File} {indexes : Indexes} {made : InProgr
   units_meant us = map {B = DwarfObject × Option Meaning} (meant source) us
 
   -- the units of a section mean what its rows do, in their order
-  units-are : (place : UnitSection) (us : Reads) → read_at source file.contents place ≡ Ok us
-      → All (IsTested source) us
-      → units_meant us ≡ all_meant (members mean (rows_at place made.rows))
+  units-are : (place : UnitSection) (us : Reads) → read_at source file.contents place ≡ Ok us → All
+      (IsTested source) us → units_meant us ≡ all_meant (members mean (rows_at place made.rows))
   unfolding named_each named_unit
   units-are place =
       let laid = is.own.sound.laid in
-      of-section file.order file.contents place made.rows
-      (λ todo got. (us : Reads) → named_each source (kind_of place) got ≡ Ok us
-      → All (IsTested source) us → units_meant us ≡ all_meant
-      (members mean (rows_at place todo)))
+      of-section file.order file.contents place made.rows (λ todo got. (us : Reads)
+      → named_each source (kind_of place) got ≡ Ok us → All (IsTested source) us
+      → units_meant us ≡ all_meant (members mean (rows_at place todo)))
       (λ us named rest. ap units_meant (sym (same-ok [] us named)))
-      (λ r rs got elsewhere later. rw elsewhere later)
-      (λ r rs h got u later us named rest.
+      (λ r rs got elsewhere later. rw elsewhere later) (λ r rs h got u later us named rest.
       let s1 = bind-was (named_unit source (kind_of place) (Ok h)) _ us named in
       let s2 = bind-was (named_each source (kind_of place) got) _ us s1.2 in
       let t = bind-was (name_for source (kind_of place) h) _ s1.0 s1.1 in
@@ -154,8 +149,7 @@ module _ {encoding : Encoding} {file : File} {indexes : Indexes} {made : InProgr
       let joined : all_meant (members mean (rows_at places.Info made.rows ++ rows_at places.Types
       made.rows)) ≡ units_meant (split.0 ++ split.1) =
       simp map-append (ap₂ (λ a b. a ++ b) (sym i) (sym t)) in
-      IsPermutation-trans _ _ _
-      (IsPermutation-map _ _ _ (IsPermutation-map _ made.rows _ apart))
+      IsPermutation-trans _ _ _ (IsPermutation-map _ _ _ (IsPermutation-map _ made.rows _ apart))
       (rw joined (IsPermutation-map (meant source) _ all split.4))
 
 -- the file of a finished state
@@ -174,17 +168,15 @@ module _ (state : State) (file : File) (begun : IsSoundBegun state.begun)
       (sym (input-encoding file differ back) ∙ h 0 u (omega arith)))
 
   -- where it has an encoding, it is an own one, and is read again
-  is-read : (encoding : Encoding) (indexes : Indexes)
-      → encoding_of (written_object file) ≡ Ok encoding
-      → indexes_of (written_object file) encoding ≡ Ok indexes
+  is-read : (encoding : Encoding) (indexes : Indexes) → encoding_of
+      (written_object file) ≡ Ok encoding → indexes_of (written_object file) encoding ≡ Ok indexes
       → IsReadOf encoding file indexes fin.made
   is-read encoding indexes first read =
       let held = content_of kinds.Info file.contents in
       let sound : IsSound fin.made = rw fin.begun at begun in
       let info : 0 < length held =
-      let none : length held ≢ 0 = λ none. encoding-none file encoding differ
-      (nil_from_length held none)
-      first in omega (arith, none) in
+      let none : length held ≢ 0 = λ none.
+      encoding-none file encoding differ (nil_from_length held none) first in omega (arith, none) in
       let lie = lie-kept fin.made file sound.laid fin.finished places.Info in
       let used = Any-from_list_any _ fin.made.rows
       (lie-used _ places.Info 0 fin.made.rows _ lie info) in
@@ -218,18 +210,16 @@ module _ (state : State) (file : File) (begun : IsSoundBegun state.begun)
       let a = source-made source before s4.0 s4.1 in
       let j = joined a in
       subst (IsPermutation (all_meant (units_of fin.made))) (same-ok _ meaning
-      (rw (opens, info, object-written file differ, s1.1, s3.1, j.is) at means))
-      (rows-meant (is-read s1.0 s3.0 s1.1 s3.1) j.all j.is
-      (All-from_recursion (IsTested source) j.all (joined-tested (adding source before a.parts)
-      _ j.all a.new.units j.defined j.are)))
+      (rw (opens, info, object-written file differ, s1.1, s3.1, j.is) at means)) (rows-meant
+      (is-read s1.0 s3.0 s1.1 s3.1) j.all j.is (All-from_recursion (IsTested source) j.all
+      (joined-tested (adding source before a.parts) _ j.all a.new.units j.defined j.are)))
 
   pub again-is : MeansWhereTaken (units_in state) (file_text file)
   unfolding taken input_meaning
   again-is before after took meaning means =
       let now = bind-was (with_input (file_text file) before.begun) _ after took in
       rw fin.begun (by-bool _ (has_info (written_elf file))
-      (λ info. units-again before.begun now.0 info now.1 meaning means)
-      (λ none.
+      (λ info. units-again before.begun now.0 info now.1 meaning means) (λ none.
       let no_units : meaning ≡ [] = same-ok _ _ (sym (rw (opens, none) at means)) in
       rw (no_units, none-joined (units_of fin.made) (rw fin.begun at one) (no-info file none))
       (IsPermutation-refl [])))

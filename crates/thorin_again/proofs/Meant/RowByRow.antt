@@ -1,15 +1,16 @@
 -- What the rows of a written package are for an input, and which begin before a place. A section of
 -- units of such a package is read as the units of its rows, one after another.
 use Rattle.thorin_again.proofs.Terms
-use Terms.{after, All, All-nil, ap, append_assoc, arith, by-bool, content_of, Contents}
-use Terms.{Contribution, contribution_to, data_of, drop-append_seam, Endianness, false, first}
-use Terms.{HasRows, HaveOneRange, Header, IndexEntry, Input, is_at, is_package, IsShifted, IsTable}
-use Terms.{kind_of, length, length-append, Lie, List, name_signature, ne_eqb, Ok, part-inside}
-use Terms.{part_of, place_of, plain, ReadError, refl, Result, rows_at, rows_of, same_place, section}
-use Terms.{SectionKind, slice_get, Some, Source, suc, sym, take-append_seam, true, type_signature}
-use Terms.{unit-moves, unit_at, unit_bytes, units, units_within, UnitSection, zero, ℕ, [], ◌++◌}
-use Terms.{◌+◌, ◌-◌, ◌<◌, ◌∙◌, ◌∷◌, ◌≡◌, ◌≤◌}
+use Terms.{All, All-nil, ap, append_assoc, arith, by-bool, content_of, Contents, Contribution}
+use Terms.{contribution_to, data_of, Endianness, false, first, HasRows, HaveOneRange, Header}
+use Terms.{IndexEntry, Input, is_at, is_package, IsShifted, IsTable, kind_of, length, length-append}
+use Terms.{Lie, List, name_signature, ne_eqb, Ok, part-inside, part_of, place_of, plain, ReadError}
+use Terms.{refl, Result, rows_at, rows_of, same_place, section, SectionKind, slice_get, Some}
+use Terms.{Source, suc, sym, true, type_signature, unit-moves, unit_at, unit_bytes, units}
+use Terms.{units_within, UnitSection, zero, [], ℕ, ◌++◌, ◌+◌, ◌-◌, ◌<◌, ◌∙◌, ◌∷◌, ◌≡◌, ◌≤◌}
 use Rattle.std.proofs.lemmas.List.Elements.{All-push, All-weaker}
+use Rattle.dwp_bytes.specs.Input.{after}
+use Rattle.std.proofs.Math.Seq.{drop-append_seam, take-append_seam}
 use Rattle.dwp_base.specs.declared.section.SectionKind.TheVariants as kinds
 
 -- an input that was read of a written package of these rows
@@ -32,8 +33,6 @@ IsBelow kind n row = (c : Contribution) → contribution_to kind row ≡ Some c 
 
 pub place-eq : (a b : UnitSection) → same_place a b ≡ true → a ≡ b
 place-eq a b h = grind arith
-
--- ---- units one after another
 
 -- the part in the middle
 pub part-middle : (pre own rest whole : List ℕ) (offset : ℕ) → whole ≡ pre ++ (own ++ rest)
@@ -97,18 +96,16 @@ module _ (order : Endianness) (contents : Contents) (place : UnitSection) (rows 
   kind = kind_of place
 
   -- from rows on whose units begin at an offset of the section
-  from : (before todo : List IndexEntry) (pre bytes : List ℕ) (offset n : ℕ)
-      → rows ≡ before ++ todo → HaveOneRange todo → All (IsBelow kind offset) before
-      → Lie order place offset (rows_at place todo) bytes
-      → content_of kind contents ≡ pre ++ bytes → length pre ≡ offset → length bytes ≤ n
-      → P todo (units_within n place (plain order offset bytes))
+  from : (before todo : List IndexEntry) (pre bytes : List ℕ) (offset n : ℕ) → rows ≡ before ++ todo
+      → HaveOneRange todo → All (IsBelow kind offset) before → Lie order place offset
+      (rows_at place todo) bytes → content_of kind contents ≡ pre ++ bytes → length pre ≡ offset
+      → length bytes ≤ n → P todo (units_within n place (plain order offset bytes))
   unfolding units_within
   from before [] pre bytes offset zero split once below lie content at fuel = none
   from before [] pre bytes offset (suc n) split once below lie content at fuel = rw lie none
   from before (r ∷ rs) pre bytes offset n split once below lie content at fuel =
       let next : rows ≡ (before ++ r ∷ []) ++ rs = split ∙ sym (append_assoc before (r ∷ []) rs) in
-      by-bool _ (is_at place r)
-      (λ is.
+      by-bool _ (is_at place r) (λ is.
       let l = rw is at lie in
       let head = l.0 in
       let own = head.own in
@@ -150,9 +147,8 @@ module _ (order : Endianness) (contents : Contents) (place : UnitSection) (rows 
       (All-push (IsBelow kind offset) before r below (λ c e. grind (arith, once.0 place other)))
       (rw other at lie) content at fuel))
 
-  pub of-section : HaveOneRange rows
-      → Lie order place 0 (rows_at place rows) (content_of kind contents)
-      → P rows (units place (section order (content_of kind contents)))
+  pub of-section : HaveOneRange rows → Lie order place 0 (rows_at place rows)
+      (content_of kind contents) → P rows (units place (section order (content_of kind contents)))
   unfolding units
   of-section once lie = from [] rows [] _ 0 _ refl once (All-nil (IsBelow kind 0)) lie refl
       refl (omega arith)

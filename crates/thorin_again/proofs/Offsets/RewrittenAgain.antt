@@ -3,32 +3,33 @@
 -- are rewritten unless the offset of a string doesn't fit; those that were rewritten, once more
 -- from the same strings on, give the same strings.
 use Rattle.thorin_again.proofs.Terms
-use Terms.{add-mul, All-from_recursion, all_kept_by, Any-from_list_any, arith, bind-was, Bool}
-use Terms.{Contribution, contribution_to, count-again, drop-append-add, drop-append-le, Each}
-use Terms.{EachRow, Encoding, Endianness, entry_bytes, entry_in, false, get_or_from_slice_get}
-use Terms.{HasContributions, HasOneOf, HasRows, header_size, Index, IndexEntry, inl, inr, is_chosen}
-use Terms.{is_some, is_used, IsAmong, IsOfSome, IsPermutation-filter_both, IsWholeRange, length}
-use Terms.{length-append, length-drop, List, list_any, list_any-append, map, named_at, nat_tests}
-use Terms.{no_header, None, number_front, offset_size, Ok, Option, range-front, range_bytes}
-use Terms.{range_with_len, recursion_from_All, refl, remapped, remapped_entries, rewritten_from}
-use Terms.{rows_of, SectionKind, slice_get, slice_get_cases, slice_get_read, slice_get_within, Some}
-use Terms.{string_at, string_in, StrOffsets, subst, suc, sym, Tile, true, UnlessStringOffset, zero}
-use Terms.{ℕ, [], ⊎_elim, ◌*◌, ◌++◌, ◌+◌, ◌<◌, ◌>>=◌, ◌∙◌, ◌∷◌, ◌≡◌, ◌≤◌, ◌⊎◌}
-use Rattle.std.proofs.Common.{drop, slice_range}
+use Terms.{All-from_recursion, all_kept_by, Any-from_list_any, arith, bind-was, Contribution}
+use Terms.{contribution_to, drop-append-le, Each, EachRow, Encoding, Endianness, false}
+use Terms.{get_or_from_slice_get, HasContributions, HasOneOf, HasRows, Index, IndexEntry, inl, inr}
+use Terms.{is_chosen, is_used, IsAmong, IsOfSome, IsWholeRange, length, length-append, List}
+use Terms.{list_any, list_any-append, map, nat_tests, no_header, None, number_front, offset_size}
+use Terms.{Ok, Option, range-front, range_bytes, range_with_len, recursion_from_All, refl, rows_of}
+use Terms.{SectionKind, slice_get, slice_get_within, Some, StrOffsets, subst, suc, sym, Tile, true}
+use Terms.{UnlessStringOffset, zero, [], ℕ, ◌++◌, ◌+◌, ◌<◌, ◌>>=◌, ◌∙◌, ◌∷◌, ◌≡◌, ◌≤◌, ◌⊎◌}
+use Rattle.std.proofs.Common.{add-mul, Bool, drop, is_some, length-drop, slice_range, ⊎_elim, ◌*◌}
 use Rattle.std.specs.BTreeSet.{insert_key}
 use Rattle.std.proofs.lemmas.List.FromFn.{get_or-map-range_with_len, length-map-range_with_len}
-use Rattle.std.proofs.lemmas.List.Sorted.{list_any-IsPermutation}
+use Rattle.std.proofs.lemmas.List.Sorted.{IsPermutation-filter_both, list_any-IsPermutation}
 use Rattle.thorin_package_input.specs.PackagedOffsets.{offset_ranges, place_cmp, ranges_test}
-use Rattle.thorin_package_input.specs.PackagedOffsets.{with_ranges, with_rows}
+use Rattle.thorin_package_input.specs.PackagedOffsets.{rewritten_from, with_ranges, with_rows}
 use Rattle.thorin_package_input.specs.RowPlaces.{is_range, range_of_row, ranges_of}
 use Rattle.thorin_package_input.proofs.FirstRow.{range_is, range_of_found}
 use Rattle.thorin_package_input.proofs.RowRanges.{compilation_there, type_there}
 use Rattle.std.proofs.lemmas.Nat.{row_fits}
 use Rattle.dwp_base.specs.Numbers.{number}
-use Rattle.thorin_strings.specs.StringOffsets.{fitting_offset, offset_at, remapped_entry}
+use Rattle.thorin_strings.specs.StringOffsets.{entry_bytes, fitting_offset, named_at, offset_at}
+use Rattle.thorin_strings.specs.StringOffsets.{remapped, remapped_entries, remapped_entry}
+use Rattle.dwp_bytes.specs.StringOffsets.{entry_in, header_size, string_at, string_in}
+use Rattle.std.proofs.Math.Seq.{drop-append-add}
+use Rattle.std.proofs.lemmas.Option.{slice_get_cases, slice_get_read}
+use Rattle.thorin_join.proofs.Parts.Ranges.{count-again}
 
--- ---- the rows of compilation units and those of type units
-
+-- the rows of compilation units and those of type units
 pub at-row : (P : IndexEntry → Type 0) (rows : List IndexEntry) (n : ℕ) (row : IndexEntry)
     → EachRow P rows → slice_get rows n ≡ Some row → P row
 at-row P rows n row h at = subst P (get_or_from_slice_get rows n row row at)
@@ -58,8 +59,7 @@ by-passing P test (Some index) rows has h f =
     let at = slice_get_read rows (length rows) any.0 any.1 refl any.2 (sym any.3) in
     f index any.0 any.1 refl at any.4 (has.1.each any.0 any.1 at)
 
--- ---- each range that some row has is there
-
+-- each range that some row has is there
 abbrev has-range : Contribution → IndexEntry → Bool
 has-range r row = is_range r row.debug_str_offsets
 
@@ -72,8 +72,7 @@ ranges-there : (compilations types : Option Index) (rows : List IndexEntry) (r :
     → HasRows compilations (rows_of true rows) → HasRows types (rows_of false rows)
     → 0 < r.size → IsOfSome r rows → IsAmong r (offset_ranges compilations types)
 ranges-there compilations types rows r c t some h =
-    ⊎_elim
-    (λ u. by-passing _ (has-range r) compilations _ c u (λ index n row is at has parts.
+    ⊎_elim (λ u. by-passing _ (has-range r) compilations _ c u (λ index n row is at has parts.
     rw is (compilation_there index (n + 1) parts.row r parts.there
     (grind (arith, nat_tests, parts.contributions StrOffsets, range_is r row.debug_str_offsets has))
     types)))
@@ -83,8 +82,7 @@ ranges-there compilations types rows r c t some h =
     compilations)))
     (any-chosen (has-range r) rows (some-has r rows h))
 
--- ---- ranges in the order of others, of which some may be left out
-
+-- ranges in the order of others, of which some may be left out
 abbrev IsPartOf : List Contribution → List Contribution → Type 0
 IsPartOf xs [] = xs ≡ []
 IsPartOf xs (y ∷ ys) = ((zs : List Contribution) × (xs ≡ y ∷ zs) × IsPartOf zs ys) ⊎ IsPartOf xs ys
@@ -174,9 +172,8 @@ module _ (order : Endianness) (encoding : Encoding) where
     ranges-are compilations types rows c t has named =
         let chosen = λ (b : Bool). all_kept_by (is_chosen b) (HasOneOf ys) rows has in
         all-same 0 end ys _ tile (index-part types _ _ t (chosen false)
-        (index-part compilations _ _ c (chosen true) (none-part ys)))
-        (λ r h. ranges-there compilations types rows r c t (tile-lies 0 end ys r tile h).1.some
-        (named r h))
+        (index-part compilations _ _ c (chosen true) (none-part ys))) (λ r h.
+        ranges-there compilations types rows r c t (tile-lies 0 end ys r tile h).1.some (named r h))
 
   abbrev width : ℕ
   width = offset_size encoding.format
@@ -301,8 +298,6 @@ module _ (order : Endianness) (encoding : Encoding) where
         let rest = leads-joined m before middle s1.0.1 first (s1.0.0, s1.1) in
         (rest.0 ++ s2.0.0 ∷ [], rw next (grind (arith, rest.1, s2.1, s2.2, named-back m)))
 
-  -- ---- ranges in turn
-
   -- ranges of these bytes, rewritten in turn from these strings on, give those
   abbrev pub InTurn : (section bytes : List ℕ) → ℕ → List Contribution
       → (before after : List (List ℕ)) → Type 0
@@ -339,7 +334,6 @@ module _ (order : Endianness) (encoding : Encoding) where
       let s2 = bind-was (rewritten_from order encoding section old _ ranges s1.0.1) _ _ s1.2 in
       let within = tile-end (at + r.size) end ranges tile.2 in
       let front = range-front old new r.offset.0 r.size (omega (arith, tile.0, within, fits)) in
-      turn section (old ++ new) place r (ranges ++ tail) before s1.0.1 after
-      (s1.0.0, rw front s1.1) (grown section old new (r.offset.0 + r.size) (at + r.size) end ranges
-      tail s1.0.1 middle after (omega (arith, tile.0)) tile.2 fits
-      (s2.0.0, grind (arith, s2.1, s2.2)) second)
+      turn section (old ++ new) place r (ranges ++ tail) before s1.0.1 after (s1.0.0, rw front s1.1)
+      (grown section old new (r.offset.0 + r.size) (at + r.size) end ranges tail s1.0.1 middle after
+      (omega (arith, tile.0)) tile.2 fits (s2.0.0, grind (arith, s2.1, s2.2)) second)

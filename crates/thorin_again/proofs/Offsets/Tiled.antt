@@ -1,27 +1,29 @@
 -- The ranges of string offsets fill their section, where plain objects of one encoding are added:
 -- what each gives to string offsets is nothing, or a whole range.
 use Rattle.thorin_again.proofs.Terms
-use Terms.{add-mul, Added, Adds, All-weaker, ap, arith, Bool, by-bool, content_of, Contents}
-use Terms.{Contribution, contribution_put, count-again, data_of, EachRow, Encoding, Endianness}
-use Terms.{entry_bytes, entry_count, eqb, eqb-false, eqb-true, false, first, GiveStrings, has_part}
-use Terms.{HasOneOf, HasTiledOffsets, header_size, IndexEntry, inl, InProgress, inr, is-same}
-use Terms.{is_package, IsAmong, IsOfSome, IsTable, IsWholeRange, joined_parts, joined_parts-more}
-use Terms.{joined_parts-other, kept_more, length, length-append, List, no-entries, no_header}
-use Terms.{none-some, offset_size, Ok, own-bytes, Parts, parts_of, place-put, range-of, range_for}
-use Terms.{refl, remapped, remapped_entries, rewritten-plain, same_Some, Some, Source, source-made}
-use Terms.{Str, StrOffsets, subst, sym, take-length, Tile, true, true≢false, units-strings, Used}
-use Terms.{with_source, zero-mul, ℕ, [], ⊎_elim, ◌&&◌, ◌*◌, ◌++◌, ◌+◌, ◌<◌, ◌∙◌, ◌∷◌, ◌≡◌, ◌⊎◌}
-use Rattle.std.proofs.Common.{leb, leb-false, lt-ltb, take}
+use Terms.{Added, All-weaker, ap, arith, by-bool, content_of, Contents, Contribution}
+use Terms.{contribution_put, data_of, EachRow, Encoding, Endianness, entry_count, eqb-false, false}
+use Terms.{first, GiveStrings, has_part, HasOneOf, HasTiledOffsets, IndexEntry, inl, InProgress}
+use Terms.{inr, is-same, is_package, IsAmong, IsOfSome, IsTable, IsWholeRange, joined_parts, length}
+use Terms.{length-append, List, no_header, none-some, offset_size, Ok, own-bytes, Parts, parts_of}
+use Terms.{place-put, range_for, refl, same_Some, Some, Source, source-made, Str, StrOffsets, subst}
+use Terms.{sym, take-length, Tile, true, Used, with_source, [], ℕ, ◌++◌, ◌+◌, ◌<◌, ◌∙◌, ◌∷◌, ◌≡◌}
+use Terms.{◌⊎◌}
+use Rattle.std.proofs.Common.{add-mul, Bool, eqb, eqb-true, leb, leb-false, lt-ltb, take}
+use Rattle.std.proofs.Common.{true≢false, zero-mul, ⊎_elim, ◌&&◌, ◌*◌}
 use Rattle.thorin_input.specs.Parts.{stands_once}
-use Rattle.thorin_strings.specs.StringOffsets.{header_of}
+use Rattle.thorin_strings.specs.StringOffsets.{entry_bytes, header_of, remapped, remapped_entries}
 use Rattle.thorin_again.proofs.Offsets.RewrittenAgain.{entries-alike, grown, InTurn, Lead}
 use Rattle.thorin_again.proofs.Offsets.RewrittenAgain.{leads-joined, no-turn, turn, whole-remapped}
-use Rattle.thorin_join.proofs.Parts.Added.{each-part, Rewritten}
-use Rattle.thorin_join.proofs.Parts.Ranges.{names-same}
+use Rattle.thorin_join.proofs.Parts.Added.{Adds, each-part, joined_parts-more, joined_parts-other}
+use Rattle.thorin_join.proofs.Parts.Added.{no-entries, Rewritten, rewritten-plain, units-strings}
+use Rattle.thorin_join.proofs.Parts.Ranges.{count-again, names-same, range-of}
 use Rattle.thorin_join.proofs.Parts.ReadAlike.{has-more, has-other}
 use Rattle.thorin_again.proofs.Kept.EachUnit.{content-added, once-more, order-added, parted}
 use Rattle.thorin_again.proofs.Kept.EachUnit.{row_with, RowHas, rows-share, with-any, with-each}
 use Rattle.std.proofs.ByRecursion.{All-append}
+use Rattle.thorin_strings.proofs.RemapLemmas.{kept_more}
+use Rattle.dwp_bytes.specs.StringOffsets.{header_size}
 
 -- the part of string offsets that a plain object makes is whole
 module _ (source : Source) (plain : is_package source.indexes ≡ false) (start : List (List ℕ)) where
@@ -97,8 +99,7 @@ module _ (source : Source) (plain : is_package source.indexes ≡ false) (start 
       (λ k less. let name = law.named k less in name.new final table kept ∙ sym name.old) in
       (one.1.0, same ∙ one.1.1) in
       let all : (n : ℕ) × Fills (length (new ++ own)) n × Again (new ++ own) n start strings =
-      by-bool _ (leb 5 encoding.version)
-      (λ standard. let empty = so_far.fresh (once standard) in
+      by-bool _ (leb 5 encoding.version) (λ standard. let empty = so_far.fresh (once standard) in
       (m, rw empty.0 one.0, λ final table kept. rw (empty.0, ← empty.1) (alone final table kept)))
       (λ gnu.
       let old = leb-false 5 encoding.version gnu in
@@ -164,8 +165,7 @@ module _ (source : Source) (plain : is_package source.indexes ≡ false) (start 
       let again = count-again encoding.format (length new) (header_size encoding) made.count in
       let none : made.count ≡ 0 = grind (arith, made.fills, empty, no-entries encoding, again) in
       let lead = rw none at (made.again after made.table (take-length after)) in
-      inl (empty, grind (arith, lead.1)))
-      (λ some.
+      inl (empty, grind (arith, lead.1))) (λ some.
       let there : 0 < length new = omega (arith, eqb-false (length new) 0 some) in
       elim made.fills [
         | inl none ↦ absurd (omega (arith, there, none.0))
@@ -199,10 +199,9 @@ tile-append o e at (x ∷ rs) more middle end tile behind =
     (tile.0, tile.1, tile-append o e (at + x.size) rs more middle end tile.2 behind)
 
 -- a plain object that was added
-module _ (source : Source) (before now : InProgress)
-    (plain : is_package source.indexes ≡ false) (table : IsTable before.strings)
-    (same : source.object.order ≡ before.file.order) (h : with_source source before ≡ Ok now)
-    (more : length before.rows < length now.rows)
+module _ (source : Source) (before now : InProgress) (plain : is_package source.indexes ≡ false)
+    (table : IsTable before.strings) (same : source.object.order ≡ before.file.order)
+    (h : with_source source before ≡ Ok now) (more : length before.rows < length now.rows)
     (tiled : HasTiledOffsets source.encoding before) where
   abbrev now_order : Endianness
   now_order = before.file.order

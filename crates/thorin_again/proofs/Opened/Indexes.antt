@@ -2,23 +2,20 @@
 -- sections are in the format of its units. A written package of plain objects is read again: its
 -- indexes, and its string offsets.
 use Rattle.thorin_again.proofs.Terms
-use Terms.{All, All-filter, All-tail, AllOf, ap, AreDistinct, AreRowsOf, arith, Bool, cond}
-use Terms.{content_of, Contents, Contribution, counts_once, data_of, DwarfObject, Encoding}
-use Terms.{Endianness, entry_ids, false, File, file_text, finished-grows, finished-order}
-use Terms.{finished-own, finished-strings, finished-types, first, get_or-map, HasRows}
-use Terms.{HasTiledOffsets, Index, index_in, index_tests, IndexEntry, Indexes, indexes_of, inl}
-use Terms.{InProgress, inr, is_chosen, is_in_format, is_of_units, is_package, is_shared, is_some}
-use Terms.{is_used, IsFinished, IsIndexOf, IsLaid, IsOfSome, IsOwn, IsPlain, IsSound, IsTable}
+use Terms.{All, All-filter, All-tail, AllOf, ap, AreRowsOf, arith, content_of, Contents}
+use Terms.{Contribution, counts_once, data_of, DwarfObject, Encoding, Endianness, entry_ids, false}
+use Terms.{File, file_text, finished-grows, finished-order, finished-own, finished-strings, first}
+use Terms.{get_or-map, HasRows, HasTiledOffsets, Index, index_in, index_tests, IndexEntry, Indexes}
+use Terms.{indexes_of, inl, InProgress, inr, is_chosen, is_in_format, is_of_units, is_package}
+use Terms.{is_shared, is_used, IsIndexOf, IsLaid, IsOfSome, IsOwn, IsPlain, IsSound, IsTable}
 use Terms.{IsWholeRange, keep-rows, kind_of, KindsDiffer, length, length-map, Lie, List, Meaning}
-use Terms.{meaning_at, Members, names_of, nat_tests, nil_from_length, None, not, Ok, Option}
-use Terms.{order_of, order_test, own_source, part-inside, range_bytes, refl, rewritten}
-use Terms.{rewritten-package, rewritten_from, rows_at, rows_of, same-each, same-ok, same_Some}
-use Terms.{SectionKind, slice-long, slice_get, Some, source_for, State, subst, sym, take-length}
-use Terms.{TakesUpToParts, Tested, true, units_of, UnitSection, UnlessStringOffset, version_test}
-use Terms.{with_input, with_units, written_elf, written_object, ℕ, [], ◌<◌, ◌^◌, ◌||◌, ◌∙◌, ◌∷◌}
-use Terms.{◌≡◌}
-use Rattle.std.proofs.Common.{slice_index}
-use Rattle.thorin_join.specs.Builder.{same_order}
+use Terms.{meaning_at, Members, nat_tests, nil_from_length, None, Ok, Option, own_source}
+use Terms.{part-inside, range_bytes, refl, rewritten, rows_at, rows_of, same-each, same-ok}
+use Terms.{same_Some, SectionKind, slice_get, Some, source_for, subst, sym, take-length}
+use Terms.{TakesUpToParts, true, units_of, UnitSection, UnlessStringOffset, version_test}
+use Terms.{with_input, with_units, written_elf, written_object, [], ℕ, ◌<◌, ◌∙◌, ◌∷◌, ◌≡◌}
+use Rattle.std.proofs.Common.{Bool, cond, is_some, not, slice_index, ◌^◌, ◌||◌}
+use Rattle.thorin_join.specs.Builder.{IsFinished, order_of, order_test, same_order, State}
 use Rattle.thorin_join.proofs.Files.Contents.{chosen-fit, no-bytes}
 use Rattle.dwp_bytes.specs.Encoding.{index_version_of}
 use Rattle.thorin_index.proofs.Each.{have_passed, used_known}
@@ -26,22 +23,24 @@ use Rattle.thorin_index.proofs.ReadAgain.{index_is_read}
 use Rattle.thorin_index.proofs.RowsAgain.{written_rows}
 use Rattle.thorin_again.proofs.Opened.Sections.{first-written, info-written, object-written}
 use Rattle.thorin_again.proofs.Opened.Sections.{opened-elf}
-use Rattle.thorin_join.proofs.Files.Finished.{finished-compilations, finished-content, tested-state}
+use Rattle.thorin_join.proofs.Files.Finished.{finished-compilations, finished-content}
+use Rattle.thorin_join.proofs.Files.Finished.{finished-types, Tested, tested-state}
 use Rattle.dwp_table.specs.Columns.{column_of}
 use Rattle.thorin_join.proofs.Units.InRows.{distinct_chosen}
 use Rattle.thorin_again.proofs.Meant.RowByRow.{IsAgain}
 use Rattle.thorin_again.proofs.Offsets.RewrittenAgain.{all-rewritten, are-named, CanRewrite}
 use Rattle.thorin_again.proofs.Offsets.RewrittenAgain.{ranges-are, tile-lies, tile-tested}
 use Rattle.thorin_again.proofs.Offsets.RewrittenAgain.{used-chosen}
-use Rattle.thorin_package_input.specs.PackagedOffsets.{packaged_offsets}
+use Rattle.thorin_package_input.specs.PackagedOffsets.{packaged_offsets, rewritten_from}
+use Rattle.dwp_table.specs.Table.{AreDistinct}
+use Rattle.thorin_join.specs.State.{names_of}
+use Rattle.thorin_join.proofs.Parts.Added.{rewritten-package, slice-long}
 use Rattle.dwp_base.specs.declared.section.SectionKind.TheVariants as kinds
 use Rattle.dwp_units.specs.declared.unit.UnitSection.TheVariants as places
 
 -- rows come from inputs of this version
 abbrev pub HaveVersion : ℕ → List IndexEntry → Type 0
 HaveVersion version rows = All (λ row. row.encoding.version ≡ version) rows
-
--- ---- an index is read again
 
 -- it is read from these bytes, has these rows, and goes with inputs of this encoding
 pub record IndexTaken (order : Endianness) (encoding : Encoding) (rows : List IndexEntry)
@@ -75,8 +74,6 @@ one-is-there : (compilations types : Option Index) (rows : List IndexEntry)
     → (rows ≡ [] → ⊥) → (is_some compilations || is_some types) ≡ true
 one-is-there c t [] of_c of_t some = absurd (some refl)
 one-is-there c t (row ∷ rows) of_c of_t some = grind arith
-
--- ---- the package of an own file
 
 -- what it has
 pub record OwnMade (encoding : Encoding) (made : InProgress) : Type 0 where
@@ -141,9 +138,8 @@ module _ {state : State} {encoding : Encoding} {file : File} (own : IsOwn state 
 
   sort-taken : (b : Bool) (kind : SectionKind)
       → IsIndexOf made.file.order (rows_of b made.rows) (content_of kind file.contents)
-      → index_tests (rows_of b made.rows) ≡ Ok tt
-      → IndexTaken file.order encoding (rows_of b made.rows)
-      (first kind (written_object file).sections)
+      → index_tests (rows_of b made.rows) ≡ Ok tt → IndexTaken file.order encoding
+      (rows_of b made.rows) (first kind (written_object file).sections)
   sort-taken b kind text tested =
       subst (λ o. IndexTaken o encoding (rows_of b made.rows)
       (first kind (written_object file).sections)) (sym (finished-order made file f))
@@ -202,8 +198,6 @@ up-to-parts state encoding file own before same =
       is = rw (opens, info-written file own.info, object, own.first, same, order, read) refl;
     }
 
--- ---- the format
-
 -- a section that rows name has a column in their index
 column-of : (version : ℕ) (kind : SectionKind) (rows : List IndexEntry) → HaveVersion version rows
     → index_tests rows ≡ Ok tt → is_used rows kind ≡ true
@@ -237,8 +231,6 @@ pub finished-shared : (made : InProgress) (file : File) → IsFinished made file
     made.file.contents
 finished-shared made file f kind shared = grind (arith, finished-content made file f kind)
 
--- ---- string offsets
-
 -- the range of some row can be rewritten
 module _ (order : Endianness) (encoding : Encoding) (c : Contents) (strings : List (List ℕ))
     (table : IsTable strings) (range : Contribution)
@@ -271,9 +263,8 @@ module _ {encoding : Encoding} {file : File} {indexes : Indexes} {made : InProgr
 
   -- its string offsets are rewritten range by range
   offsets-are : (strings : List (List ℕ)) → rewritten (own_source file encoding indexes)
-      (content_of kinds.StrOffsets file.contents) strings
-      ≡ rewritten_from made.file.order encoding (data_of made.strings)
-      (content_of kinds.StrOffsets made.file.contents) 0 tiled.ranges strings
+      (content_of kinds.StrOffsets file.contents) strings ≡ rewritten_from made.file.order encoding
+      (data_of made.strings) (content_of kinds.StrOffsets made.file.contents) 0 tiled.ranges strings
   unfolding packaged_offsets
   offsets-are strings =
       let f = is.finished in
@@ -282,11 +273,10 @@ module _ {encoding : Encoding} {file : File} {indexes : Indexes} {made : InProgr
       let ranges = ranges-are _ encoding size tiled.ranges tiled.tile _ _ made.rows
       again.compilations again.types tiled.rows tiled.named in
       let tested = tile-tested _ encoding size 0 size 0 _ tiled.tile (omega arith) (omega arith) in
-      rewritten-package (own_source file encoding indexes) _ strings again.packed
-      ∙ (λ i. packaged_offsets (finished-order made file f i) encoding indexes.compilations
-      indexes.types ((again.held kinds.Str ∙ again.strings_are) i)
-      (finished-shared made file f kinds.StrOffsets refl i) strings)
-      ∙ rw (ranges, tested) refl
+      rewritten-package (own_source file encoding indexes) _ strings again.packed ∙ (λ i.
+      packaged_offsets (finished-order made file f i) encoding indexes.compilations indexes.types
+      ((again.held kinds.Str ∙ again.strings_are) i)
+      (finished-shared made file f kinds.StrOffsets refl i) strings) ∙ rw (ranges, tested) refl
 
   -- unless an offset doesn't fit
   pub own-offsets : (strings : List (List ℕ)) → UnlessStringOffset

@@ -2,22 +2,24 @@
 -- under its name. The sections are taken as parts, or refused with an error of some sort, where
 -- string offsets are.
 use Rattle.thorin_again.proofs.Terms
-use Terms.{ap, append-nil, append_assoc, arith, Bool, CanTake, cond, content_of, Contents, count_of}
-use Terms.{Elf, elf_of, encoding_of, Err, ErrorValue, false, File, file_text, first, found-any}
-use Terms.{has_info, has_part, Info, input_encoding, input_file_of, is-same, is_in_format}
-use Terms.{KindsDiffer, length, List, list_any, list_any-append, name_of, name_table, nat_tests}
-use Terms.{nil_from_length, Ok, opened, or_right, Parts, parts_of, plain_section, refl, Result}
-use Terms.{rewritten, same-self, same_kind, SectionKind, Source, StrOffsets, subst, sym, TakesParts}
-use Terms.{true, Used, used_kind, with_each_part, with_part, written_elf, written_object}
-use Terms.{written_sections, written_used, ℕ, [], ◌++◌, ◌+◌, ◌<◌, ◌>>=◌, ◌∙◌, ◌∷◌, ◌≡◌, ◌≤◌}
-use Rattle.thorin_input.specs.Parts.{with_offsets}
-use Rattle.std.proofs.Common.{bytes_eq}
+use Terms.{ap, append-nil, append_assoc, arith, CanTake, content_of, Contents, count_of, Elf}
+use Terms.{elf_of, encoding_of, ErrorValue, false, File, file_text, first, has_info, has_part, Info}
+use Terms.{input_encoding, is-same, is_in_format, KindsDiffer, length, List, list_any}
+use Terms.{list_any-append, name_of, name_table, nat_tests, nil_from_length, Ok, opened, Parts}
+use Terms.{parts_of, refl, Result, rewritten, same-self, same_kind, SectionKind, Source, StrOffsets}
+use Terms.{subst, sym, TakesParts, true, Used, used_kind, written_elf, written_object, written_used}
+use Terms.{[], ℕ, ◌++◌, ◌+◌, ◌<◌, ◌>>=◌, ◌∙◌, ◌∷◌, ◌≡◌, ◌≤◌}
+use Rattle.thorin_input.specs.Parts.{with_each_part, with_offsets, with_part}
+use Rattle.std.proofs.Common.{Bool, bytes_eq, cond, Err}
 use Rattle.dwp_base.proofs.EveryKind.{every, kind-named, not-older}
 use Rattle.dwp_elf_read.specs.Elf.{is_named, is_of, SectionMeaning}
 use Rattle.dwp_elf_read.specs.Identification.{identity_of}
 use Rattle.dwp_index.specs.Contents.{is_of_kind}
-use Rattle.thorin_input.specs.Used.{has_kind, is_present, used_bytes, used_from}
+use Rattle.thorin_input.specs.Used.{has_kind, input_file_of, is_present, used_bytes, used_from}
 use Rattle.thorin_join.proofs.Files.Contents.{nothing}
+use Rattle.std.proofs.lemmas.Bool.{or_right}
+use Rattle.thorin_input.proofs.Walking.{found-any}
+use Rattle.dwp_elf.specs.Written.{plain_section, written_sections}
 use Rattle.dwp_index.specs.Contents as contents
 
 -- a written file is opened
@@ -29,8 +31,7 @@ opened-elf bytes file h = grind arith
 abbrev pub section_of : SectionKind × List ℕ → Used
 section_of c = record { kind = c.0; bytes = c.1; address = 0 }
 
--- ---- no kind that was seen comes again
-
+-- no kind that was seen comes again
 pub rest-differ : (c : SectionKind × List ℕ) (cs : Contents) → KindsDiffer (c ∷ cs) → KindsDiffer cs
 rest-differ c cs h kind = let all = h kind in omega arith
 
@@ -56,9 +57,8 @@ pub fresh-rest : (seen : SectionKind → Bool) (c : SectionKind × List ℕ) (cs
 fresh-rest seen c cs fresh kind = let all = fresh kind in omega arith
 
 -- one more was seen, of the kind of the first
-pub fresh-more : {X : Type 0} (test : SectionKind → X → Bool) (xs : List X) (x : X)
-    (c : SectionKind × List ℕ) (cs : Contents)
-    → ((kind : SectionKind) → test kind x ≡ same_kind c.0 kind)
+pub fresh-more : {X : Type 0} (test : SectionKind → X → Bool) (xs : List X) (x : X) (c : SectionKind
+    × List ℕ) (cs : Contents) → ((kind : SectionKind) → test kind x ≡ same_kind c.0 kind)
     → Fresh (λ kind. list_any (test kind) xs) (c ∷ cs)
     → Fresh (λ kind. list_any (test kind) (xs ++ x ∷ [])) cs
 fresh-more test xs x c cs same fresh kind =
@@ -68,8 +68,7 @@ pub not-seen : (seen : SectionKind → Bool) (c : SectionKind × List ℕ) (cs :
     → Fresh seen (c ∷ cs) → seen c.0 ≡ false
 not-seen seen c cs fresh = grind (arith, nat_tests, fresh c.0, same-self c.0)
 
--- ---- the used sections of a written file
-
+-- the used sections of a written file
 abbrev Seen : List Used → SectionKind → Bool
 Seen used kind = list_any (has_kind kind) used
 
@@ -94,9 +93,8 @@ object-written file differ =
     (λ kind. let d = differ kind in omega arith)) refl
 
 -- the encoding of the written bytes is that of the file as an input
-pub input-encoding : (file : File) → KindsDiffer file.contents
-    → elf_of (file_text file) ≡ Ok (written_elf file)
-    → input_encoding (file_text file) ≡ encoding_of (written_object file)
+pub input-encoding : (file : File) → KindsDiffer file.contents → elf_of (file_text file) ≡ Ok
+    (written_elf file) → input_encoding (file_text file) ≡ encoding_of (written_object file)
 unfolding input_encoding
 input-encoding file differ back =
     let opens = opened-elf (file_text file) (written_elf file) back in
@@ -109,8 +107,6 @@ first-written kind [] differ = refl
 first-written kind (c ∷ cs) differ =
     let rest = first-written kind cs (rest-differ c cs differ) in
     grind (arith, nat_tests, rest, none-behind kind c cs differ, nil_from_length c.1)
-
--- ---- what is there by name
 
 -- a test that each section of the kind's name meets
 module _ (kind : SectionKind) (test : SectionMeaning → Bool)
@@ -160,9 +156,8 @@ Unless E (Ok x) = Unit {0}
 Unless E (Err e) = E e
 
 -- a step, and then another
-pub and-then : (E : ErrorValue → Type 0) {X Y : Type 0} (r : Result X ErrorValue)
-    (f : X → Result Y ErrorValue) → Unless E r → ((x : X) → r ≡ Ok x → Unless E (f x))
-    → Unless E (r >>= f)
+pub and-then : (E : ErrorValue → Type 0) {X Y : Type 0} (r : Result X ErrorValue) (f : X
+    → Result Y ErrorValue) → Unless E r → ((x : X) → r ≡ Ok x → Unless E (f x)) → Unless E (r >>= f)
 and-then E r f h k = grind arith
 
 -- where no error is of that sort, there is an answer
@@ -177,8 +172,7 @@ behind kind c cs differ some = grind (arith, none-behind kind c cs differ)
 pub front : (c : SectionKind × List ℕ) (cs : Contents) → content_of c.0 (c ∷ cs) ≡ c.1
 front c cs = rw (same-self c.0) refl
 
--- ---- the sections are taken, or refused with an error of some sort
-
+-- the sections are taken, or refused with an error of some sort
 module _ (E : ErrorValue → Type 0) (source : Source) where
   -- what taking them asks
   pub record CanTry (cs : Contents) (strings : List (List ℕ)) : Type 0 where
@@ -217,8 +211,7 @@ module _ (E : ErrorValue → Type 0) (source : Source) where
       (λ j. ap (λ l. same_kind l j) (sym is)) fresh in
       let offsets = λ (w : List ℕ × List (List ℕ)) (same : same_kind kind StrOffsets ≡ true).
       parts-tried cs (before.0 ++ (StrOffsets, w.0) ∷ [], w.1)
-      (more w.0 StrOffsets (is-same kind StrOffsets same))
-      (can-rest c cs before.1 w.1 differ
+      (more w.0 StrOffsets (is-same kind StrOffsets same)) (can-rest c cs before.1 w.1 differ
       (λ s. grind (arith, none-behind StrOffsets c cs differ same)) can) in
       let copied = parts-tried cs (before.0 ++ c ∷ [], before.1) (more (b ∷ bs) kind refl)
       same-strings in

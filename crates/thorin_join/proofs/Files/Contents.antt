@@ -1,15 +1,13 @@
 -- A written file is read as the package of its contents, with its indexes.
 use Rattle.thorin_join.proofs.Terms
-use Terms.{AreDistinct, arith, Bool, by-bool, Class, codes, content_of, count_of, elf_of}
-use Terms.{Endianness, entry_ids, Err, file_text, HasEntries, IdentifiersFit, Index}
-use Terms.{index_in_section, index_tests, index_version_of, IndexEntry, inl, inr, is-same}
-use Terms.{IsIndexOf, KindsDiffer, length, length-KindsDiffer, List, None, Ok, Option, package_of}
-use Terms.{refl, rows_of, same_kind, SectionKind, slice_index, Some, UnexpectedEof, ℕ, [], ◌+◌, ◌<◌}
-use Terms.{◌^◌, ◌∷◌, ◌≡◌, ◌≤◌}
+use Terms.{AreDistinct, arith, Bool, by-bool, codes, content_of, count_of, elf_of, Endianness}
+use Terms.{entry_ids, Err, IdentifiersFit, Index, index_tests, index_version_of, IndexEntry, inl}
+use Terms.{inr, is-same, IsIndexOf, KindsDiffer, length, List, None, Ok, Option, refl, rows_of}
+use Terms.{same_kind, SectionKind, slice_index, Some, [], ℕ, ◌+◌, ◌<◌, ◌^◌, ◌∷◌, ◌≡◌, ◌≤◌}
 use Rattle.dwp_base.specs.declared.class.Class.TheVariants.{Elf32, Elf64}
 use Rattle.dwp_base.specs.declared.section.SectionKind.TheVariants.{CuIndex, TuIndex}
 use Rattle.dwp_elf_read.specs.Layout.{word_size}
-use Rattle.dwp_elf.specs.FileText.{headers_place, name_table, Object}
+use Rattle.dwp_elf.specs.FileText.{file_text, headers_place, name_table, Object}
 use Rattle.dwp_elf.specs.Numbers.{Fits}
 use Rattle.dwp_elf.specs.Written.{written_elf, written_sections}
 use Rattle.dwp_index.specs.Holding.{HasContent}
@@ -20,9 +18,13 @@ use Rattle.thorin_join.specs.WrittenPackage.{IsIndexIn, package_with}
 use Rattle.dwp_index.specs.IndexBytes.{index_of, version_of}
 use Rattle.thorin_index.proofs.ReadAgain.{index_is_read}
 use Rattle.thorin_index.proofs.RowsAgain.{written_rows}
+use Rattle.dwp_base.specs.declared.class.Class.{Class}
+use Rattle.dwp_bytes.specs.declared.error.ReadError.TheVariants.{UnexpectedEof}
+use Rattle.dwp_index.specs.Package.{index_in_section, package_of}
+use Rattle.thorin_index.specs.ReadRows.{HasEntries}
+use Rattle.dwp_elf.proofs.KindCounts.{length-KindsDiffer}
 
--- ---- the headers' place
-
+-- the headers' place
 pub fitting : (class : Class) (machine : ℕ) (order : Endianness) (cs : List (SectionKind × List ℕ))
     → Fits (record { class = class; machine = machine; order = order; contents = cs })
     → headers_place class cs < 256 ^ word_size class
@@ -30,35 +32,27 @@ unfolding Fits
 fitting Elf32 machine order cs fits = let first = fits 0 0 (omega arith) in omega (arith, first)
 fitting Elf64 machine order cs fits = let second = fits 1 0 (omega arith) in omega (arith, second)
 
--- ---- the sections of a written file
-
 -- where no content is of a kind
 pub nothing : (kind : SectionKind) (cs : List (SectionKind × List ℕ)) → count_of kind cs ≡ 0
     → content_of kind cs ≡ []
 nothing kind [] h = refl
 nothing kind (c ∷ cs) h =
-    by-bool _ (same_kind c.0 kind)
-    (λ same. absurd (let one = rw same at h in omega arith))
+    by-bool _ (same_kind c.0 kind) (λ same. absurd (let one = rw same at h in omega arith))
     (λ other. let none = rw other at h in rw other (nothing kind cs (omega arith)))
 
 -- each content of a kind is in its section, or has no bytes and nothing follows
 held_from : (kind : SectionKind) (number : ℕ) (names : List ℕ) (cs : List (SectionKind × List ℕ))
-    → count_of kind cs ≤ 1
-    → HasContent (written_sections number names cs) kind (content_of kind cs)
+    → count_of kind cs ≤ 1 → HasContent (written_sections number names cs) kind (content_of kind cs)
 held_from kind number names [] h = inr (foreign _ kind (codes ".shstrtab") refl refl, refl)
 held_from kind number names ((k, []) ∷ cs) h =
     let rest = held_from kind (number + 1) names cs (omega (arith, h)) in
-    by-bool _ (same_kind k kind)
-    (λ same. let one = rw same at h in
+    by-bool _ (same_kind k kind) (λ same. let one = rw same at h in
     rw same (inr (empty _ kind refl, rw (nothing kind cs (omega arith)) at rest)))
     (λ apart. rw apart (inr (empty _ kind refl, rest)))
 held_from kind number names ((k, b ∷ bs) ∷ cs) h =
     let rest = held_from kind (number + 1) names cs (omega (arith, h)) in
-    by-bool _ (same_kind k kind)
-    (λ same. let is = is-same k kind same in rw same (inl (grind (arith, is))))
-    (λ apart. rw apart (inr (another_kind _ kind k refl apart, rest)))
-
--- ---- the package
+    by-bool _ (same_kind k kind) (λ same. let is = is-same k kind same in rw same
+    (inl (grind (arith, is)))) (λ apart. rw apart (inr (another_kind _ kind k refl apart, rest)))
 
 -- these bytes are read as the package of a file's contents
 abbrev pub IsReadAs : List ℕ → Object → Type 0
@@ -82,8 +76,6 @@ package_read o h machine fits =
     (fitting o.class o.machine o.order o.contents fits)
     (omega (arith, length-KindsDiffer o.contents h)))
 
--- ---- the indexes
-
 -- what is read of the index of these rows
 abbrev pub HasRows : Option Index → List IndexEntry → Type 0
 HasRows None rows = rows ≡ []
@@ -105,8 +97,7 @@ some-bytes order (b ∷ bs) index h = omega arith
 
 pub index-read : (order : Endianness) (rows : List IndexEntry) (bytes : List ℕ)
     → IsIndexOf order rows bytes → index_tests rows ≡ Ok tt → AreDistinct (entry_ids rows)
-    → ((r : ℕ) → slice_index (entry_ids rows) r < 2 ^ 64)
-    → IndexRead order rows bytes
+    → ((r : ℕ) → slice_index (entry_ids rows) r < 2 ^ 64) → IndexRead order rows bytes
 index-read order [] bytes text tested distinct fit =
     record { index = None; read = index_missing order bytes text; has = refl }
 index-read order (row ∷ rows) bytes text tested distinct fit =

@@ -2,29 +2,32 @@
 -- a name is found, or the name has none.
 use Rattle.thorin_join.proofs.Terms
 use Terms.{ap, AreRowsOf, arith, Bool, by-bool, cond, content_of, Contents, Contribution}
-use Terms.{contribution_to, data_of, DwarfObject, Endianness, entry_ids, false, File, file_text}
-use Terms.{filter, GivesNone, GivesUnit, HasEntries, identifier_of, IdentifiersFit, Index}
-use Terms.{index_tests, IndexEntry, InProgress, is_chosen, is_compilation, IsFinished, IsNotNamed}
-use Terms.{IsPackageOnceWritten, IsRowOf, IsSound, IsSoundBegun, IsTable, IsUnit, IsUnitOf, kind_of}
-use Terms.{length, length-map, limit_of, List, lookup, map, MatchOption, Meaning, meaning_at}
-use Terms.{Members, names_of, nat_tests, None, not, Ok, Option, own_bytes, own_place, Package}
-use Terms.{part_of, range_in, refl, row_bytes, rows_of, same_kind, same_name, same_sort}
-use Terms.{SectionKind, sections_of, slice_get, slice_index, Some, suc, sym, take-length, true}
-use Terms.{unit_of, units_in, units_of, UnitSection, with_bytes, zero, ℕ, [], ◌++◌, ◌+◌, ◌<◌, ◌∙◌}
-use Terms.{◌∷◌, ◌≡◌, ◌≤◌}
+use Terms.{contribution_to, data_of, DwarfObject, Endianness, entry_ids, false, filter}
+use Terms.{identifier_of, IdentifiersFit, Index, index_tests, IndexEntry, InProgress, is_chosen}
+use Terms.{is_compilation, IsFinished, IsRowOf, IsSound, IsSoundBegun, IsTable, kind_of, length}
+use Terms.{List, lookup, map, MatchOption, Meaning, meaning_at, Members, names_of, nat_tests, None}
+use Terms.{not, Ok, Option, part_of, range_in, refl, rows_of, same_kind, same_name, SectionKind}
+use Terms.{slice_get, slice_index, Some, suc, sym, take-length, true, units_in, units_of}
+use Terms.{UnitSection, with_bytes, zero, [], ℕ, ◌++◌, ◌+◌, ◌<◌, ◌∙◌, ◌∷◌, ◌≡◌, ◌≤◌}
 use Rattle.thorin_join.proofs.Units.InRows.{chosen-sort, distinct_chosen, same-sort, same_name-true}
 use Rattle.dwp_table.proofs.Tables.{finds_exactly}
 use Rattle.dwp_index.specs.Contents.{content}
-use Rattle.dwp_index.specs.Package.{index_for}
+use Rattle.dwp_index.specs.Package.{index_for, Package, row_bytes}
 use Rattle.dwp_index.proofs.HeldContents.{held_content}
 use Rattle.dwp_index.proofs.PackageLookUp.{absent_unit, no_index, present_unit}
-use Rattle.thorin_index.specs.ReadRows.{HasContributions, non_empty}
+use Rattle.thorin_index.specs.ReadRows.{HasContributions, HasEntries, non_empty}
 use Rattle.thorin_join.proofs.Files.Contents.{chosen-fit, HasRows, index-read, package_held}
 use Rattle.dwp_base.specs.declared.section.SectionKind.TheVariants as kinds
 use Rattle.dwp_index.proofs.UsedOnce.{entries_once}
 use Rattle.thorin_join.specs.Builder.{finish_test, indexes_test, IsFinishedState, State}
 use Rattle.thorin_join.proofs.Rows.OneAdded.{Grows, grows-trans, grows-with_bytes, keep-rows}
 use Rattle.thorin_join.proofs.Parts.Added.{content-with_bytes}
+use Rattle.std.proofs.lemmas.List.{length-map}
+use Rattle.dwp_elf.specs.FileText.{file_text, Object as File}
+use Rattle.dwp_index.specs.Finding.{IsNotNamed, IsUnitOf, own_bytes, own_place, unit_of}
+use Rattle.dwp_index.specs.Holding.{sections_of}
+use Rattle.thorin_join.specs.Join.{GivesNone, GivesUnit, IsPackageOnceWritten, IsUnit, limit_of}
+use Rattle.thorin_join.specs.Join.{same_sort}
 
 -- the identifier at the place of a row
 pub id-at : (rows : List IndexEntry) (place : ℕ) (row : IndexEntry) → slice_get rows place ≡ Some
@@ -77,8 +80,7 @@ module _ (order : Endianness) (contents : Contents) (strings : List (List ℕ))
       → Looked (rows_of (is_compilation name) rows) (lookup (same_name name) (members of rows))
   looked of [] are = λ r within same. absurd (omega arith)
   looked of (r ∷ rs) are =
-      by-bool _ (same_name name r.id)
-      (λ same. let is = same_name-true name r.id same in
+      by-bool _ (same_name name r.id) (λ same. let is = same_name-true name r.id same in
       let chosen : is_chosen (is_compilation name) r ≡ true = grind arith in
       rw (same, chosen) (record { place = 0; row = r; at = refl; is = rw is are.0 }))
       (λ other. rw other (by-bool _ (is_chosen (is_compilation name) r)
@@ -86,8 +88,7 @@ module _ (order : Endianness) (contents : Contents) (strings : List (List ℕ))
       (looked of rs are.1)))
       (λ passed. rw passed (looked of rs are.1))))
 
--- ---- the unit of a row
-
+-- the unit of a row
 pub part-there : (part : Option Contribution) → ((range : Contribution) → part ≡ Some range
     → 0 < range.size) → non_empty part ≡ part
 part-there part some = grind (arith, some, nat_tests)
@@ -191,8 +192,6 @@ module _ (order : Endianness) (contents : Contents) (compilations types : Option
     package-finds =
         let has : HasRows (index_for pack name) own = grind arith in
         gives (index_for pack name) refl has _ (looked order contents strings name of rows are)
-
--- ---- a finished package
 
 -- the tests of finishing
 pub record Tested (made : InProgress) : Type 0 where

@@ -3,42 +3,42 @@
 -- have, and the parts.
 use Rattle.thorin_join.proofs.Terms
 use Terms.{ap, append-nil, append_assoc, appended, arith, bind-was, by-bool, bytes_of_contents}
-use Terms.{bytes_of_strings, cond, content_of, Contents, Contribution, drop, DwarfObject, each_from}
-use Terms.{Encoding, Endianness, entry_count, eqb, ErrorValue, false, false_from_ne_true, first}
-use Terms.{has_part, header_size, if◌then◌else◌, inl, InProgress, inr, is-same, is_copied}
-use Terms.{is_package, IsTable, IsZeroFree, joined_parts, kept_more, length, length-append}
-use Terms.{length-drop, length-take, List, list_any, list_any-append, named_in, nat_tests, NewUnit}
-use Terms.{nil_from_length, offset_of_entry, offsets_used, Ok, packaged_offsets, Parts, parts_of}
-use Terms.{position_or_len, refl, remapped, remapped_entries, result_unwrap_or, rewritten, same-ok}
+use Terms.{bytes_of_strings, cond, content_of, Contents, Contribution, drop, DwarfObject, Encoding}
+use Terms.{Endianness, entry_count, eqb, ErrorValue, false, first, has_part, header_size}
+use Terms.{if◌then◌else◌, inl, InProgress, inr, is-same, is_copied, is_package, IsTable, IsZeroFree}
+use Terms.{joined_parts, kept_more, length, length-append, length-drop, length-take, List, list_any}
+use Terms.{list_any-append, nat_tests, NewUnit, nil_from_length, offsets_used, Ok, packaged_offsets}
+use Terms.{Parts, parts_of, position_or_len, refl, remapped, result_unwrap_or, rewritten, same-ok}
 use Terms.{same-self, same_kind, SectionKind, slice_range, Source, stands_once, Str, string_at}
-use Terms.{strings_at, strings_of, StrOffsets, subst, suc, sum_by, sum_by-append, sum_by-cons, sym}
-use Terms.{take, take-length, true, Used, with_bytes, with_each_part, with_new_unit, with_new_units}
-use Terms.{with_offsets, with_part, with_parts, with_string, with_strings, with_unit_added, zero, ℕ}
-use Terms.{[], ◌&&◌, ◌*◌, ◌++◌, ◌+◌, ◌-◌, ◌<◌, ◌||◌, ◌∙◌, ◌∷◌, ◌≡◌, ◌≤◌, ◌⊎◌}
+use Terms.{strings_of, StrOffsets, subst, suc, sum_by, sym, take, take-length, true, Used}
+use Terms.{with_bytes, with_each_part, with_new_unit, with_new_units, with_offsets, with_part}
+use Terms.{with_parts, with_string, with_unit_added, zero, [], ℕ, ◌&&◌, ◌*◌, ◌++◌, ◌+◌, ◌-◌, ◌<◌}
+use Terms.{◌||◌, ◌∙◌, ◌∷◌, ◌≡◌, ◌≤◌, ◌⊎◌}
 use Rattle.thorin_join.specs.Meaning.{joined_content}
 use Rattle.std.proofs.Math.Nat.{mul-le-mul_right}
-use Rattle.std.proofs.lemmas.List.Sums.{sum_by_push}
-use Rattle.thorin_strings.specs.StringOffsets.{fitting_offset, named_at, offset_at, remapped_entry}
+use Rattle.std.proofs.lemmas.List.Sums.{sum_by-append, sum_by-cons, sum_by_push}
+use Rattle.thorin_strings.specs.StringOffsets.{fitting_offset, named_at, offset_at}
+use Rattle.thorin_strings.specs.StringOffsets.{remapped_entries, remapped_entry}
 use Rattle.dwp_strings.proofs.Named.{read_free, string_was, used}
 use Rattle.thorin_strings.proofs.NamedBytes.{entries_long, header_long}
 use Rattle.thorin_package_input.specs.PackagedOffsets.{ranges_test, rewritten_from}
 use Rattle.thorin_package_input.proofs.RewriteSteps.{next_passed}
-use Rattle.thorin_join.specs.FirstUse.{named_by_ranges, named_by_section}
+use Rattle.thorin_join.specs.FirstUse.{named_by_ranges, named_by_section, named_in, with_strings}
 use Rattle.thorin_join.proofs.Parts.Ranges.{count-fits, count-none, range-of}
 use Rattle.thorin_join.proofs.Units.ReadInTurn.{News}
 pub use Rattle.thorin_strings.proofs.NamedEntries.{as_error_ok as error-inv}
+use Rattle.thorin_join.specs.Strings.{each_from, offset_of_entry, strings_at}
+use Rattle.std.proofs.lemmas.Bool.{false_from_ne_true}
 
 pub differ : (a b : SectionKind) → (a ≡ b → ⊥) → same_kind a b ≡ false
 differ a b apart = false_from_ne_true _ (λ same. apart (is-same a b same))
 
--- ---- bytes that are added to a section
-pub content-appended : (kind k : SectionKind) (bytes : List ℕ) (c : Contents)
-    → content_of kind (appended k bytes c) ≡ cond (same_kind k kind) (content_of kind c ++ bytes)
-    (content_of kind c)
+-- bytes that are added to a section
+pub content-appended : (kind k : SectionKind) (bytes : List ℕ) (c : Contents) → content_of kind
+    (appended k bytes c) ≡ cond (same_kind k kind) (content_of kind c ++ bytes) (content_of kind c)
 content-appended kind k bytes [] = refl
 content-appended kind k bytes (d ∷ ds) =
-    by-bool _ (same_kind d.0 k)
-    (λ same. rw (same, ← is-same d.0 k same)
+    by-bool _ (same_kind d.0 k) (λ same. rw (same, ← is-same d.0 k same)
     (by-bool _ (same_kind d.0 kind) (λ here. rw here) (λ later. rw later)))
     (λ other. rw other (by-bool _ (same_kind d.0 kind) (λ here. rw here (grind arith))
     (λ later. rw (later, content-appended kind k bytes ds))))
@@ -57,7 +57,6 @@ content-with_parts kind [] c = sym (append-nil (content_of kind c))
 content-with_parts kind (p ∷ ps) c =
     grind (arith, content-with_parts kind ps, content-with_bytes kind p.0 p.1, append_assoc {A = ℕ})
 
--- ---- what a section adds to the parts
 -- joined parts with one more
 pub joined_parts-more : (kind : SectionKind) (a : Contents) (k : SectionKind) (bytes : List ℕ)
     → joined_parts kind (a ++ (k, bytes) ∷ []) ≡ joined_parts kind a ++ cond
@@ -68,8 +67,7 @@ joined_parts-more kind (p ∷ ps) k bytes =
     (λ same. rw same (sym (append_assoc p.1 (joined_parts kind ps) _))) (λ other. rw other))
 
 pub joined_parts-other : (kind : SectionKind) (a : Contents) (k : SectionKind) (bytes : List ℕ)
-    → same_kind k kind ≡ false
-    → joined_parts kind (a ++ (k, bytes) ∷ []) ≡ joined_parts kind a
+    → same_kind k kind ≡ false → joined_parts kind (a ++ (k, bytes) ∷ []) ≡ joined_parts kind a
 joined_parts-other kind a k bytes other =
     joined_parts-more kind a k bytes ∙ rw other (append-nil (joined_parts kind a))
 
@@ -103,13 +101,11 @@ module _ (source : Source) where
   unfolding with_part with_offsets
   step before s next h = grind arith
 
-  -- ---- all sections
   -- what holds of no sections, and with one more before others, holds of those of an input
   pub each-part : (P : Parts → List Used → Parts → Type 0) → ((parts : Parts) → P parts [] parts)
       → ((before : Parts) (s : Used) (next : Parts) (ss : List Used) (after : Parts)
       → Step before s next → with_each_part source next ss ≡ Ok after → P next ss after
-      → P before (s ∷ ss) after)
-      → (sections : List Used) (before after : Parts)
+      → P before (s ∷ ss) after) → (sections : List Used) (before after : Parts)
       → with_each_part source before sections ≡ Ok after → P before sections after
   unfolding with_each_part
   each-part P none more [] before after h = grind (arith, none before)
@@ -140,8 +136,6 @@ module _ (source : Source) (strings : List (List ℕ)) (parts : Contents) (after
       → joined_parts kind parts ≡ []
   parts-none none apart = grind (arith, parts-plain apart)
 
--- ---- kinds that units share
-
 -- what holds of the kinds that are copied, and of string offsets
 pub copied-or-offsets : (P : SectionKind → Type 0) → ((kind : SectionKind) → is_copied kind ≡ true
     → P kind) → P StrOffsets → (kind : SectionKind)
@@ -149,8 +143,6 @@ pub copied-or-offsets : (P : SectionKind → Type 0) → ((kind : SectionKind) �
 copied-or-offsets P copied offsets kind shared =
     by-bool _ (is_copied kind) (copied kind)
     (λ other. subst P (sym (is-same kind StrOffsets (rw other at shared))) offsets)
-
--- ---- how string offsets are rewritten
 
 -- string offsets of a package are rewritten range by range, others as one range
 module _ (source : Source) (bytes : List ℕ) (strings : List (List ℕ)) where
@@ -166,7 +158,7 @@ module _ (source : Source) (bytes : List ℕ) (strings : List (List ℕ)) where
   unfolding rewritten
   rewritten-plain h = rw h refl
 
--- ---- strings that are used
+-- strings that are used
 with-append : (strings a b : List (List ℕ)) → with_strings strings (a ++ b) ≡ with_strings
     (with_strings strings a) b
 with-append strings [] b = refl
@@ -176,9 +168,8 @@ with-append strings (x ∷ a) b = with-append (with_string strings x) a b
 abbrev ended_long : List ℕ → ℕ
 ended_long string = length string + 1
 
-pub used-most : (strings used : List (List ℕ))
-    → bytes_of_strings (with_strings strings used) ≤ bytes_of_strings strings
-    + bytes_of_strings used
+pub used-most : (strings used : List (List ℕ)) → bytes_of_strings
+    (with_strings strings used) ≤ bytes_of_strings strings + bytes_of_strings used
 used-most strings [] = omega arith
 used-most strings (s ∷ ss) =
     let more = used-most (strings ++ s ∷ []) ss in
@@ -224,7 +215,6 @@ string-brings section string at strings h =
     let one = sum_by-cons ended_long string [] in
     grind (arith, nat_tests, zero-within left, length-drop, length-take, used strings string)
 
--- ---- the strings that so many first entries name
 -- one more string is read, at the offset of a number
 string-more : (section : List ℕ) (f : ℕ → ℕ) (i n j : ℕ) (l : List (List ℕ)) (string : List ℕ)
     → j ≡ i + n → strings_at section (each_from f i n) ≡ Ok l → string_at section (f j) ≡ Ok string
@@ -281,7 +271,7 @@ module _ (order : Endianness) (encoding : Encoding) (section bytes : List ℕ) w
             rw (names.3, ← r.is) (grind (arith, names.1, names.2, fits.0, length-append {A = ℕ}))
       ])
 
--- ---- the strings that ranges name, one after the other
+-- the strings that ranges name, one after the other
 pub slice-long : (bytes : List ℕ) (at size : ℕ) → at + size ≤ length bytes
     → size ≡ length (slice_range bytes at (at + size))
 slice-long bytes at size h =
@@ -321,15 +311,13 @@ module _ (source : Source) where
       rw (← same-ok {E = ErrorValue} _ out s2.2)
       (both, omega (arith, here.1, later.1, length-take {A = ℕ}, length-append {A = ℕ}))
 
-  -- ---- a section, and all of them
+  -- a section, and all of them
   section-brings : (bytes : List ℕ) (strings : List (List ℕ)) (out : List ℕ × List (List ℕ))
-      → rewritten source bytes strings ≡ Ok out
-      → Brings strings_in strings (named_by_section source bytes) (length bytes) out.1
-      × (length out.0 ≤ length bytes)
+      → rewritten source bytes strings ≡ Ok out → Brings strings_in strings
+      (named_by_section source bytes) (length bytes) out.1 × (length out.0 ≤ length bytes)
   unfolding rewritten packaged_offsets
   section-brings bytes strings out h =
-      by-bool _ (is_package source.indexes)
-      (λ packed. let s1 = bind-was _ _ out (rw packed at h) in
+      by-bool _ (is_package source.indexes) (λ packed. let s1 = bind-was _ _ out (rw packed at h) in
       rw packed (ranges-bring bytes 0 (length bytes) _ strings out (omega arith) s1.1 s1.2))
       (λ plain. rw plain (range-brings _ _ _ bytes _ strings out refl (rw plain at h)))
 
@@ -367,9 +355,8 @@ module _ (source : Source) where
 -- input
 pub each-unit : (P : InProgress → News → InProgress → Type 0) → ((p : InProgress) → P p [] p)
     → ((p : InProgress) (u : DwarfObject × NewUnit) (us : News) (now : InProgress) → P p us now
-    → P p (u ∷ us) now)
-    → ((p : InProgress) (u : DwarfObject × NewUnit) (us : News) (now : InProgress)
-    → P (with_unit_added p u) us now → P p (u ∷ us) now)
+    → P p (u ∷ us) now) → ((p : InProgress) (u : DwarfObject
+    × NewUnit) (us : News) (now : InProgress) → P (with_unit_added p u) us now → P p (u ∷ us) now)
     → (p : InProgress) (us : News) → P p us (with_new_units p us)
 unfolding with_new_units with_new_unit
 each-unit P none passed added p [] = none p

@@ -1,19 +1,19 @@
 -- What is read of ranges of string offsets: of their whole entries alone, of none, and of joined
 -- ones; and the strings that a range names, one by one.
 use Rattle.thorin_join.proofs.Terms
-use Terms.{ap, arith, cond, drop-append-le, each_from, Encoding, Endianness, entry_count, entry_in}
-use Terms.{eqb, false, Format, header_size, IsOk, length, length-drop, length-take, List, nat_lt}
-use Terms.{nat_tests, None, number_front, offset_of_entry, offset_size, Ok, range_named, ReadsAlike}
-use Terms.{refl, remapped, remapped_entries, slice_get, Some, string_at, string_in, strings_again}
-use Terms.{strings_at, strings_of, suc, take-append-drop, take_all, whole_entries, zero, ℕ, [], ◌*◌}
-use Terms.{◌++◌, ◌+◌, ◌-◌, ◌/◌, ◌∙◌, ◌∷◌, ◌≡◌, ◌≤◌, ◌⊎◌}
+use Terms.{ap, arith, cond, drop-append-le, Encoding, Endianness, entry_count, eqb, false, Format}
+use Terms.{header_size, length, length-drop, length-take, List, nat_tests, None, number_front}
+use Terms.{offset_size, Ok, range_named, ReadsAlike, refl, remapped, slice_get, Some, string_at}
+use Terms.{string_in, strings_again, strings_of, suc, take-append-drop, whole_entries, zero, [], ℕ}
+use Terms.{◌*◌, ◌++◌, ◌+◌, ◌-◌, ◌∙◌, ◌∷◌, ◌≡◌, ◌≤◌, ◌⊎◌}
 use Rattle.std.proofs.lemmas.Nat.{row_fits}
-use Rattle.thorin_strings.specs.StringOffsets.{entry_bytes, header_of}
+use Rattle.thorin_strings.specs.StringOffsets.{entry_bytes, header_of, remapped_entries}
 use Rattle.thorin_package_input.proofs.ReadAlike.{AlikeLaw, NamesLaw}
-use Rattle.dwp_bytes.specs.StringOffsets.{string_for}
-use Rattle.thorin_join.specs.Strings.{offsets_in}
+use Rattle.dwp_bytes.specs.StringOffsets.{entry_in, string_for}
+use Rattle.thorin_join.specs.Strings.{each_from, offset_of_entry, offsets_in, strings_at}
+use Rattle.std.proofs.Common.{IsOk, nat_lt, take_all, ◌/◌}
 
--- ---- a range without the bytes past its last whole entry
+-- a range without the bytes past its last whole entry
 pub count-again : (format : Format) (l h n : ℕ) → l ≡ h + n * offset_size format
     → (l - h) / offset_size format ≡ n
 count-again format l h n e = grind arith
@@ -35,9 +35,8 @@ whole-long encoding bytes room =
     omega (arith, fits.0, length-take {A = ℕ})
 
 module _ (order : Endianness) (encoding : Encoding) where
-  pub whole-read : (strings bytes : List ℕ) (i : ℕ)
-      → string_in order encoding strings (whole_entries encoding bytes) i ≡ string_in order
-      encoding strings bytes i
+  pub whole-read : (strings bytes : List ℕ) (i : ℕ) → string_in order encoding strings
+      (whole_entries encoding bytes) i ≡ string_in order encoding strings bytes i
   unfolding string_in entry_in
   whole-read strings bytes i =
       let width = offset_size encoding.format in
@@ -56,7 +55,6 @@ module _ (order : Endianness) (encoding : Encoding) where
   empty-alike section final i =
       grind (arith, nat_tests, count-none encoding.format 0 (header_size encoding))
 
--- ---- rewritten ranges
 -- what a range of some bytes is rewritten to: a header, and its entries
 pub record Range (order : Endianness) (encoding : Encoding) (section bytes : List ℕ) (size : ℕ)
     (strings : List (List ℕ)) (range : List ℕ × List (List ℕ)) : Type 0 where
@@ -74,8 +72,7 @@ pub record Range (order : Endianness) (encoding : Encoding) (section bytes : Lis
 pub range-of : (order : Endianness) (encoding : Encoding) (section bytes : List ℕ) (size : ℕ)
     (strings : List (List ℕ)) (range : List ℕ × List (List ℕ))
     → remapped order encoding section bytes size strings ≡ Ok range
-    → ((size ≡ 0) × (([], strings) ≡ range))
-    ⊎ Range order encoding section bytes size strings range
+    → ((size ≡ 0) × (([], strings) ≡ range)) ⊎ Range order encoding section bytes size strings range
 unfolding remapped
 range-of order encoding section bytes size strings range h = grind arith
 
@@ -88,14 +85,11 @@ reads-alike order encoding section bytes before written after final table h =
     strings_again order encoding section bytes before written after final
     (names-same order encoding section bytes (length bytes) before written after table h)
 
--- ---- the offsets
-
+-- the offsets
 each-at : (f : ℕ → ℕ) (i n k j : ℕ) → j ≡ i + k
     → cond (nat_lt k n) (Some (f j)) None ≡ slice_get (each_from f i n) k
 each-at f i zero k j at = grind (arith, nat_tests)
 each-at f i (suc n) k j at = grind (arith, nat_tests, each-at f (i + 1) n (k - 1) j)
-
--- ---- the strings at offsets
 
 -- one by one
 all-there : (section offsets : List ℕ) → ((i : ℕ) → IsOk (string_for section (slice_get offsets i)))
@@ -118,8 +112,7 @@ all-are section (o ∷ os) [] h = grind (arith, h 0)
 all-are section (o ∷ os) (y ∷ ys) h =
     grind (arith, h 0, all-are section os ys (λ i. h (suc i)))
 
--- ---- the strings of a range
-
+-- the strings of a range
 module _ (order : Endianness) (encoding : Encoding) (section range : List ℕ) where
   string-at : (i : ℕ) → string_in order encoding section range i
       ≡ string_for section (slice_get (offsets_in order encoding range) i)

@@ -3,12 +3,11 @@
 use Rattle.thorin_join.proofs.Terms
 use Terms.{append-nil, append_assoc, arith, Bool, by-bool, Contents, Contribution, data_of}
 use Terms.{Encoding, entry_count, false, first, has_part, Index, Indexes, inl, InputFile, inr}
-use Terms.{is-same, is_copied, is_package, IsTable, joined_parts, joined_read, kept_more, leb}
-use Terms.{leb-false, length, length-append, List, no_header, offset_size, Ok, Parts, parts_of}
-use Terms.{range_bytes, range_in, range_named, Ranges, ReadsAlike, refl, row_in, same-self}
-use Terms.{same_kind, SectionKind, Some, Source, Str, strings_again, StrOffsets, sym, take, true}
-use Terms.{true≢false, Used, whole_entries, with_each_part, ℕ, [], ⊎_elim, ◌*◌, ◌++◌, ◌+◌, ◌-◌, ◌<◌}
-use Terms.{◌∙◌, ◌∷◌, ◌≡◌, ◌≤◌, ◌⊎◌}
+use Terms.{is-same, is_copied, is_package, IsTable, joined_parts, joined_read, kept_more, length}
+use Terms.{length-append, List, no_header, offset_size, Ok, Parts, parts_of, range_in, range_named}
+use Terms.{Ranges, ReadsAlike, refl, row_in, same-self, same_kind, SectionKind, Some, Source, Str}
+use Terms.{strings_again, StrOffsets, sym, take, true, Used, whole_entries, with_each_part, [], ℕ}
+use Terms.{◌*◌, ◌++◌, ◌+◌, ◌-◌, ◌<◌, ◌∙◌, ◌∷◌, ◌≡◌, ◌≤◌, ◌⊎◌}
 use Rattle.thorin_join.specs.Meaning.{joined_offsets}
 use Rattle.thorin_join.proofs.Parts.Ranges.{count-none, empty-alike, names-same, reads-alike}
 use Rattle.thorin_join.proofs.Parts.Ranges.{whole-long, whole-read}
@@ -16,6 +15,8 @@ use Rattle.thorin_join.proofs.Parts.Added.{each-brings, each-part, has_part-more
 use Rattle.thorin_join.proofs.Parts.Added.{joined_parts-other, Rewritten, rewritten-package}
 use Rattle.thorin_join.proofs.Parts.Added.{rewritten-plain, step-brings}
 use Rattle.thorin_package_input.proofs.ReadAlike.{package_reads_alike}
+use Rattle.std.proofs.Common.{leb, leb-false, true≢false, ⊎_elim}
+use Rattle.thorin_package_input.specs.PackagedReading.{range_bytes}
 
 pub has-more : (a : Contents) (bytes : List ℕ) → has_part StrOffsets
     (a ++ (StrOffsets, bytes) ∷ []) ≡ true
@@ -66,8 +67,7 @@ module _ (source : Source) (plain : is_package source.indexes ≡ false) where
             grind (arith, whole-read object.order encoding section bytes i) in
             by-bool _ (leb 5 encoding.version)
             (λ standard. let none = so_far.fresh standard (once standard) in
-            rw (none.0, none.1) last)
-            (λ gnu i. let early = leb-false 5 encoding.version gnu in
+            rw (none.0, none.1) last) (λ gnu i. let early = leb-false 5 encoding.version gnu in
             let whole = so_far.whole early in
             let one = so_far.read final table (kept_more _ _ _ law.kept begins) i in
             let olds = joined_read object.order encoding old own whole.0 early whole.1 section i in
@@ -93,9 +93,8 @@ module _ (source : Source) (plain : is_package source.indexes ≡ false) where
       (data_of final) (joined_parts StrOffsets parts) i
   parts-read strings parts after table h =
       (each-part source (λ before ss after. (old : List ℕ) → ReadsBy before old
-      → ReadsBy after (old ++ joined_offsets encoding ss))
-      (λ parts old so_far. rw (append-nil old) so_far)
-      (λ before s next ss after made rest later old so_far.
+      → ReadsBy after (old ++ joined_offsets encoding ss)) (λ parts old so_far.
+      rw (append-nil old) so_far) (λ before s next ss after made rest later old so_far.
       elim made.adds [
         | inl (o, w) ↦
             rw (o, ← append_assoc old (whole_entries encoding s.bytes) (joined_offsets encoding ss))
@@ -108,8 +107,6 @@ module _ (source : Source) (plain : is_package source.indexes ≡ false) where
       ])
       object.sections ([], strings) (parts, after) h []
       (grind (arith, empty-alike object.order encoding section))).read
-
--- ---- a package
 
 -- one of the indexes
 abbrev pub IsOneOf : Index → Indexes → Type 0
@@ -137,9 +134,8 @@ module _ (source : Source) (packed : is_package source.indexes ≡ true) where
 
   -- so the part of a kind that is copied is its first section
   pub parts-first : (strings : List (List ℕ)) (parts : Contents) (after : List (List ℕ))
-      → parts_of source strings ≡ Ok (parts, after)
-      → (kind : SectionKind) → is_copied kind ≡ true → joined_parts kind parts ≡ first kind
-      source.object.sections
+      → parts_of source strings ≡ Ok (parts, after) → (kind : SectionKind) → is_copied kind ≡ true
+      → joined_parts kind parts ≡ first kind source.object.sections
   parts-first strings parts after h kind copied =
       each-part source (λ before ss after. joined_parts kind before.0 ≡ []
       → joined_parts kind after.0 ≡ first kind ss) (λ parts none. none)
@@ -149,12 +145,10 @@ module _ (source : Source) (packed : is_package source.indexes ≡ true) where
       source.object.sections ([], strings) (parts, after) h refl
 
   pub rows-read : (strings : List (List ℕ)) (parts : Contents) (after : List (List ℕ))
-      → IsTable strings → parts_of source strings ≡ Ok (parts, after)
-      → RowsRead source (first StrOffsets source.object.sections)
-      (joined_parts StrOffsets parts) after
+      → IsTable strings → parts_of source strings ≡ Ok (parts, after) → RowsRead source
+      (first StrOffsets source.object.sections) (joined_parts StrOffsets parts) after
   rows-read strings parts after table h =
-      each-part source (λ before ss after. IsTable before.1
-      → joined_parts StrOffsets before.0 ≡ []
+      each-part source (λ before ss after. IsTable before.1 → joined_parts StrOffsets before.0 ≡ []
       → RowsRead source (first StrOffsets ss) (joined_parts StrOffsets after.0) after.1)
       (λ parts table none. rw none (grind arith))
       (λ before s next ss last made rest rows table none.

@@ -5,8 +5,8 @@ use Terms.{Contents, contribution_to, DwarfObject, Endianness, false, filter-app
 use Terms.{InProgress, IsWhole, joined_parts, joining, keys, kind_of, length, length-append, List}
 use Terms.{list_any, map-append, Members, names_of, NewUnit, None, place_for, refl, row_at}
 use Terms.{same_kind, same_name, SectionKind, Some, Source, sym, take-length, TypeUnit, UnitRead}
-use Terms.{UnitSection, with_bytes, with_new_unit, with_new_units, with_parts, with_unit_added, ℕ}
-use Terms.{[], ◌++◌, ◌+◌, ◌∙◌, ◌∷◌, ◌≡◌}
+use Terms.{UnitSection, with_bytes, with_new_unit, with_new_units, with_parts, with_unit_added, []}
+use Terms.{ℕ, ◌++◌, ◌+◌, ◌∙◌, ◌∷◌, ◌≡◌}
 use Rattle.thorin_join.specs.Laid.{HaveOneRange, Heads, is_at, IsLaid, Lie, rows_at, same_place}
 use Rattle.thorin_join.proofs.Units.ReadInTurn.{IsAdded, News}
 use Rattle.thorin_join.proofs.Units.Whole.{Goes}
@@ -23,9 +23,8 @@ module _ (order : Endianness) (place : UnitSection) (row : IndexEntry) (own : Li
     (range : contribution_to (kind_of place) row
     ≡ Some (record { offset = record { 0 = at }; size = length own }))
     (is : IsWhole order place row.id own) where
-  lie-append : (offset : ℕ) (rows : List IndexEntry) (bytes : List ℕ)
-      → at ≡ offset + length bytes → Lie order place offset rows bytes
-      → Lie order place offset (rows ++ row ∷ []) (bytes ++ own)
+  lie-append : (offset : ℕ) (rows : List IndexEntry) (bytes : List ℕ) → at ≡ offset + length bytes
+      → Lie order place offset rows bytes → Lie order place offset (rows ++ row ∷ []) (bytes ++ own)
   lie-append offset [] bytes e h =
       let same : at ≡ offset = omega (arith, ap length h) in
       let are = ap (λ l. l ++ own) h ∙ sym (append-nil own) in
@@ -76,9 +75,8 @@ module _ (order : Endianness) (c : Contents) (rows : List IndexEntry) (u : Dwarf
   unit-lies lie =
       let range = row-own u.1.row c u.0 u.1.bytes place
       ∙ place-put (kind_of place) u.1.bytes c can.fits.some in
-      let behind = lie-append order place row u.1.bytes _ range
-      (rw (row-name u.1.row c u.0 u.1.bytes place) can.whole) 0 _ _ (omega arith)
-      (lie.lies place) in
+      let behind = lie-append order place row u.1.bytes _ range (rw
+      (row-name u.1.row c u.0 u.1.bytes place) can.whole) 0 _ _ (omega arith) (lie.lies place) in
       record {
         lies = λ other.
             let split = filter-append (is_at other) rows (row ∷ []) in
@@ -89,17 +87,15 @@ module _ (order : Endianness) (c : Contents) (rows : List IndexEntry) (u : Dwarf
             grind (arith, row-other, kinds-same, at-is other, can.no_info, can.fits.no_types));
       }
 
--- ---- those of an input
-
+-- those of an input
 types-only : (name : DwarfObject) (kind : SectionKind) → place_for name kind ≡ places.Types
     → (signature : ℕ) × (name ≡ TypeUnit (record { 0 = signature }))
 types-only (Compilation id) kind h = absurd cc
 types-only (TypeUnit signature) kind h = (signature.0, refl)
 
-pub can-lie : (source : Source) (made : InProgress) (parts : Contents) (n : DwarfObject × NewUnit)
-    (r : DwarfObject × UnitRead)
-    → IsAdded (adding source made parts) n r → Goes source.object.order r
-    → CanLie source.object.order n
+pub can-lie : (source : Source) (made : InProgress) (parts : Contents) (n : DwarfObject
+    × NewUnit) (r : DwarfObject × UnitRead) → IsAdded (adding source made parts) n r
+    → Goes source.object.order r → CanLie source.object.order n
 can-lie source made parts n r is goes =
     let row = is-unit_row source.indexes (adding source made parts).whole r.0 n.1.row is.row in
     let none = whole-else source.encoding made.file.contents parts in
@@ -114,8 +110,7 @@ laid-lies made parts none laid =
     let empty = append-nil {A = ℕ} in
     grind (arith, content-with_parts, none, empty, laid.info, laid.types, laid.once)
 
--- ---- units whose names are new
-
+-- units whose names are new
 abbrev pub AllNew : List DwarfObject → List DwarfObject → Type 0
 AllNew names [] = Unit {0}
 AllNew names (u ∷ us) = (list_any (same_name u) names ≡ false) × AllNew (names ++ u ∷ []) us
@@ -132,8 +127,7 @@ pub names-added : (p : InProgress) (u : DwarfObject × NewUnit) → names_of (wi
 names-added p u =
     rw (map-append, row-name u.1.row p.file.contents u.0 u.1.bytes u.1.place) refl
 
--- ---- units that can be added
-
+-- units that can be added
 abbrev pub AllCanBeAdded : Endianness → Contents → List (List ℕ) → News → Members → Type 0
 AllCanBeAdded order c strings [] [] = Unit {0}
 AllCanBeAdded order c strings (u ∷ us) (m ∷ ms) = CanBeAdded order c strings u m

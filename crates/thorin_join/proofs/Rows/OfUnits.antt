@@ -3,29 +3,29 @@
 -- row.
 use Rattle.thorin_join.proofs.Terms
 use Terms.{all_kinds, ap, arith, bind-was, Bool, by-bool, content_of, Contents, Contribution}
-use Terms.{contribution_put, contribution_to, contributions_by, data_of, DwarfObject, Encoding}
-use Terms.{entry_by, false, find, first, identifier_of, Index, IndexEntry, Indexes, is_copied}
-use Terms.{is_none, is_package, is_shared, is_some, IsTable, joined_parts, length, LieBehind}
-use Terms.{LieInside, List, list_all, Meaning, None, Ok, Option, part_of, parts_of, range_in}
-use Terms.{Ranges, read_each, ReadsAlike, refl, row_in, row_test, SectionKind, Shares, Some, Source}
-use Terms.{Str, StrOffsets, sym, take, take-length, true, unit_row, UnitRead, with_parts, ℕ, []}
-use Terms.{◌&&◌, ◌+◌, ◌||◌, ◌∙◌, ◌∷◌, ◌≡◌, ◌≤◌}
+use Terms.{contribution_put, contribution_to, data_of, DwarfObject, Encoding, entry_by, false, find}
+use Terms.{first, identifier_of, Index, IndexEntry, Indexes, is_copied, is_none, is_package}
+use Terms.{is_shared, is_some, IsTable, joined_parts, length, LieInside, List, list_all, Meaning}
+use Terms.{None, Ok, Option, part_of, parts_of, range_in, Ranges, read_each, ReadsAlike, refl}
+use Terms.{row_in, SectionKind, Shares, Some, Source, Str, StrOffsets, sym, take, take-length, true}
+use Terms.{UnitRead, with_parts, [], ℕ, ◌&&◌, ◌+◌, ◌||◌, ◌∙◌, ◌∷◌, ◌≡◌, ◌≤◌}
 use Rattle.dwp_base.specs.ByKind.{value_of}
 use Rattle.dwp_base.proofs.KindsRead.{read-kind}
 use Rattle.dwp_base.specs.declared.section.SectionKind.TheVariants.{Abbrev, Info, Types}
 use Rattle.thorin_input.specs.Adjusting.{adjusted, Adjustor, contribution_by_row, has_column_for}
 use Rattle.thorin_input.specs.Adjusting.{other_index, own_index, row_of}
 use Rattle.thorin_input.specs.Indexes.{index_for}
-use Rattle.thorin_join.specs.Meaning.{contribution_by, lie_inside, meaning_by, offsets_by}
-use Rattle.thorin_join.specs.Meaning.{placed_row, shared_kinds, unit_meaning}
-use Rattle.thorin_input.specs.Rows.{adjusted_contribution, own_contribution, unit_contribution}
-use Rattle.thorin_input.specs.Rows.{whole_row}
+use Rattle.thorin_join.specs.Meaning.{contribution_by, contributions_by, lie_inside, meaning_by}
+use Rattle.thorin_join.specs.Meaning.{offsets_by, placed_row, shared_kinds, unit_meaning}
+use Rattle.thorin_input.specs.Rows.{adjusted_contribution, own_contribution, row_test}
+use Rattle.thorin_input.specs.Rows.{unit_contribution, unit_row, whole_row}
 use Rattle.thorin_join.proofs.Parts.ReadAlike.{parts-first, parts-read, rows-read, RowsRead}
 use Rattle.thorin_join.proofs.Rows.OneAdded.{Lies, lies-whole, not-outside, part-inside, Placed}
 use Rattle.thorin_join.proofs.Rows.OneAdded.{placed-by, range-none, range-some}
 use Rattle.thorin_join.proofs.Parts.Ranges.{empty-alike, strings-there}
 use Rattle.thorin_join.proofs.Parts.Added.{content-with_parts, copied-or-offsets, parts-copied}
 use Rattle.thorin_join.proofs.Parts.Added.{parts-follow}
+use Rattle.thorin_join.specs.StandApart.{LieBehind}
 
 -- an entry by parts has each of those that it can have
 entry-part : (encoding : Encoding) (id : DwarfObject) (part : SectionKind → Option Contribution)
@@ -33,7 +33,6 @@ entry-part : (encoding : Encoding) (id : DwarfObject) (part : SectionKind → Op
     → contribution_to kind (entry_by encoding id part) ≡ part kind
 entry-part encoding id part kind shared = grind arith
 
--- ---- a unit's own row
 -- the row by place is there, and is the one that looking an identifier up gives
 pub record OwnRow (own : Option Index) (kind : SectionKind) (range : Contribution)
     (id : ℕ) : Type 0 where
@@ -45,7 +44,7 @@ pub record OwnRow (own : Option Index) (kind : SectionKind) (range : Contributio
   pub placed : placed_row own kind range ≡ Some row
   pub found : row_of own id ≡ Ok row
 
--- ---- parts that are adjusted
+-- parts that are adjusted
 abbrev pub adjustor : Indexes → SectionKind → Adjustor
 adjustor indexes kind =
     record { compilation = indexes.compilations; types = indexes.types; section = kind }
@@ -96,9 +95,8 @@ is-unit_row indexes whole name row h =
 
 -- where the wholes lie
 pub whole-part : (encoding : Encoding) (before parts : Contents) (kind : SectionKind)
-    → is_shared kind ≡ true → contribution_to kind (whole_row encoding before parts) ≡
-    contribution_put
-    kind (joined_parts kind parts) before
+    → is_shared kind ≡ true → contribution_to kind
+    (whole_row encoding before parts) ≡ contribution_put kind (joined_parts kind parts) before
 unfolding whole_row
 whole-part encoding before parts kind shared = grind (arith, entry-part encoding)
 
@@ -108,8 +106,6 @@ pub whole-else : (encoding : Encoding) (before parts : Contents)
     × ((whole_row encoding before parts).debug_types ≡ None)
 unfolding whole_row
 whole-else encoding before parts = (refl, refl, refl)
-
--- ---- what stands in a row
 
 -- the ranges of the kinds that units share lie behind the contents before, inside the parts that
 -- were put there, and these bytes stand there
@@ -156,11 +152,10 @@ module _ (source : Source) (before parts : Contents) (read : DwarfObject × Unit
 
   -- the unit by these ranges, which has these parts
   shares-by : (after : List (List ℕ)) (ranges : Option Ranges) (part : SectionKind → List ℕ)
-      → IsTable after
-      → unit_meaning source read ≡ meaning_by source read.1.unit.whole.bytes ranges
-      → SharedLie before parts row part → ((kind : SectionKind)
-      → is_copied kind ≡ true → part kind ≡ contribution_by source ranges kind)
-      → lie_inside source ranges ≡ true → OffsetsRead source ranges after (part StrOffsets)
+      → IsTable after → unit_meaning source read ≡ meaning_by source read.1.unit.whole.bytes ranges
+      → SharedLie before parts row part → ((kind : SectionKind) → is_copied kind ≡ true
+      → part kind ≡ contribution_by source ranges kind) → lie_inside source ranges ≡ true
+      → OffsetsRead source ranges after (part StrOffsets)
       → RowShares source before parts after read row
   unfolding meaning_by
   shares-by after ranges part table is lies copied inside reads =
@@ -188,7 +183,7 @@ module _ (source : Source) (before parts : Contents) (read : DwarfObject × Unit
         };
       }
 
-  -- ---- a plain input
+  -- a plain input
   plain-lies : is_package source.indexes ≡ false
       → SharedLie before parts row (λ kind. joined_parts kind parts)
   plain-lies plain kind shared =
@@ -198,7 +193,7 @@ module _ (source : Source) (before parts : Contents) (read : DwarfObject × Unit
       rw (← is, whole-part source.encoding before parts kind shared)
       (lies-whole (content_of kind before) (joined_parts kind parts))
 
-  -- ---- a package
+  -- a package
   module _ (test : row_test source.indexes read.1.from name read.1.unit ≡ Ok tt)
       (packed : is_package source.indexes ≡ true) where
     -- it has a row of its own
@@ -223,11 +218,10 @@ module _ (source : Source) (before parts : Contents) (read : DwarfObject × Unit
         (grind (arith, by.1, by.2, own.found))
 
     -- its string offsets read alike
-    packed-reads : (after : List (List ℕ))
-        → RowsRead source (first StrOffsets source.object.sections)
-        (joined_parts StrOffsets parts) after
-        → OffsetsRead source (Some own.row) after (part_of (joined_parts StrOffsets parts)
-        (range_in own.row StrOffsets))
+    packed-reads : (after : List (List ℕ)) → RowsRead source
+        (first StrOffsets source.object.sections) (joined_parts StrOffsets parts) after
+        → OffsetsRead source (Some own.row) after
+        (part_of (joined_parts StrOffsets parts) (range_in own.row StrOffsets))
     packed-reads after reads final table kept i = by-range (range_in own.row StrOffsets) refl
       where
         by-range : (range : Option Contribution) → range_in own.row StrOffsets ≡ range
@@ -254,16 +248,14 @@ module _ (source : Source) (before parts : Contents) (read : DwarfObject × Unit
       (λ plain. (plain-lies plain kind shared).behind range is)
 
   -- a unit that passed the tests stands in its row, with all that belongs to it
-  pub row-shares : (strings after : List (List ℕ)) → IsTable strings
-      → parts_of source strings ≡ Ok (parts, after)
-      → row_test source.indexes read.1.from name read.1.unit ≡ Ok tt
+  pub row-shares : (strings after : List (List ℕ)) → IsTable strings → parts_of source strings ≡ Ok
+      (parts, after) → row_test source.indexes read.1.from name read.1.unit ≡ Ok tt
       → RowShares source before parts after read row
   unfolding unit_meaning
   row-shares strings after table h test =
       let by = λ (ranges : Option Ranges) (part : SectionKind → List ℕ). shares-by after ranges part
       (parts-follow source strings parts after table h).table in
-      by-bool _ (is_package source.indexes)
-      (λ packed. let has = own test packed in
+      by-bool _ (is_package source.indexes) (λ packed. let has = own test packed in
       let placed = each-placed test packed in
       let firsts = parts-first source packed strings parts after h in
       let reads = rows-read source packed strings parts after table h in

@@ -3,16 +3,16 @@
 use Rattle.thorin_join.proofs.Terms
 use Terms.{ap, append-nil, append_assoc, AreRowsOf, arith, Bool, by-bool, column_place, cond}
 use Terms.{content_of, Contents, Contribution, contribution_put, contribution_to, data_of, drop}
-use Terms.{drop-append-add, drop-append-le, drop-append_seam, DwarfObject, encoding_in, Endianness}
-use Terms.{eqb, false, HasFront, if◌then◌else◌, Index, IndexEntry, is-same, is_copied, is_outside}
-use Terms.{is_some, IsRowOf, IsWhole, kept_more, kind_of, le-leb, length, length-append}
-use Terms.{length-drop, LieInside, List, Meaning, nat_tests, ne_eqb, NewUnit, nil_from_length, None}
-use Terms.{Ok, Option, Owns, part_of, range_in, Ranges, refl, row_at, row_in, same-each, same-self}
-use Terms.{same_kind, SectionKind, Shares, slice_range, Some, string_in, StrOffsets, sym, take}
-use Terms.{take-append-le, take-length, TypeUnit, UnitSection, with_bytes, ℕ, [], ◌++◌, ◌+◌, ◌-◌}
-use Terms.{◌<◌, ◌∙◌, ◌∷◌, ◌≡◌, ◌≤◌, ◌⊎◌}
+use Terms.{drop-append-le, DwarfObject, encoding_in, Endianness, eqb, false, HasFront}
+use Terms.{if◌then◌else◌, Index, IndexEntry, is-same, is_copied, is_outside, is_some, IsRowOf}
+use Terms.{IsWhole, kept_more, kind_of, le-leb, length, length-append, length-drop, LieInside, List}
+use Terms.{Meaning, nat_tests, ne_eqb, NewUnit, nil_from_length, None, Ok, Option, Owns, part_of}
+use Terms.{range_in, Ranges, refl, row_at, row_in, same-each, same-self, same_kind, SectionKind}
+use Terms.{Shares, slice_range, Some, string_in, StrOffsets, sym, take, take-append-le, take-length}
+use Terms.{TypeUnit, UnitSection, with_bytes, [], ℕ, ◌++◌, ◌+◌, ◌-◌, ◌<◌, ◌∙◌, ◌∷◌, ◌≡◌, ◌≤◌, ◌⊎◌}
 use Rattle.thorin_join.proofs.Parts.Added.{content-with_bytes}
 use Rattle.thorin_input.specs.Adjusting.{moved, moved_range, without_column}
+use Rattle.std.proofs.Math.Seq.{drop-append-add, drop-append_seam}
 use Rattle.dwp_base.specs.declared.section.SectionKind.TheVariants as kinds
 use Rattle.dwp_units.specs.declared.unit.UnitSection.TheVariants as places
 use Rattle.dwp_index.specs.Package as index
@@ -49,9 +49,8 @@ part-inside a range h = rw (le-leb _ _ h) refl
 
 -- the part of a row
 pub keep-part : (c d : Contents) (row : IndexEntry) → Grows c d → LieInside c row
-    → (kind : SectionKind)
-    → part_of (content_of kind d) (contribution_to kind row) ≡ part_of (content_of kind c)
-    (contribution_to kind row)
+    → (kind : SectionKind) → part_of (content_of kind d) (contribution_to kind row) ≡ part_of
+    (content_of kind c) (contribution_to kind row)
 keep-part c d row grows lie kind = let front = grows kind in
     let same = range-front (content_of kind c) front.rest in
     grind (arith, lie.inside kind, front.is, front-long front, part-inside, same)
@@ -93,15 +92,11 @@ rows-next order c s (r ∷ rs) (m ∷ ms) row member are is =
     (are.0, rows-next order c s rs ms row member are.1 is)
 rows-next order c s _ _ row member are is = absurd are
 
--- ---- ranges
-
 -- a range, where there is one, lies inside bytes that were put behind others, and has some, and
 -- these bytes stand there
-pub record Lies (front bytes : List ℕ) (range : Option Contribution)
-    (part : List ℕ) : Type 0 where
+pub record Lies (front bytes : List ℕ) (range : Option Contribution) (part : List ℕ) : Type 0 where
   pub behind : (r : Contribution) → range ≡ Some r → length front ≤ r.offset.0
-  pub inside : (r : Contribution) → range ≡ Some r
-      → r.offset.0 + r.size ≤ length (front ++ bytes)
+  pub inside : (r : Contribution) → range ≡ Some r → r.offset.0 + r.size ≤ length (front ++ bytes)
   pub some : (r : Contribution) → range ≡ Some r → 0 < r.size
   pub part_is : part_of (front ++ bytes) range ≡ part
 
@@ -127,7 +122,6 @@ lies-whole front bytes =
     let none = nil_from_length bytes in
     grind (arith, nat_tests, none, lies, part-inside bytes whole, take-length bytes)
 
--- ---- ranges of rows, moved
 -- a unit's part of bytes that were put behind others: its range lies inside them, and the same
 -- stands there
 pub record Placed (front bytes : List ℕ) (range moved : Option Contribution) : Type 0 where
@@ -147,7 +141,6 @@ placed-by front bytes kind id (Some r) result own other some none h =
     let moved = range_at (length front + r.offset.0) r.size in
     grind (arith, nat_tests, some r, none, lies-at front bytes r moved)
 
--- ---- ranges of an index's rows
 -- a range that is there has bytes
 pub range-some : (row : Ranges) (kind : SectionKind) (r : Contribution) → range_in row kind ≡
     Some r → 0 < r.size
@@ -166,8 +159,6 @@ pub not-outside : (bytes as_long : List ℕ) (range : Option Contribution) → l
     as_long → ((r : Contribution) → range ≡ Some r → r.offset.0 + r.size ≤ length as_long)
     → is_outside bytes range ≡ false
 not-outside bytes as_long range long within = grind (arith, within, nat_tests)
-
--- ---- a unit that is added
 
 -- the content of the kind that bytes are added to
 pub content-put : (k : SectionKind) (x : List ℕ) (c : Contents) → content_of k (with_bytes k x c) ≡
@@ -243,9 +234,8 @@ module _ (shared : IndexEntry) (c : Contents) (name : DwarfObject) (x : List ℕ
     row-own = rw (row-parts place (kind_of place), same-self (kind_of place))
 
     -- its other parts are those that it shares, and its own
-    pub row-part : (kind : SectionKind) → (contribution_to kind row ≡ contribution_to kind shared)
-        ⊎ ((kind ≡ kind_of place) × (contribution_to kind row ≡ contribution_put
-        (kind_of place) x c))
+    pub row-part : (kind : SectionKind) → (contribution_to kind row ≡ contribution_to kind shared) ⊎
+        ((kind ≡ kind_of place) × (contribution_to kind row ≡ contribution_put (kind_of place) x c))
     row-part kind = grind (arith, is-same (kind_of place) kind, row-own, row-other kind)
 
     row-lies : LieInside c shared → LieInside (with_bytes (kind_of place) x c) row

@@ -1,10 +1,10 @@
 -- The ranges of an input's units lie behind those of the inputs before it.
 use Rattle.thorin_join.proofs.Terms
 use Terms.{adding, append-nil, append_assoc, AreRowsOf, arith, content_of, Contents, Endianness}
-use Terms.{IndexEntry, inl, InProgress, inr, IsSound, IsSoundBegun, kind_of, LieBehind, LieInside}
-use Terms.{List, map, Members, Ok, Option, package_or_new, refl, row_at, same_Some, Some, Source}
-use Terms.{subst, sym, with_input, with_new_units, with_unit_added, ℕ, [], ◌++◌, ◌∙◌, ◌∷◌, ◌≡◌}
-use Rattle.thorin_join.specs.StandApart.{contents_begun, EachRow, rows_begun, StandApart}
+use Terms.{IndexEntry, inl, InProgress, inr, IsSound, IsSoundBegun, kind_of, LieInside, List, map}
+use Terms.{Members, Ok, Option, package_or_new, refl, row_at, same_Some, Some, Source, subst, sym}
+use Terms.{with_input, with_new_units, with_unit_added, [], ℕ, ◌++◌, ◌∙◌, ◌∷◌, ◌≡◌}
+use Rattle.thorin_join.specs.StandApart.{contents_begun, EachRow, LieBehind, rows_begun, StandApart}
 use Rattle.thorin_join.proofs.Units.ReadInTurn.{AreAdded, News, Reads, units-joined}
 use Rattle.thorin_join.proofs.Rows.OneAdded.{front-long, Grows, grows-trans, grows-with_bytes}
 use Rattle.thorin_join.proofs.Rows.OneAdded.{lies-whole, row-part}
@@ -12,13 +12,12 @@ use Rattle.thorin_join.proofs.Rows.OfUnits.{is-unit_row, row-behind}
 use Rattle.thorin_join.proofs.Joined.{grows-with_parts, new-sound, same-begun, source-made, takes}
 use Rattle.thorin_join.proofs.Parts.Added.{each-unit}
 
--- ---- units that are added
+-- units that are added
 abbrev EachNew : Contents → News → Type 0
 EachNew base us = EachRow (LieBehind base) (map (λ u. u.1.row) us)
 
-added-behind : (source : Source) (before : InProgress) (parts : Contents)
-    (ns : News) (rs : Reads) → AreAdded (adding source before parts) ns rs
-    → EachNew before.file.contents ns
+added-behind : (source : Source) (before : InProgress) (parts : Contents) (ns : News) (rs : Reads)
+    → AreAdded (adding source before parts) ns rs → EachNew before.file.contents ns
 added-behind source before parts [] [] are = tt
 added-behind source before parts (n ∷ ns) (r ∷ rs) are =
     let row = is-unit_row source.indexes _ r.0 n.1.row are.0.row in
@@ -47,7 +46,7 @@ units-behind base = each-unit (λ p us now. Grows base p.file.contents → EachN
     grind (arith, all.0 kind range, own range, front-long (grows kind), part kind) in
     (row ∷ more.0, more.1 ∙ append_assoc p.rows (row ∷ []) more.0, (here, more.2)))
 
--- ---- an input
+-- an input
 each-inside : (order : Endianness) (c : Contents) (strings : List (List ℕ)) (rows : List IndexEntry)
     (ms : Members) → AreRowsOf order c strings rows ms → EachRow (LieInside c) rows
 each-inside order c strings [] [] are = tt
@@ -73,10 +72,9 @@ stand-apart bytes begun now sound fine h =
       | inl u ↦
           let m = source-made u.1.source before u.1.made u.1.with in
           let c = before.file.contents in
-          subst from (m.is ∙ same_Some _ _ u.1.is)
-          (units-behind c _ m.new.units (grows-with_parts m.parts c) (added-behind u.1.source before
-          m.parts m.new.units _ (units-joined (adding u.1.source before m.parts) m.new
-          m.new_are).are))
+          subst from (m.is ∙ same_Some _ _ u.1.is) (units-behind c _ m.new.units
+          (grows-with_parts m.parts c) (added-behind u.1.source before m.parts m.new.units _
+          (units-joined (adding u.1.source before m.parts) m.new m.new_are).are))
       | inr n ↦ subst from (same_Some _ _ n.1) ([], sym (append-nil before.rows), tt)
     ] in
     record {

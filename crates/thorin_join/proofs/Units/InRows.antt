@@ -2,16 +2,16 @@
 -- are those that stand in the ranges of its rows.
 use Rattle.thorin_join.proofs.Terms
 use Terms.{All, AllPairs, ap, append-nil, append_assoc, AreApart, AreDistinct, AreRowsOf, arith}
-use Terms.{Bool, content_of, Contents, contribution_to, contributions_by, data_of, DwarfObject}
-use Terms.{Endianness, entry_ids, false, filter_passes, identifier_of, IndexEntry, InProgress}
-use Terms.{is_chosen, is_compilation, is_copied, IsRowOf, IsTable, joining, keys, length-map, List}
-use Terms.{list_any, list_any_at, map, Meaning, meaning_at, Members, names_of, Ok, part_of, refl}
-use Terms.{Represents, result_unwrap_or, rows_of, same_name, SectionKind, strings_of, StrOffsets}
-use Terms.{sym, take-length, true, unit_bytes, units_of, ℕ, [], ◌++◌, ◌∷◌, ◌≡◌}
+use Terms.{Bool, content_of, Contents, contribution_to, data_of, DwarfObject, Endianness, entry_ids}
+use Terms.{false, filter_passes, identifier_of, IndexEntry, InProgress, is_chosen, is_compilation}
+use Terms.{is_copied, IsRowOf, IsTable, joining, keys, List, list_any, list_any_at, map, Meaning}
+use Terms.{meaning_at, Members, names_of, Ok, part_of, refl, Represents, result_unwrap_or, rows_of}
+use Terms.{same_name, SectionKind, strings_of, StrOffsets, sym, take-length, true, unit_bytes}
+use Terms.{units_of, [], ℕ, ◌++◌, ◌∷◌, ◌≡◌}
 use Rattle.std.proofs.lemmas.List.Kept.{AllPairs-filter}
 use Rattle.std.proofs.lemmas.List.Quantifiers.{all_pairs_push}
-use Rattle.std.proofs.lemmas.List.{get_or-map as get_or-at}
-use Rattle.thorin_join.specs.Meaning.{Contributions}
+use Rattle.std.proofs.lemmas.List.{get_or-map as get_or-at, length-map}
+use Rattle.thorin_join.specs.Meaning.{Contributions, contributions_by}
 use Rattle.thorin_join.proofs.Parts.Ranges.{strings-are}
 
 -- one name is the other
@@ -71,8 +71,6 @@ distinct_chosen b rows names h apart =
     (λ i j d before within. let at = get_or-at (λ (r : IndexEntry). r.id) rows in
     let long = length-map rows (λ (r : IndexEntry). r.id) in
     grind (arith, h, long, at i d d.id, at j d d.id, apart i j d.id)))
-
--- ---- units in rows
 
 -- the contributions of a unit, where each kind's bytes are its contribution
 pub contributions-same : (bytes : SectionKind → List ℕ) (contributions : Contributions)

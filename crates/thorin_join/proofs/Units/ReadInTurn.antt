@@ -2,17 +2,18 @@
 -- another, each added to what those before it gave, and so joined to the names that are there.
 use Rattle.thorin_join.proofs.Terms
 use Terms.{Adding, All-append, ap, append-nil, append_assoc, arith, as_error, bind-was, can_join}
-use Terms.{DwarfObject, Each, ErrorValue, Header, identity, Input, is_some, joining, kept_bytes}
-use Terms.{keys, kind_of, List, list_any, list_any-append, map-append, name_for, named_at}
-use Terms.{named_sections, New, new_units, NewUnit, None, Ok, Option, ParseUnitHeader, place_for}
-use Terms.{ReadError, refl, Result, row_test, same-ok, same_name, section, SectionKind, slice_get}
-use Terms.{Some, Source, source_units, suc, sym, true, unit_row, unit_section, UnitRead, units}
-use Terms.{UnitSection, Used, with_unit, ℕ, [], ◌++◌, ◌∙◌, ◌∷◌, ◌≡◌}
-use Rattle.thorin_join.specs.Meaning.{named_each, named_unit}
+use Terms.{DwarfObject, Each, ErrorValue, identity, Input, is_some, joining, kept_bytes, keys}
+use Terms.{kind_of, List, list_any, list_any-append, map-append, name_for, New, new_units, NewUnit}
+use Terms.{None, Ok, Option, ParseUnitHeader, place_for, ReadError, refl, Result, same-ok}
+use Terms.{same_name, section, SectionKind, slice_get, Some, Source, source_units, suc, sym, true}
+use Terms.{unit_section, UnitRead, UnitSection, Used, with_unit, [], ℕ, ◌++◌, ◌∙◌, ◌∷◌, ◌≡◌}
+use Rattle.thorin_join.specs.Meaning.{named_at, named_each, named_sections, named_unit}
 use Rattle.thorin_input.specs.NewUnits.{none_met, SeenSections, with_each_read, with_each_section}
 use Rattle.thorin_input.specs.NewUnits.{with_first, with_read, with_section, with_section_at}
 use Rattle.thorin_input.specs.NewUnits.{with_section_in}
 use Rattle.std.proofs.lemmas.Map.Made.{is_some-lookup}
+use Rattle.dwp_units.specs.Units.{Unit as Header, units}
+use Rattle.thorin_input.specs.Rows.{row_test, unit_row}
 
 abbrev pub Listed : Type 0
 Listed = List (Result Header ReadError)
@@ -22,8 +23,6 @@ Reads = List (DwarfObject × UnitRead)
 
 abbrev pub News : Type 0
 News = List (DwarfObject × NewUnit)
-
--- ---- the units of an object
 
 -- what holds of none, and with one more that was read and named before others, holds of those of a
 -- section
@@ -48,8 +47,7 @@ pub name-identity : (source : Source) (kind : SectionKind) (unit : Header) (name
 unfolding name_for
 name-identity source kind unit name h = grind arith
 
--- ---- what holds of each
-
+-- what holds of each
 pub each-all : {X : Type 0} (P : X → Type 0) → ((x : X) → P x) → (xs : List X) → Each P xs
 each-all P f [] = tt
 each-all P f (x ∷ xs) = (f x, each-all P f xs)
@@ -102,8 +100,7 @@ module _ (source : Source) (T : UnitSection → Header → Type 0) where
       let there = λ (others : Reads). sections-are rest others so.1 in
       grind (arith, All-append (WasRead source T), here, there)
 
--- ---- one after another
-
+-- one after another
 module _ (adding : Adding) where
   -- a unit that was read is added to what was there, or passed over
   pub record IsStep (before : New) (read : DwarfObject × UnitRead) (after : New) : Type 0 where
@@ -170,10 +167,6 @@ module _ (adding : Adding) where
   units-read new h =
       grind (arith, sections-read (none_met, record { units = []; differing = [] }))
 
--- ---- joined to the names that are there
-
--- ---- units that are added for units that were read
-
 -- a unit is added for one that was read, with its row
 pub record IsAdded (adding : Adding) (new : DwarfObject × NewUnit) (read : DwarfObject
     × UnitRead) : Type 0 where
@@ -193,8 +186,6 @@ pub added-keys : (adding : Adding) (ns : News) (rs : Reads) → AreAdded adding 
 added-keys adding [] [] h = refl
 added-keys adding (n ∷ ns) (r ∷ rs) h = λ i. h.0.name i ∷ added-keys adding ns rs h.1 i
 added-keys adding _ _ h = absurd h
-
--- ---- one more unit
 
 -- the names that were there before some units
 abbrev before_names : Adding → New → List DwarfObject
@@ -220,13 +211,16 @@ steps-joined adding before after (u ∷ us) h =
     let named = same_name u.0 in
     let there = is_some-lookup named before.units in
     let held = is_some-lookup named adding.held in
-    by (kept_bytes adding.held before.units u.0)
-    (grind (arith, there, held, list_any-append named (keys adding.held))) h.1.is
-    (steps-joined adding h.0 after us h.2)
+    by (kept_bytes adding.held before.units u.0) (grind (
+      arith,
+      there,
+      held,
+      list_any-append named
+          (keys adding.held),
+    )) h.1.is (steps-joined adding h.0 after us h.2)
   where
-    by : (kept : Option (List ℕ))
-        → is_some kept ≡ list_any (same_name u.0) (before_names adding before)
-        → with_unit kept adding h.1.from u.0 u.1.unit before ≡ Ok h.0
+    by : (kept : Option (List ℕ)) → is_some kept ≡ list_any (same_name u.0)
+        (before_names adding before) → with_unit kept adding h.1.from u.0 u.1.unit before ≡ Ok h.0
         → AreJoined adding h.0 after us → AreJoined adding before after (u ∷ us)
     by (Some bytes) e is later = record {
       added = later.added;

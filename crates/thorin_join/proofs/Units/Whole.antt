@@ -1,18 +1,19 @@
 -- The name of a unit has the sort, and of a type unit the signature, that its header says; and the
 -- units of an input are whole units of their names, wherever their bytes come to stand.
 use Rattle.thorin_join.proofs.Terms
-use Terms.{All-weaker, ap, arith, bind-was, Bool, cond, DebugAttribute, drop, DwarfObject, Each}
-use Terms.{encoding_in, Endianness, entry_identity, first_identifier, Header, identity, inl, Input}
-use Terms.{inr, IsWhole, kind_of, length, List, listed, name_signature, nat_eq, None, Ok, place_for}
-use Terms.{ReadError, Result, root_identity, same-ok, section, slice_get, Some, Source}
-use Terms.{source_units, suc, sym, take-append-drop, type_signature, unit_at, unit_taken, UnitRead}
-use Terms.{units, UnitSection, zero, ℕ, [], ◌++◌, ◌+◌, ◌-◌, ◌∙◌, ◌∷◌, ◌≡◌, ◌⊎◌}
-use Rattle.dwp_units.specs.Units.{units_within}
+use Terms.{All-weaker, ap, arith, bind-was, Bool, cond, drop, DwarfObject, Each, encoding_in}
+use Terms.{Endianness, entry_identity, first_identifier, identity, inl, Input, inr, IsWhole}
+use Terms.{kind_of, length, List, name_signature, nat_eq, None, Ok, place_for, ReadError, Result}
+use Terms.{root_identity, same-ok, section, slice_get, Some, Source, source_units, suc, sym}
+use Terms.{take-append-drop, type_signature, unit_taken, UnitRead, UnitSection, zero, [], ℕ, ◌++◌}
+use Terms.{◌+◌, ◌-◌, ◌∙◌, ◌∷◌, ◌≡◌, ◌⊎◌}
+use Rattle.dwp_units.specs.Units.{listed, Unit as Header, unit_at, units, units_within}
 use Rattle.dwp_index.proofs.TwoPlaces.{units_alone}
 use Rattle.thorin_join.proofs.Units.ReadInTurn.{each-all, Listed, name-identity, Reads}
 use Rattle.thorin_join.proofs.Units.ReadInTurn.{sections-are, WasRead}
 use Rattle.thorin_join.proofs.Moved.{FiveOrType, IsShifted, plain, unit-anywhere, unit-five}
 use Rattle.thorin_join.proofs.Moved.{unit-moves}
+use Rattle.dwp_dwarf.specs.Entries.{DebugAttribute}
 use Rattle.dwp_units.specs.declared.unit.UnitSection.TheVariants as places
 
 first-none : (attributes : List (Result DebugAttribute ReadError)) (name : DwarfObject)
@@ -24,8 +25,6 @@ pub identity-sort : (section : Input) (unit : Header) (name : DwarfObject) → i
     Ok (Some name) → type_signature unit.unit_type ≡ name_signature name
 unfolding identity root_identity entry_identity
 identity-sort section unit name h = grind (arith, first-none)
-
--- ---- whole units
 
 -- a unit as it is read of its own bytes alone
 pub record ReadsAlone (order : Endianness) (place : UnitSection) (unit : Header) : Type 0 where
@@ -48,9 +47,8 @@ Goes order read = IsWhole order (place_for read.0 read.1.from) read.0 read.1.uni
 
 -- a unit among those that were read is the first, or among those behind it
 listed-at : (r : Result (Header × Input) ReadError) (others : Input → Listed) (none : Bool) (k : ℕ)
-    (unit : Header) → slice_get (cond none [] (listed r others)) k ≡ Some (Ok unit)
-    → (x : Header × Input) × (r ≡ Ok x)
-    × ((x.0 ≡ unit) ⊎ (slice_get (others x.1) (k - 1) ≡ Some (Ok unit)))
+    (unit : Header) → slice_get (cond none [] (listed r others)) k ≡ Some (Ok unit) → (x : Header
+    × Input) × (r ≡ Ok x) × ((x.0 ≡ unit) ⊎ (slice_get (others x.1) (k - 1) ≡ Some (Ok unit)))
 listed-at r others none k unit h = grind arith
 
 module _ (order : Endianness) (place : UnitSection) where
