@@ -16,8 +16,7 @@ use Rattle.thorin_builder.specs.Taking.{with_target}
 use Rattle.thorin_builder.proofs.Extending.{extends-refl}
 use Rattle.thorin_builder.proofs.Running.{Offer}
 
--- ---- packages that another one became
-
+-- packages that another one became
 pub later-refl : (made : InProgress) → IsLater made made
 later-refl made = record {
   order = refl;
@@ -76,8 +75,6 @@ joined-later bytes (Some made) (Some now) h joins = record {
   held = grind (rules, held-is now, held-is made, map-append own-bytes (units_of made) joins.added);
 }
 
--- ---- what is remembered of objects, by their paths
-
 -- a target changes nothing of the package
 pub target-kept : (target : DwarfObject) (old new : State) → new ≡ with_target target old
     → old.begun ≡ new.begun
@@ -94,9 +91,8 @@ module _ (offer : Offer) where
 
   -- what is found by a path is of that path
   pub taken-found : (es : List (String Global × UnitlessInput)) (begun : Option InProgress)
-      (path : List ℕ) (again : UnitlessInput)
-      → AreTaken offer es begun → lookup (λ k. bytes_eq path (string_bytes k)) es ≡ Some again
-      → IsTaken (offer path) again begun
+      (path : List ℕ) (again : UnitlessInput) → AreTaken offer es begun → lookup
+      (λ k. bytes_eq path (string_bytes k)) es ≡ Some again → IsTaken (offer path) again begun
   taken-found [] begun path again k h = absurd (none-some again h)
   taken-found (e ∷ es) begun path again k h =
       by-bool _ (bytes_eq path (string_bytes e.0))
@@ -121,17 +117,13 @@ module _ (offer : Offer) where
       (λ other. rw other (k.0, taken-more es begun key again k.1 one))
 
   -- and with what bytes that may be read at a path add
-  pub taken-remembered : (old new : List (String Global × UnitlessInput))
-      (begun : Option InProgress)
-      (path bytes : List ℕ)
-      → offer path (Ok bytes) → AreTaken offer old begun → Remembers bytes begun path old new
-      → AreTaken offer new begun
+  pub taken-remembered : (old new : List (String Global
+      × UnitlessInput)) (begun : Option InProgress) (path bytes : List ℕ) → offer path (Ok bytes)
+      → AreTaken offer old begun → Remembers bytes begun path old new → AreTaken offer new begun
   taken-remembered old new begun path bytes may k (inl same) = rw same k
   taken-remembered old new begun path bytes may k (inr (key, again, at, adds, is)) =
       rw is (taken-more old begun key again k
       (record { bytes = bytes; may = rw at may; adds = adds }))
-
--- ---- what is known is added
 
 -- what is kept beside the package
 pub taken-as : (bytes : List ℕ) (old : State) (now : Option InProgress)

@@ -40,9 +40,8 @@ extends-refl p = record {
 
 -- a file that grew, and more strings and signatures
 pub grown-extends : {p : InProgress} {f : File} {strings : List (List ℕ)} {differing : List ℕ}
-    → ((before : File) → IsGrown before p.file → IsGrown before f)
-    → take (length p.strings) strings ≡ p.strings
-    → take (length p.differing) differing ≡ p.differing
+    → ((before : File) → IsGrown before p.file → IsGrown before f) → take
+    (length p.strings) strings ≡ p.strings → take (length p.differing) differing ≡ p.differing
     → Extends p (record p { file = f; strings = strings; differing = differing })
 grown-extends {p = p} grown kept more =
     let file = grown p.file (is_grown-refl p.file) in
@@ -72,9 +71,8 @@ strings-extend {p = p} kept = grown-extends (λ before h. h) kept (take-length p
 
 -- the steps of an input
 pub with_source-is : (source : Source) (p : InProgress) (parts : Contents
-    × List (List ℕ)) (new : New)
-    → parts_of source p.strings ≡ Ok parts → source.object.has_abbreviations ≡ true
-    → new_units (adding source p parts.0) ≡ Ok new
+    × List (List ℕ)) (new : New) → parts_of source p.strings ≡ Ok parts
+    → source.object.has_abbreviations ≡ true → new_units (adding source p parts.0) ≡ Ok new
     → with_source source p ≡ Ok (with_all p parts new)
 unfolding with_source abbreviations_test
 with_source-is source p parts new hp ha hn =

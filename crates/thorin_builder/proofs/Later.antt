@@ -22,8 +22,7 @@ use Rattle.thorin_input.specs.NewUnits.{with_read, once_test, with_section_at, w
 abbrev Strings : Type 0
 Strings = List (List ℕ)
 
--- ---- the parts of an input, over more strings behind those that it left
-
+-- the parts of an input, over more strings behind those that it left
 module _ (later : Strings) (source : Source) where
   -- the later strings go on from these
   abbrev Front : Strings → Type 0
@@ -51,8 +50,7 @@ module _ (later : Strings) (source : Source) where
         there.1 ∙ used.1,
       )
 
-  -- ---- string offsets
-
+  -- string offsets
   abbrev strings_in : List ℕ
   strings_in = first Str source.object.sections
 
@@ -84,16 +82,14 @@ module _ (later : Strings) (source : Source) where
       let ranges = offset_ranges source.indexes.compilations source.indexes.types in
       grind (rules, ranges-keep bytes 0 ranges before, remapped-keeps bytes (length bytes) before)
 
-  -- ---- the parts of an input
-
+  -- the parts of an input
   part-keeps : (parts : Contents) (section : Used)
       → Keeps (λ s. with_part source (parts, s) section)
   unfolding with_part with_offsets
   part-keeps parts section before = grind (rules, rewritten-keeps section.bytes before)
 
-  parts-keep : (sections : List Used) (before : Contents × Strings)
-      → Kept before.1 (with_each_part source before sections)
-      (with_each_part source (before.0, later) sections)
+  parts-keep : (sections : List Used) (before : Contents × Strings) → Kept before.1
+      (with_each_part source before sections) (with_each_part source (before.0, later) sections)
   unfolding with_each_part
   parts-keep [] before = grind rules
   parts-keep (section ∷ sections) before =
@@ -105,8 +101,6 @@ pub parts-later : (source : Source) (strings later : List (List ℕ))
     → take (length parts.1) later ≡ parts.1 → parts_of source later ≡ Ok (parts.0, later)
 parts-later source strings later parts h kept =
     grind (rules, parts-keep later source source.object.sections ([], strings))
-
--- ---- the units of an input that adds none, beside more units, wherever its parts come to lie
 
 -- the bytes that are kept for a name stay where a package has more units behind
 kept-later : (added : Option NewUnit) (test : DwarfObject → Bool) (held more : List (DwarfObject
@@ -131,9 +125,8 @@ module _ (source : Source) (whole other : IndexEntry) (held more : List (DwarfOb
   Alone new before (Err error) other = Unit {0}
 
   -- where a unit is the first of its name, there are units
-  unit-alone : (from : Used) (name : DwarfObject) (unit : Header) (before : New)
-      → Alone (λ new. new) before
-      (with_unit (kept_bytes held before.units name) here from name unit before)
+  unit-alone : (from : Used) (name : DwarfObject) (unit : Header) (before : New) → Alone
+      (λ new. new) before (with_unit (kept_bytes held before.units name) here from name unit before)
       (with_unit (kept_bytes (held ++ more) before.units name) there from name unit before)
   unfolding with_unit with_first
   unit-alone from name unit before = grind (
@@ -149,9 +142,8 @@ module _ (source : Source) (whole other : IndexEntry) (held more : List (DwarfOb
   named-alone from unit before (Ok name) = unit-alone from name unit before
   named-alone from unit before (Err error) = tt
 
-  read-alone : (from : Used) (read : Result Header ReadError) (before : New)
-      → Alone (λ new. new) before (with_read here from before read)
-      (with_read there from before read)
+  read-alone : (from : Used) (read : Result Header ReadError) (before : New) → Alone
+      (λ new. new) before (with_read here from before read) (with_read there from before read)
   unfolding with_read
   read-alone from (Ok unit) before = named-alone from unit before (name_for source from.kind unit)
   read-alone from (Err error) before = tt

@@ -22,8 +22,7 @@ use Rattle.thorin_errors.specs.Errors.{Memory}
 abbrev pub Offer : Type 1
 Offer = List ℕ → Result (List ℕ) IoError → Type 0
 
--- ---- the units that an executable refers to, up to one
-
+-- the units that an executable refers to, up to one
 module _ (offer : Offer) (missing : MissingReferencedObjectBehaviour) (all : Listed)
     (old : State) where
   -- of all units some were taken, and these are left: what comes of these comes of all
@@ -96,10 +95,9 @@ module _ (offer : Offer) (missing : MissingReferencedObjectBehaviour) (all : Lis
         (record { middle = new; here = here; later = [] }, Err e, took, (refl, refl, refl))
 
     -- the object of one is declined
-    pub next-declined : {D : Type 0} {declines : Bool → List ℕ → D → Type 0}
-        (rest : Listed) (n : DwarfObject × List ℕ) → left ≡ (n ∷ rest.0, rest.1) → (why : D)
-        → declines false n.1 why
-        → DeclinesNamed offer declines missing all old why
+    pub next-declined : {D : Type 0} {declines : Bool → List ℕ → D
+        → Type 0} (rest : Listed) (n : DwarfObject × List ℕ) → left ≡ (n ∷ rest.0, rest.1)
+        → (why : D) → declines false n.1 why → DeclinesNamed offer declines missing all old why
     next-declined rest n first why declined = record {
       front = so_far.done;
       named = n;
@@ -113,14 +111,12 @@ module _ (offer : Offer) (missing : MissingReferencedObjectBehaviour) (all : Lis
     }
 
     -- the list ended, or with an error
-    pub list-ended : left ≡ ([], None)
-        → (accepted : List (List ℕ)) × TakesNamed offer missing all old
-        (came (Ok tt) middle accepted)
+    pub list-ended : left ≡ ([], None) → (accepted : List (List ℕ))
+        × TakesNamed offer missing all old (came (Ok tt) middle accepted)
     list-ended is = ends [] None (Ok tt) middle [] (λ other. is) refl (refl, (refl, refl))
 
-    pub list-error : (e : Error) → MemoryAside e (left ≡ ([], Some (error_of e)))
-        → (accepted : List (List ℕ)) × TakesNamed offer missing all old
-        (came (Err e) middle accepted)
+    pub list-error : (e : Error) → MemoryAside e (left ≡ ([], Some (error_of e))) →
+        (accepted : List (List ℕ)) × TakesNamed offer missing all old (came (Err e) middle accepted)
     list-error e is = ends [] (Some (error_of e)) (Err e) middle []
         (λ other. is (λ m. other (ap (λ f. Some (error_of f)) m))) refl (refl, (refl, refl))
 
@@ -128,8 +124,7 @@ module _ (offer : Offer) (missing : MissingReferencedObjectBehaviour) (all : Lis
 pub names-begun : (state : State) → keys (units_in state) ≡ names_in state.begun
 names-begun state = grind (rules, keys-units)
 
--- ---- an input that wasn't read
-
+-- an input that wasn't read
 module _ {D : Type 0} (offered : Result (List ℕ) IoError → Type 0) (declines : D → Type 0)
   where
     -- what its read may answer
@@ -151,8 +146,7 @@ pub unread-error : {D : Type 0} (why : NotTaken InputError D)
 unread-error (Failed e) = refl
 unread-error (Declined why) = refl
 
--- ---- an input that is declined
-
+-- an input that is declined
 module _ {D : Type 0} where
   -- what is said of a call that took an input
   pub on-ok-taken : (result : Result (Unit {0}) (NotTaken Error D)) (outcome : Outcome)

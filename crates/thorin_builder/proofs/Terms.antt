@@ -37,7 +37,7 @@ pub use Rattle.thorin_input.specs.View.{part}
 pub use Rattle.thorin_strings.proofs.RemapLemmas.{kept_more}
 pub use Rattle.thorin_join.specs.Builder.{is_missing, IsFinishedState, names_in, own_after, State}
 pub use Rattle.thorin_join.specs.Builder.{with_own}
-unfoldable pub use Rattle.thorin_join.specs.Builder.{finish_test, taken, targets_test}
+unfoldable pub use Rattle.thorin_join.specs.Builder.{finish_test, taken}
 unfoldable pub use Rattle.thorin_join.specs.Builder.{with_source_or_new, with_units}
 pub use Rattle.thorin_input.specs.Held.{unit_bytes}
 pub use Rattle.thorin_join.specs.State.{Extends, held_units}

@@ -86,8 +86,7 @@ Remembers bytes begun path old new = (new ≡ old) ⊎ ((key : String Global) ×
 
 -- so do bytes at each of these paths what is remembered there
 abbrev pub AreTaken : (List ℕ → Result (List ℕ) IoError → Type 0)
-    → List (String Global × UnitlessInput)
-    → Option InProgress → Type 0
+    → List (String Global × UnitlessInput) → Option InProgress → Type 0
 AreTaken offer [] begun = Unit {0}
 AreTaken offer (e ∷ es) begun =
     IsTaken (offer (string_bytes e.0)) e.1 begun × AreTaken offer es begun

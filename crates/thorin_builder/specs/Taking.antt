@@ -216,8 +216,7 @@ TakesExecutable offer path missing = TakesExecutableBy (all_named missing) offer
 abbrev pub nameless_skipped : MissingReferencedObjectBehaviour → Manner
 nameless_skipped missing = record { names = named_skeletons_of; missing = missing }
 
-abbrev pub TakesExecutableSkippingNameless : (offer : List ℕ → Result (List ℕ) IoError
-    → Type 0) → List ℕ
-    → MissingReferencedObjectBehaviour → State → Outcome → State → Type 0
+abbrev pub TakesExecutableSkippingNameless : (offer : List ℕ → Result (List ℕ) IoError → Type 0)
+    → List ℕ → MissingReferencedObjectBehaviour → State → Outcome → State → Type 0
 TakesExecutableSkippingNameless offer path missing =
     TakesExecutableBy (nameless_skipped missing) offer path

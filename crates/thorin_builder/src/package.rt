@@ -278,19 +278,19 @@ impl<'output, 'session: 'output, Sess: Session<RelocationEntry>> DwarfPackage<
         ensures accepted_by_new { IfOk result.0 (IsAcceptedByNewOnceWritten self.entry.state) }
         ensures differing { map (λ s. s.0) result.1.items ≡ spec.differing_in self.entry.state }
     {
+        finished_packages_are_read();
+        own_packages_are_accepted();
+        own_packages_are_accepted_by_a_new_one();
+        let tested = self.test_targets();
         let DwarfPackage {
             alloc,
             session: _,
             in_progress,
-            no_units,
+            no_units: _,
             targets,
             own: _,
             output: _,
         } = self;
-        finished_packages_are_read();
-        own_packages_are_accepted();
-        own_packages_are_accepted_by_a_new_one();
-        let tested = test_targets(contained_in(&in_progress, &no_units), &targets);
         finished_begun(alloc, in_progress, &targets, tested)
     }
 
@@ -353,19 +353,17 @@ impl<'output, 'session: 'output, Sess: Session<RelocationEntry>> DwarfPackage<
             next: 0,
         }
     }
-}
 
-/// The names of a package's units; `no_units` where no input has begun one.
-fn contained_in<'p>(
-    in_progress: &'p Option<InProgressDwarfPackage>,
-    no_units: &'p IndexSet<DwarfObject>,
-) -> &'p IndexSet<DwarfObject>
-    requires { no_units.now.keys ≡ [] }
-    ensures { result.now.keys ≡ spec.names_in (begun_of in_progress.now) }
-{
-    match in_progress {
-        Some(package) => &package.names,
-        None => no_units,
+    /// `MissingReferencedUnit` for the first of the missing targets.
+    #[tactic(auto, using(crate::proofs::Names::first_passing), unfolding(thorin_join::specs::Builder::targets_test))]
+    fn test_targets(&self) -> Result<(), Error>
+        ensures { Gives (λ _. tt) result (spec.targets_test (spec.names_in self.now.state.begun)
+            self.now.state.targets) }
+    {
+        match self.missing_targets().next() {
+            Some(target) => Err(Error::MissingReferencedUnit(target.index())),
+            None => Ok(()),
+        }
     }
 }
 
@@ -410,20 +408,4 @@ fn unit_count(in_progress: &Option<InProgressDwarfPackage>) -> usize
         Some(package) => package.names.len(),
         None => 0,
     }
-}
-
-/// `MissingReferencedUnit` for the first unit that executables refer to and that isn't contained.
-#[tactic(auto, unfolding(thorin_join::specs::Builder::targets_test))]
-fn test_targets(
-    contained: &IndexSet<DwarfObject>,
-    targets: &IndexSet<DwarfObject>,
-) -> Result<(), Error>
-    ensures { Gives (λ _. tt) result (spec.targets_test contained.now.keys targets.now.keys) }
-{
-    for target in targets.iter() {
-        if !contained.contains(target) {
-            return Err(Error::MissingReferencedUnit(target.index()));
-        }
-    }
-    Ok(())
 }

@@ -10,6 +10,9 @@ by-law : (P : State → File → Type 0) (r : Result File Error) (state : State)
     → Gives (λ _. tt) r (finish_test state) → IfOk r (IsFinishedState state) → IfOk r (P state)
 by-law P r state law tested finished = grind rules
 
+pub finished_begun-requires : goal.finished_begun-requires
+finished_begun-requires g c = rw (← c.self.view_is) at c.test_targets-tested.ensures
+
 pub returns-clause-refusal : goal.returns-clause-refusal
 returns-clause-refusal g c = rw (← c.self.view_is) (c.finished_begun.ensures.refusal _)
 
