@@ -10,7 +10,8 @@ use Rattle.thorin_find.specs.Files.{Offer, FailsToRead}
 use Rattle.thorin_find.specs.Listing.{AreByRow, UnitLines, answer_of, IsListedIn, ListsPackage}
 use Rattle.thorin_find.specs.Listing.{Lists, view_of, lines_of, PrintsLines, Begins}
 use Rattle.thorin_find.specs.declared.listing.ListForm.{ListForm}
-use Rattle.thorin_find.proofs.Walk.{begun_behind, nothing_begun}
+use Rattle.thorin_find.proofs.Walk.{begun_behind}
+use Rattle.thorin_print.proofs.Printed.{nothing}
 use Rattle.thorin_print.specs.Answers.{Answer, Comes, HasBeginning, IsOfPrinting}
 use Rattle.thorin_print.specs.declared.output.Failure.{Failure}
 use Rattle.thorin_print.specs.declared.output.Failure.TheVariants as failures
@@ -129,7 +130,7 @@ module _ (form : ListForm) (pack : Package) (entries : List UnitEntry)
     pub rest_begun : ListsPackage form pack old middle (Err failures.Memory)
     rest_begun =
         let b = begun_front old middle middle p.front.front waiting p.front.printed
-        (nothing_begun middle waiting) in
+        (nothing middle waiting) in
         begun_listing failures.Memory middle (record { cause = tt; begun = rw p.front.split b })
 
     -- the rest was printed behind them

@@ -1,7 +1,6 @@
 -- What words ask for, and what came of a command that reads a file.
 use Rattle.std.proofs.Common.{◌≡◌, ◌≢◌, ℕ, List, codes, get_or, Option, None, Result, Ok, Err}
-use Rattle.std.proofs.Common.{MatchOption, refl, inl, inr, arith}
-use Rattle.std.specs.Result.{result_ok}
+use Rattle.std.proofs.Common.{MatchResult, refl, inl, inr, arith}
 use Rattle.std.specs.Str.Parse.{digits_value, ParsesUnsigned}
 use Rattle.std.specs.Str.Pattern.{FindsTextPrefix, StripsPrefix}
 use Rattle.std.proofs.KnownBytes.{Keeps-refl}
@@ -12,7 +11,7 @@ use Rattle.thorin_print.specs.declared.output.Failure.{Failure}
 use Rattle.thorin_find.specs.Files.{Offer, Reads, FailsToRead}
 use Rattle.thorin_find.specs.Finding.{HasDigits, IsNumber, Asks, AsksFor, FindsAsked, Finds, Words}
 use Rattle.thorin_find.specs.Finding.{find_answer}
-use Rattle.thorin_find.specs.declared.wanted.Wanted.{Wanted}
+use Rattle.thorin_find.specs.declared.finding.Wanted.{Wanted}
 
 -- the digits behind `0x`
 pub digits_behind : (text digits : List ℕ) → StripsPrefix (FindsTextPrefix (codes "0x")) text digits
@@ -26,8 +25,7 @@ digits_alone text h = inr (h, refl)
 -- what decimal digits are read as
 pub number_read : {E : Type 0} (text : List ℕ) (r : Result ℕ E) → get_or text 0 0 ≢ 43
     → ParsesUnsigned 64 10 text r
-    → MatchOption (result_ok r) (¬ (IsNumber text)) (λ n. IsNumber text
-    × (n ≡ digits_value 10 text))
+    → MatchResult r (λ n. IsNumber text × (n ≡ digits_value 10 text)) (λ _. ¬ (IsNumber text))
 number_read text r unsigned h = grind (arith, without_leading_plus_none text unsigned)
 
 module _ (offer : Offer) (path : List ℕ) (words : Words) (a : Option (List ℕ))

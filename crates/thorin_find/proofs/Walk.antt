@@ -1,7 +1,7 @@
 -- The lines of a list, slot by slot: some are printed, the others wait.
-use Rattle.std.proofs.Common.{◌≡◌, ℕ, Bool, true, false, List, [], ◌∷◌, ◌++◌, Option, Result}
-use Rattle.std.proofs.Common.{Ok, Err, refl, sym, append-nil, append_assoc, true≢false}
-use Rattle.std.proofs.Common.{length, take, drop, take-append-drop}
+use Rattle.std.proofs.Common.{◌≡◌, ℕ, Bool, true, false, List, [], ◌∷◌, ◌++◌, Option, Result, Ok}
+use Rattle.std.proofs.Common.{Err, refl, sym, append-nil, append_assoc, true≢false, length, take}
+use Rattle.std.proofs.Common.{drop, take-append-drop}
 use Rattle.std.specs.Io.KnownBytes.{Appends}
 use Rattle.std.proofs.KnownBytes.{Appends-nil, Appends-trans}
 use Rattle.std.proofs.Math.Seq.{take-append_seam}
@@ -10,6 +10,7 @@ use Rattle.dwp_index.specs.declared.error.PackageError.{PackageError}
 use Rattle.dwp_index.specs.declared.units.UnitEntry.{UnitEntry}
 use Rattle.thorin_find.specs.Listing.{ListView, UnitLines, lines_of, slot_line, AddsLine}
 use Rattle.thorin_find.specs.Listing.{behind_line, PrintsFront, PrintsLines, Begins}
+use Rattle.thorin_print.proofs.Printed.{nothing}
 use Rattle.thorin_print.specs.Answers.{Comes, HasBeginning, IsOfPrinting}
 use Rattle.thorin_print.specs.declared.output.Failure.{Failure}
 use Rattle.thorin_print.specs.declared.output.Failure.TheVariants as failures
@@ -53,10 +54,6 @@ begun_behind old middle new front rest more printed h =
     rw (append_assoc, ← append_assoc (take h.0 rest), take-append-drop) refl in
     (length (front ++ take h.0 rest), rw (split, take-append_seam) all)
 
-pub nothing_begun : (a : Option (List ℕ)) (text : List ℕ) → HasBeginning a a text
-unfolding HasBeginning
-nothing_begun a text = (0, Appends-nil a)
-
 -- ---- slot by slot
 
 -- some text, and the lines behind it
@@ -90,7 +87,7 @@ module _ (view : ListView) (pack : Package) (all : List UnitEntry) (old : Option
       → PrintedSoFar view pack all rest old new waiting
       → Begins failure (lines_of view pack all).printed old new
   begun failure rest new waiting cause s = begun_waiting failure rest new new waiting s
-      (record { cause = cause; begun = nothing_begun new waiting })
+      (record { cause = cause; begun = nothing new waiting })
 
   -- no slot is left
   pub all_found : (rest : List UnitEntry) (new : Option (List ℕ)) (waiting : List ℕ) → rest ≡ []

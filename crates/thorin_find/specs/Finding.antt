@@ -1,6 +1,6 @@
 -- What `find` prints.
-use Rattle.std.specs.Prelude.{◌≡◌, ◌≢◌, ◌⊎◌, ◌<◌, ◌^◌, ◌==◌, ℕ, List, [], ◌++◌}
-use Rattle.std.specs.Prelude.{codes, length, Option, Some, None, Result, Ok, Err, if◌then◌else◌}
+use Rattle.std.specs.Prelude.{◌≡◌, ◌≢◌, ◌⊎◌, ◌<◌, ◌^◌, ◌==◌, ℕ, List, [], ◌++◌, codes, length}
+use Rattle.std.specs.Prelude.{Option, Some, None, Result, Ok, Err, if◌then◌else◌}
 use Rattle.std.specs.Fmt.{decimal}
 use Rattle.std.specs.List.{flat_map}
 use Rattle.std.specs.Option.{option_copied}
@@ -30,10 +30,9 @@ use Rattle.thorin_find.specs.Lines.{short_kind}
 use Rattle.thorin_print.specs.declared.form.Form.{Form}
 use Rattle.thorin_print.specs.declared.form.Form.TheVariants.{Lines, Json}
 use Rattle.thorin_print.specs.Spelled.{spelled, spelled_or}
-use Rattle.thorin_find.specs.declared.wanted.FindWords.{FindWords}
-use Rattle.thorin_find.specs.declared.wanted.Wanted.{Wanted}
-use Rattle.thorin_find.specs.declared.wanted.Wanted.TheVariants.{Printed, Bytes}
-use Rattle.thorin_find.specs.declared.wanted.Printing.TheVariants.{AllOf, StringOf}
+use Rattle.thorin_find.specs.declared.finding.FindWords.{FindWords}
+use Rattle.thorin_find.specs.declared.finding.Wanted.{Wanted}
+use Rattle.thorin_find.specs.declared.finding.Wanted.TheVariants.{AllOf, StringOf, Bytes}
 use Rattle.thorin_print.specs.declared.output.Failure.{Failure}
 use Rattle.thorin_print.specs.declared.output.Failure.TheVariants as failures
 use Rattle.dwp_index.specs.Contents.{content}
@@ -74,7 +73,7 @@ abbrev pub IsNumber : List ℕ → Type 0
 IsNumber text = IsNumeral 10 text × (digits_value 10 text < 2 ^ 64)
 
 abbrev pub AsksString : List ℕ → Result Wanted Failure → Type 0
-AsksString text (Ok (Printed (StringOf n))) = IsNumber text × (n ≡ digits_value 10 text)
+AsksString text (Ok (StringOf n)) = IsNumber text × (n ≡ digits_value 10 text)
 AsksString text (Err failures.BadNumber) = ¬ (IsNumber text)
 AsksString text _ = ⊥
 
@@ -88,7 +87,7 @@ AsksSection text _ = ⊥
 abbrev pub AsksFor : (string section : Option (List ℕ)) → Result Wanted Failure → Type 0
 AsksFor (Some text) section wanted = AsksString text wanted
 AsksFor None (Some text) wanted = AsksSection text wanted
-AsksFor None None wanted = wanted ≡ Ok (Printed AllOf)
+AsksFor None None wanted = wanted ≡ Ok AllOf
 
 -- ---- what is printed of it
 
@@ -178,9 +177,9 @@ bytes_answer kind bytes = if length bytes == 0 then refused (failures.NoRange ki
 -- what is wanted of a unit
 abbrev pub wanted_answer : Form → Wanted → DwarfObject → FoundUnit → (slots : ℕ)
     → Answer
-wanted_answer form (Printed AllOf) object unit slots =
+wanted_answer form AllOf object unit slots =
     record { printed = all_text form object unit slots; answer = Ok 0 }
-wanted_answer form (Printed (StringOf i)) object unit slots =
+wanted_answer form (StringOf i) object unit slots =
     string_answer form i (string_of unit i)
 wanted_answer form (Bytes kind) object unit slots =
     bytes_answer kind (row_bytes unit.contents unit.row kind)

@@ -26,8 +26,8 @@ use Rattle.thorin_find.specs.Names.{source_name, object_name}
 use Rattle.thorin_print.specs.declared.form.Form.{Form}
 use Rattle.thorin_print.specs.declared.form.Form.TheVariants.{Lines, Json}
 use Rattle.thorin_print.specs.Spelled.{spelled_or}
-use Rattle.thorin_find.specs.declared.indexes.FileKind.{FileKind}
-use Rattle.thorin_find.specs.declared.indexes.FileKind.TheVariants as files
+use Rattle.thorin_find.specs.declared.files.FileKind.{FileKind}
+use Rattle.thorin_find.specs.declared.files.FileKind.TheVariants as files
 use Rattle.thorin_find.specs.declared.listing.ListForm.{ListForm}
 use Rattle.thorin_print.specs.Lines.{hex16, line_end}
 use Rattle.thorin_find.specs.Lines.{short_kind}

@@ -1,9 +1,13 @@
-//! The files that a command line names.
+//! The files that a command line names, and what they are to the commands that read packages.
 
-ghost use Rattle.std.specs.Prelude.{ℕ, List, Result, Ok, Err, IfOk, IfErr};
+ghost use Rattle.std.specs.Prelude.{◌≡◌, ℕ, List, Result, Ok, Err, IfOk, IfErr};
 ghost use Rattle.std.specs.declared.io.Error.{Error as IoError};
+ghost use Rattle.dwp_index.specs.Package.{package_of};
 ghost use Rattle.thorin_find.specs.Files.{anything, FailsToRead};
+ghost use Rattle.thorin_find.specs.Listing.{has_no_index, kind_of};
 
+use dwp_base::SectionKind;
+use dwp_index::{PackageError, PackageFile};
 use std::cell::Cell;
 use std::io;
 use thorin_print::Failure;
@@ -83,5 +87,42 @@ pub fn read_named<F: FileReader>(files: &F, path: &str) -> Result<Vec<u8>, Failu
         Ok(bytes) => Ok(bytes),
         Err(e) if e.kind() == io::ErrorKind::OutOfMemory => Err(Failure::Memory),
         Err(_) => Err(Failure::Input),
+    }
+}
+
+/// Whether a package has no index of either kind.
+pub fn has_no_index(pack: &PackageFile<'_>) -> bool
+    ensures { result ≡ has_no_index pack.now }
+{
+    pack.compilation_index().is_none() && pack.type_index().is_none()
+}
+
+/// What a file is.
+#[derive(Clone, Copy)]
+pub enum FileKind {
+    /// A package: it has an index.
+    Package,
+    /// An object: it has split units and no index.
+    Object,
+    /// A file without an index and without split units.
+    NoIndex,
+    /// This keeps it from being read.
+    Malformed(PackageError),
+}
+
+/// What a file is that has these bytes.
+pub fn kind_of(bytes: &[u8]) -> FileKind
+    ensures { result ≡ kind_of (package_of bytes.now) }
+{
+    let pack = match PackageFile::parse(bytes) {
+        Ok(pack) => pack,
+        Err(error) => return FileKind::Malformed(error),
+    };
+    if !has_no_index(&pack) {
+        FileKind::Package
+    } else if pack.content(SectionKind::Info).is_empty() {
+        FileKind::NoIndex
+    } else {
+        FileKind::Object
     }
 }

@@ -1,22 +1,59 @@
-//! `thorin find`.
+//! `thorin find`: what it is asked for, and what it tells of a unit, plain and in JSON.
 
-ghost use Rattle.std.specs.Prelude.{◌≡◌, ◌++◌, OnOk, string_bytes, codes};
-ghost use Rattle.thorin_print.specs.Answers.{Comes};
-ghost use Rattle.thorin_find.specs.Finding.{Finds, string_count, string_line};
-ghost use Rattle.thorin_find.specs.Finding.{find_answer, words_of};
+ghost use Rattle.std.specs.Prelude.{◌≡◌, ◌++◌, MatchResult, OnOk, string_bytes, codes};
+ghost use Rattle.std.specs.Option.{option_copied};
 ghost use Rattle.dwp_table.specs.Objects.{identifier_of};
+ghost use Rattle.thorin_print.specs.Answers.{Comes};
 ghost use Rattle.thorin_print.specs.Lines.{hex16};
-ghost use Rattle.thorin_find.specs.Lines.{short_kind};
+ghost use Rattle.thorin_print.specs.declared.output.Failure.TheVariants as failures;
+ghost use Rattle.thorin_find.specs.Finding.{Asks, AsksFor, Writes, WritesNone, Finds, find_answer};
+ghost use Rattle.thorin_find.specs.Finding.{words_of, string_count, string_line, width};
+ghost use Rattle.thorin_find.specs.Finding.{encoding_text, range_text, range_texts, all_text};
+ghost use Rattle.thorin_find.specs.Finding.{counts_text};
+ghost use Rattle.thorin_find.specs.Lines.{json_unit, short_kind};
 
-use crate::describing::put_all;
 use crate::files::{FileReader, read_named};
-use crate::wanted::{FindWords, Printing, Wanted, object, wanted_of};
-use dwp_base::SectionKind;
+use dwp_base::{Contribution, SectionKind};
+use dwp_bytes::{Encoding, Format};
 use dwp_index::{PackageFile, PackagedUnit};
-use dwp_table::{Bucketable, DwarfObject};
+use dwp_table::{Bucketable, CONTRIBUTION_KINDS, DebugTypeSignature, DwarfObject, DwoId};
 use std::alloc::{AllocError, Global};
 use std::io::Write;
-use thorin_print::{Failure, Form, answer, answer_bytes, put_spelled, put_spelled_or};
+use thorin_print::{Failure, Form, answer, put_spelled, put_spelled_or};
+use thorin_words::hexadecimal;
+
+/// What is wanted of a unit, and how it is printed.
+#[derive(Clone, Copy)]
+pub struct FindForm<'a> {
+    /// The number of a string, where one is wanted.
+    pub string: Option<&'a str>,
+    /// The short name of a kind of section, where its bytes are wanted.
+    pub section: Option<&'a str>,
+    /// In which form it is printed.
+    pub form: Form,
+}
+
+/// The words that ask for a unit, and what is wanted of it.
+#[derive(Clone, Copy)]
+pub struct FindWords<'a> {
+    /// Its kind: `cu` or `tu`.
+    pub kind: &'a str,
+    /// Its identifier.
+    pub id: &'a str,
+    /// What is wanted of it, and how it is printed.
+    pub form: FindForm<'a>,
+}
+
+/// What is wanted of a unit.
+#[derive(Clone, Copy)]
+pub(crate) enum Wanted {
+    /// All that is told of it.
+    AllOf,
+    /// The string of a number.
+    StringOf(u64),
+    /// The bytes of its range of a section.
+    Bytes(SectionKind),
+}
 
 /// Looks a unit up in a package's file and prints what belongs to it, or what is wanted of that. Its
 /// kind is `cu` or `tu`, its identifier 1 to 16 hexadecimal digits, with or without `0x` in front.
@@ -70,8 +107,8 @@ fn find_in<O: Write>(
     };
     let mut text = String::new(alloc);
     let put = match wanted {
-        Wanted::Printed(Printing::AllOf) => put_all(object, &unit, slots, form, &mut text),
-        Wanted::Printed(Printing::StringOf(i)) => match unit.string(i) {
+        Wanted::AllOf => put_all(object, &unit, slots, form, &mut text),
+        Wanted::StringOf(i) => match unit.string(i) {
             Ok(Some(string)) => put_string_line(string, form, &mut text),
             Ok(None) => return Err(Failure::NoString(i)),
             Err(_) => return Err(Failure::Malformed),
@@ -81,11 +118,11 @@ fn find_in<O: Write>(
             if section.is_empty() {
                 return Err(Failure::NoRange(kind));
             }
-            return answer_bytes(section, Ok(0), out);
+            return answer(section, Ok(0), out);
         }
     };
     match put {
-        Ok(()) => answer(text.as_str(), Ok(0), out),
+        Ok(()) => answer(text.as_bytes(), Ok(0), out),
         Err(_) => Err(Failure::Memory),
     }
 }
@@ -105,6 +142,168 @@ fn put_string_line(string: &[u8], form: Form, text: &mut String) -> Result<(), A
             put_spelled_or(Some(string), form, text)?;
             text.push_str("}\n")
         }
+    }
+}
+
+/// The unit that is asked for: first its kind is tested, then its identifier.
+fn object(kind: &str, id: &str) -> Result<DwarfObject, Failure>
+    ensures { Asks kind.now id.now result }
+{
+    match kind {
+        "cu" => Ok(DwarfObject::Compilation(DwoId(identifier(id)?))),
+        "tu" => Ok(DwarfObject::TypeUnit(DebugTypeSignature(identifier(id)?))),
+        _ => Err(Failure::BadKind),
+    }
+}
+
+/// What is wanted of it: the string of a decimal number, or the bytes of a section.
+#[tactic(auto, using(crate::proofs::Sought::number_read))]
+fn wanted_of(string: Option<&str>, section: Option<&str>) -> Result<Wanted, Failure>
+    ensures { AsksFor (option_copied string.entry) (option_copied section.entry) result }
+{
+    match (string, section) {
+        (Some(text), _) => {
+            if text.is_empty() || text.as_bytes()[0] == b'+' {
+                return Err(Failure::BadNumber);
+            }
+            match u64::from_str_radix(text, 10) {
+                Ok(n) => Ok(Wanted::StringOf(n)),
+                Err(_) => Err(Failure::BadNumber),
+            }
+        }
+        (None, Some(text)) => match SectionKind::of_short_name(text) {
+            Some(kind) => Ok(Wanted::Bytes(kind)),
+            None => Err(Failure::BadSection),
+        },
+        (None, None) => Ok(Wanted::AllOf),
+    }
+}
+
+/// The identifier that 1 to 16 hexadecimal digits write, with or without `0x` in front.
+#[tactic(auto, using(crate::proofs::Sought::digits_behind, crate::proofs::Sought::digits_alone))]
+fn identifier(text: &str) -> Result<u64, Failure>
+    ensures { MatchResult result (Writes text.now)
+        (λ failure. (failure ≡ failures.BadIdentifier) × WritesNone text.now) }
+{
+    let digits = match text.strip_prefix("0x") {
+        Some(digits) => digits,
+        None => text,
+    };
+    match hexadecimal(digits) {
+        Some(n) => Ok(n),
+        None => Err(Failure::BadIdentifier),
+    }
+}
+
+/// Adds all that is told of a unit: in lines, or as a JSON object.
+#[tactic(auto, unfolding(crate::specs::Finding::all_text))]
+fn put_all(
+    object: DwarfObject,
+    unit: &PackagedUnit<'_>,
+    slots: u32,
+    form: Form,
+    text: &mut String,
+) -> Result<(), AllocError>
+    ensures { OnOk result (string_bytes text.new
+        ≡ string_bytes text.old ++ all_text form object unit.now slots) }
+{
+    put_encoding(form, object, unit.encoding(), text)?;
+    put_ranges(unit, form, text)?;
+    put_counts(string_count(unit), slots, form, text)
+}
+
+/// Adds a unit's encoding: a line, or the beginning of an object.
+#[tactic(auto, unfolding(crate::specs::Finding::encoding_line, crate::specs::Finding::json_encoding, crate::specs::Lines::json_unit))]
+fn put_encoding(
+    form: Form,
+    object: DwarfObject,
+    encoding: Encoding,
+    text: &mut String,
+) -> Result<(), AllocError>
+    ensures { OnOk result (string_bytes text.new
+        ≡ string_bytes text.old ++ encoding_text form object encoding) }
+{
+    let version = encoding.version;
+    let width = width(encoding.format);
+    let address = encoding.address_size;
+    match form {
+        Form::Lines => {
+            put_object(object, text)?;
+            writeln!(text, " version {version} format {width} address {address}")
+        }
+        Form::Json => {
+            put_json_unit(object, text)?;
+            write!(
+                text,
+                "\",\"version\":{version},\"format\":{width},\"address\":{address}"
+            )
+        }
+    }
+}
+
+/// How many bits an offset has.
+fn width(format: Format) -> u8
+    ensures { result ≡ width format }
+{
+    match format {
+        Format::Dwarf32 => 32,
+        Format::Dwarf64 => 64,
+    }
+}
+
+/// Adds the beginning of the object, up to the unit's identifier.
+#[tactic(auto, using(thorin_print::proofs::Hex::hex16_written), unfolding(crate::specs::Lines::json_unit))]
+pub fn put_json_unit(object: DwarfObject, text: &mut String) -> Result<(), AllocError>
+    ensures { OnOk result (string_bytes text.new
+        ≡ string_bytes text.old ++ json_unit object) }
+{
+    let kind = short_kind(object);
+    let id = object.index();
+    write!(text, "{{\"kind\":\"{kind}\",\"id\":\"0x{id:016x}")
+}
+
+/// Adds each range that a unit has of a section.
+#[tactic(auto, unfolding(crate::specs::Finding::range_texts))]
+fn put_ranges(unit: &PackagedUnit<'_>, form: Form, text: &mut String) -> Result<(), AllocError>
+    ensures { OnOk result (string_bytes text.new
+        ≡ string_bytes text.old ++ range_texts form unit.now) }
+{
+    for kind in &CONTRIBUTION_KINDS {
+        put_range(*kind, unit.range(*kind), form, text)?;
+    }
+    Ok(())
+}
+
+/// Adds a range, where there is one.
+fn put_range(
+    kind: SectionKind,
+    range: Option<Contribution>,
+    form: Form,
+    text: &mut String,
+) -> Result<(), AllocError>
+    ensures { OnOk result (string_bytes text.new
+        ≡ string_bytes text.old ++ range_text form kind range) }
+{
+    let Some(range) = range else {
+        return Ok(());
+    };
+    let name = kind.short_name();
+    let offset = range.offset.0;
+    let size = range.size;
+    match form {
+        Form::Lines => writeln!(text, "{name} 0x{offset:x} 0x{size:x}"),
+        Form::Json => write!(text, ",\"{name}\":{{\"offset\":{offset},\"size\":{size}}}"),
+    }
+}
+
+/// Adds the numbers of a unit's strings and of slots: in lines, or as the end of the object.
+fn put_counts(strings: u64, slots: u32, form: Form, text: &mut String) -> Result<(), AllocError>
+    ensures { OnOk result (string_bytes text.new
+        ≡ string_bytes text.old ++ counts_text form strings slots) }
+{
+    match form {
+        Form::Lines => writeln!(text, "strings {strings}\nslots {slots}"),
+        Form::Json => writeln!(text, ",\"strings\":{strings},\"slots\":{slots}}}"),
     }
 }
 

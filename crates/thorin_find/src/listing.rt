@@ -3,18 +3,15 @@
 ghost use Rattle.std.specs.Prelude.{◌≡◌, [], ◌++◌, IfOk, IfErr, OnOk, string_bytes};
 ghost use Rattle.dwp_index.specs.Entries.{entries_from};
 ghost use Rattle.dwp_index.specs.Package.{found};
-ghost use Rattle.thorin_find.specs.Listing.{place_by, AreByRow, range_size, range_sizes};
-ghost use Rattle.thorin_find.specs.Listing.{front_of, unit_names, view_of};
-ghost use Rattle.thorin_find.specs.Listing.{unit_line, AddsLine, lines_of, answer_of, IsListedIn};
-ghost use Rattle.thorin_find.specs.Listing.{PrintsFront, PrintsLines, Begins};
-ghost use Rattle.thorin_find.specs.Listing.{ListsPackage, Lists};
+ghost use Rattle.thorin_find.specs.Listing.{place_by, AreByRow, range_size, range_sizes, front_of};
+ghost use Rattle.thorin_find.specs.Listing.{unit_names, view_of, unit_line, AddsLine, lines_of};
+ghost use Rattle.thorin_find.specs.Listing.{answer_of, IsListedIn, PrintsFront, PrintsLines};
+ghost use Rattle.thorin_find.specs.Listing.{Begins, ListsPackage, Lists};
 
-use crate::columns::{put_total_rows, put_unit_rows};
-use crate::describing::put_json_unit;
 use crate::files::{FileReader, read_named};
-use crate::finding::put_object;
+use crate::finding::{put_json_unit, put_object};
 use crate::names::PackagedStrings;
-use crate::sizes::{UnitRanges, put_totals};
+use crate::sizes::{UnitRanges, put_total_rows, put_totals, put_unit_rows};
 use dwp_base::{Contribution, SectionKind};
 use dwp_index::{PackageFile, PackagedUnit, UnitEntry};
 use dwp_table::{CONTRIBUTION_KINDS, DwarfObject};
@@ -99,7 +96,7 @@ fn list_entries<O: Write>(
     let mut ranges = UnitRanges::new(alloc);
     let is_all = print_lines(listed, entries, &mut ranges, &mut waiting, out)?;
     match put_rest(listed, is_all, &mut ranges, &mut waiting) {
-        Ok(given) => answer(waiting.as_str(), given, out),
+        Ok(given) => answer(waiting.as_bytes(), given, out),
         Err(_) => Err(Failure::Memory),
     }
 }
@@ -201,7 +198,7 @@ fn print_much<O: Write>(waiting: &mut String, out: &mut O) -> Result<(), Failure
     if waiting.len() < MUCH {
         return Ok(());
     }
-    answer(waiting.as_str(), Ok(0), out)?;
+    answer(waiting.as_bytes(), Ok(0), out)?;
     waiting.clear();
     Ok(())
 }
@@ -287,7 +284,7 @@ fn put_unit<'a>(
 }
 
 /// Adds what a line begins with: a unit's kind, its identifier and its size.
-#[tactic(auto, unfolding(crate::specs::Listing::unit_front, crate::specs::Listing::json_front, crate::specs::Json::json_unit))]
+#[tactic(auto, unfolding(crate::specs::Listing::unit_front, crate::specs::Listing::json_front, crate::specs::Lines::json_unit))]
 fn put_front(
     object: DwarfObject,
     unit: &PackagedUnit<'_>,

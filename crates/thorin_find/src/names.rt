@@ -8,9 +8,9 @@ ghost use Rattle.dwp_bytes.specs.Input.{front};
 ghost use Rattle.dwp_dwarf.specs.Attributes.{attribute_of, attributes_left, entry_of, root_of};
 ghost use Rattle.dwp_units.specs.Units.{unit_of};
 ghost use Rattle.thorin_find.specs.Names as spec;
-ghost use Rattle.thorin_find.specs.Names.{header_in, unit_die, die_of};
-ghost use Rattle.thorin_find.specs.Names.{named, short_string_at, string_number};
-ghost use Rattle.thorin_find.specs.Names.{string_of, object_in, source_name, object_name};
+ghost use Rattle.thorin_find.specs.Names.{header_in, unit_die, die_of, named, short_string_at};
+ghost use Rattle.thorin_find.specs.Names.{string_number, string_of, object_in, source_name};
+ghost use Rattle.thorin_find.specs.Names.{object_name};
 
 use dwp_base::{Endianness, SectionKind};
 use dwp_bytes::{ReadError, Reader, SliceReader, StringOffsets, string_at};

@@ -1,11 +1,13 @@
-//! Where the bytes of a package go.
+//! Where the bytes of a package go, in lines and in columns, and its units in columns.
 
 ghost use Rattle.std.specs.Prelude.{◌≡◌, ◌++◌, OnOk, List, ℕ, string_bytes};
 
+use crate::finding::short_kind;
 use dwp_base::{Contribution, SectionKind};
 use dwp_index::{PackageFile, PackagedUnit};
-use dwp_table::{CONTRIBUTION_KINDS, DwarfObject};
+use dwp_table::{Bucketable, CONTRIBUTION_KINDS, DwarfObject};
 use std::alloc::{AllocError, Global};
+use std::fmt;
 use thorin_print::Form;
 
 /// A range of a section that a unit has.
@@ -19,10 +21,9 @@ struct SectionRange {
 /// The sizes of a unit that is listed in columns.
 #[derive(Clone, Copy)]
 pub(crate) struct UnitSizes {
-    /// The unit.
-    pub object: DwarfObject,
+    object: DwarfObject,
     /// How many bytes it has.
-    pub size: u64,
+    size: u64,
     // Which of the ranges are its own: the number of the first, and that behind the last.
     first: usize,
     end: usize,
@@ -32,20 +33,20 @@ pub(crate) struct UnitSizes {
 #[derive(Clone, Copy)]
 pub(crate) struct Total {
     /// The short name of the section, or `file`.
-    pub name: &'static str,
+    name: &'static str,
     /// How many bytes it has.
-    pub size: u64,
+    size: u64,
     /// Those of the ranges that units have of it, where units can have such ranges.
-    pub ranges: Option<RangeTotal>,
+    ranges: Option<RangeTotal>,
 }
 
 /// How many bytes the ranges of a section have together.
 #[derive(Clone, Copy)]
-pub(crate) struct RangeTotal {
+struct RangeTotal {
     /// The distinct ones.
-    pub once: u64,
+    once: u64,
     /// How many more all of them have.
-    pub shared: u64,
+    shared: u64,
 }
 
 /// The ranges that units have of the sections of a package.
@@ -100,14 +101,8 @@ impl UnitRanges {
         Ok(())
     }
 
-    /// Whether a unit has a range of a section.
-    pub(crate) fn has_range_of(&self, kind: SectionKind) -> bool {
-        let section = kind.rank();
-        self.ranges.iter().any(|range| range.section == section)
-    }
-
     /// The size of a unit's range of a section, where it has one; before totals are made.
-    pub(crate) fn size_of(&self, unit: UnitSizes, kind: SectionKind) -> Option<u64> {
+    fn size_of(&self, unit: UnitSizes, kind: SectionKind) -> Option<u64> {
         let section = kind.rank();
         let ranges = self.ranges.get(unit.first..unit.end)?;
         let range = ranges.iter().find(|range| range.section == section)?;
@@ -205,4 +200,113 @@ pub(crate) fn put_totals(totals: &[Total], form: Form, text: &mut String) -> Res
         }
     }
     text.push_str(added.as_str())
+}
+
+/// Adds the rows of units, before totals are made: their sizes in each section that one of them has
+/// a range of.
+pub(crate) fn put_unit_rows(ranges: &UnitRanges, text: &mut String) -> Result<(), AllocError> {
+    let alloc = *text.allocator();
+    if ranges.units.is_empty() {
+        return Ok(());
+    }
+    let mut kinds = Vec::new(alloc);
+    let mut cells = Vec::new(alloc);
+    for name in &["unit", "identifier", "size"] {
+        push(name, &mut cells)?;
+    }
+    for kind in &CONTRIBUTION_KINDS {
+        let section = kind.rank();
+        if ranges.ranges.iter().any(|range| range.section == section) {
+            push(&kind.short_name(), &mut cells)?;
+            kinds.push(*kind)?;
+        }
+    }
+    for unit in &ranges.units {
+        let id = unit.object.index();
+        push(&short_kind(unit.object), &mut cells)?;
+        cells.push(format!(in alloc; "0x{id:016x}")?)?;
+        push(&unit.size, &mut cells)?;
+        for kind in &kinds {
+            match ranges.size_of(*unit, *kind) {
+                Some(size) => push(&size, &mut cells)?,
+                None => push(&"-", &mut cells)?,
+            }
+        }
+    }
+    put_rows(cells.as_slice(), kinds.len().saturating_add(3), text)
+}
+
+/// Adds the rows of totals, each with its share of the file, which is the last of them: tenths of a
+/// per cent, rounded down.
+pub(crate) fn put_total_rows(totals: &[Total], text: &mut String) -> Result<(), AllocError> {
+    let alloc = *text.allocator();
+    let Some(file) = totals.last() else {
+        return Ok(());
+    };
+    let mut cells = Vec::new(alloc);
+    for name in &["section", "size", "per cent", "units", "shared"] {
+        push(name, &mut cells)?;
+    }
+    for total in totals {
+        let share = total.size.saturating_mul(1000).checked_div(file.size);
+        let tenths = share.unwrap_or(0);
+        let ones = tenths / 10;
+        let rest = tenths % 10;
+        push(&total.name, &mut cells)?;
+        push(&total.size, &mut cells)?;
+        cells.push(format!(in alloc; "{ones}.{rest}")?)?;
+        match total.ranges {
+            Some(ranges) => {
+                push(&ranges.once, &mut cells)?;
+                push(&ranges.shared, &mut cells)?;
+            }
+            None => {
+                push(&"", &mut cells)?;
+                push(&"", &mut cells)?;
+            }
+        }
+    }
+    put_rows(cells.as_slice(), 5, text)
+}
+
+/// Adds a cell.
+fn push<D: fmt::Display>(cell: &D, cells: &mut Vec<String>) -> Result<(), AllocError> {
+    let cell = format!(in *cells.allocator(); "{cell}")?;
+    cells.push(cell)?;
+    Ok(())
+}
+
+/// Adds rows of this many cells: each column as wide as its widest cell, the first one's cells at
+/// its left end, the others' at the right end, with two blanks before them.
+fn put_rows(cells: &[String], columns: usize, text: &mut String) -> Result<(), AllocError> {
+    let alloc = *text.allocator();
+    let mut widths = Vec::from_elem(alloc, 0usize, columns)?;
+    for i in 0..cells.len() {
+        if let Some(width) = widths.get_mut(i.checked_rem(columns).unwrap_or(0)) {
+            *width = cells[i].len().max(*width);
+        }
+    }
+    let mut line = String::new(alloc);
+    for i in 0..cells.len() {
+        let cell = cells[i].as_str();
+        let column = i.checked_rem(columns).unwrap_or(0);
+        let width = widths.get(column).copied().unwrap_or(0);
+        let blanks = width.saturating_sub(cell.len());
+        let blanks = blanks.saturating_add(if column == 0 { 0 } else { 2 });
+        if column == 0 {
+            line.push_str(cell)?;
+        }
+        for _blank in 0..blanks {
+            line.push_str(" ")?;
+        }
+        if column != 0 {
+            line.push_str(cell)?;
+        }
+        if column.saturating_add(1) >= columns {
+            text.push_str(line.trim_end())?;
+            text.push_str("\n")?;
+            line.clear();
+        }
+    }
+    Ok(())
 }

@@ -5,13 +5,9 @@
 mod form;
 mod line_output;
 mod output;
-mod showing;
 mod spelled;
-mod telling;
 
 pub use form::Form;
-pub use line_output::{LineOutput, WatchedLines};
-pub use output::{Failure, answer, answer_bytes, buffer, flush, print, show};
-pub use showing::{shown, shown_briefly};
-pub use spelled::{put_spelled, put_spelled_or};
-pub use telling::tell_taken;
+pub use line_output::{LineOutput, WatchedLines, tell_taken};
+pub use output::{Failure, answer, buffer, flush, print, show};
+pub use spelled::{put_spelled, put_spelled_or, shown, shown_briefly};

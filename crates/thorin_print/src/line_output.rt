@@ -1,16 +1,18 @@
-//! What the lines of a command are printed to, and whether that failed.
+//! What the lines of a command are printed to, and what `pack` tells of its inputs.
 
-ghost use Rattle.std.specs.Prelude.{◌≡◌, ℕ, List, Option, IfErr, IfSome, IsTrue, OnOk, false};
-ghost use Rattle.std.specs.Prelude.{⊤};
-ghost use Rattle.std.specs.Io.KnownBytes.{Appends};
-ghost use Rattle.std.specs.Io.KnownBytes.{Keeps};
+ghost use Rattle.std.specs.Prelude.{◌≡◌, ℕ, List, Option, IfErr, IfOk, IfSome, IsTrue, OnOk, false};
+ghost use Rattle.std.specs.Prelude.{string_bytes, ⊤};
+ghost use Rattle.std.specs.Io.KnownBytes.{Appends, Keeps};
 ghost use Rattle.thorin_print.specs.Answers.{FailsBy, Prints};
 ghost use Rattle.thorin_print.specs.Failures.{Reports, error_line};
+ghost use Rattle.thorin_print.specs.Told.{taken_line, units, passed_over};
 ghost use Rattle.thorin_print.specs.Watching.{LacksLine};
 
 use crate::output::{Failure, flush, print};
+use std::alloc::{AllocError, Global};
 use std::fmt;
 use std::io::Write;
+use thorin_words::printed;
 
 /// What takes the lines that a command prints. Every `Write` is one.
 pub trait LineOutput {
@@ -128,5 +130,52 @@ impl<W: Write> WatchedLines<W> {
         } else {
             1
         }
+    }
+}
+
+/// Tells how many units of an input were added, and how many were passed over, where that is known.
+///
+/// # Errors
+/// `Line` or `Memory`.
+pub fn tell_taken<E: LineOutput>(
+    alloc: Global,
+    name: &str,
+    added: usize,
+    all: Option<usize>,
+    err: &mut E,
+) -> Result<(), Failure>
+    ensures told { OnOk result (Appends (E.contents err.old) (E.contents err.new)
+        (taken_line name.now added all)) }
+    ensures blamed { IfErr result (FailsBy (E.failed err.new)) }
+{
+    let name = printed(alloc, name)?;
+    let added_units = units(alloc, added)?;
+    let passed = passed_over(alloc, added, all)?;
+    let line = format!(in alloc; "{name}: {added_units}{passed}\n")?;
+    err.print_text(line.as_str())
+}
+
+/// A number of units: `1 unit`, `2 units`.
+#[tactic(auto, unfolding(crate::specs::Told::units))]
+fn units(alloc: Global, count: usize) -> Result<String, AllocError>
+    ensures { IfOk result (λ text. string_bytes text ≡ units count) }
+{
+    if count == 1 {
+        String::from_str(alloc, "1 unit")
+    } else {
+        format!(in alloc; "{count} units")
+    }
+}
+
+/// How many units of an input were passed over, where it is known how many it has.
+fn passed_over(alloc: Global, added: usize, all: Option<usize>) -> Result<String, AllocError>
+    ensures { IfOk result (λ text. string_bytes text ≡ passed_over added all) }
+{
+    match all {
+        Some(all) => {
+            let passed = all.saturating_sub(added);
+            format!(in alloc; ", {passed} passed over")
+        }
+        None => Ok(String::new(alloc)),
     }
 }

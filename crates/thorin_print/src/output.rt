@@ -110,17 +110,9 @@ impl<T: Drop> From<AllocFailed<T>> for Failure {
     }
 }
 
-/// Prints a text. Answers then what is given.
-pub fn answer<O: Write>(text: &str, given: Result<u8, Failure>, out: &mut O) -> Result<u8, Failure>
-    ensures { Comes result (record { printed = text.now; answer = given })
-        (O.contents out.old) (O.contents out.new) }
-{
-    answer_bytes(text.as_bytes(), given, out)
-}
-
 /// Prints bytes as they are. Answers then what is given.
 #[tactic(auto, using(crate::proofs::Printed::came))]
-pub fn answer_bytes<O: Write>(
+pub fn answer<O: Write>(
     bytes: &[u8],
     given: Result<u8, Failure>,
     out: &mut O,

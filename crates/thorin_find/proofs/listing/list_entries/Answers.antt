@@ -10,7 +10,7 @@ returns-in_err-is_all g c =
 pub returns-in-Ok : goal.returns-in-Ok
 returns-in-Ok g c =
     whole_listing _ _ c.args.entries.now c.requires _ _ _ _ c.in_ok-is_all.ensures.lines _ _ _ _
-    c.in-Ok.ensures (rw c.as_str.ensures.value at c.answer.ensures)
+    c.in-Ok.ensures (rw c.as_bytes.ensures.value at c.answer.ensures)
 
 pub returns : goal.returns
 returns g c =

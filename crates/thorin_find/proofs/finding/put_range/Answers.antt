@@ -1,5 +1,5 @@
 use Rattle.std.proofs.Common.{rules}
-use Rattle.thorin_find.proofs.describing.put_range.Goals as goal
+use Rattle.thorin_find.proofs.finding.put_range.Goals as goal
 
 pub returns-in-Lines : goal.returns-in-Lines
 returns-in-Lines c = search rules

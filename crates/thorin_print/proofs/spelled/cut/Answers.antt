@@ -1,6 +1,6 @@
 use Rattle.std.proofs.Common.{rules}
 use Rattle.thorin_print.proofs.Cuts.{is_cut}
-use Rattle.thorin_print.proofs.showing.cut.Goals as goal
+use Rattle.thorin_print.proofs.spelled.cut.Goals as goal
 
 pub returns : goal.returns
 returns c =

@@ -1,8 +1,8 @@
 use Rattle.std.proofs.Common.{ℕ, List, ◌++◌, codes, decimal, rules, append_assoc}
 use Rattle.thorin_find.specs.Finding.{json_encoding}
-use Rattle.thorin_find.specs.Json.{json_unit}
+use Rattle.thorin_find.specs.Lines.{json_unit}
 use Rattle.thorin_find.proofs.Pieces.{both}
-use Rattle.thorin_find.proofs.describing.put_encoding.Goals as goal
+use Rattle.thorin_find.proofs.finding.put_encoding.Goals as goal
 
 abbrev numbers : (version width address : ℕ) → List ℕ
 numbers version width address = codes "\",\"version\":" ++ (decimal version

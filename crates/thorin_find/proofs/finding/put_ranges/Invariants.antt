@@ -2,7 +2,7 @@ use Rattle.std.proofs.Common.{◌≡◌, ◌++◌, take, string_bytes, flat_map}
 use Rattle.dwp_index.specs.Index.{range_in}
 use Rattle.dwp_table.specs.Columns.{contribution_kinds}
 use Rattle.thorin_find.specs.Finding.{range_text}
-use Rattle.thorin_find.proofs.describing.put_ranges.Given as goal
+use Rattle.thorin_find.proofs.finding.put_ranges.Given as goal
 
 -- the ranges of the kinds so far
 abbrev pub invariant-loop-kind : goal.invariant-loop-kind

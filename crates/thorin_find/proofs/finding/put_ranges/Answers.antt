@@ -1,5 +1,5 @@
 use Rattle.thorin_print.proofs.Lines.{flat_map_next}
-use Rattle.thorin_find.proofs.describing.put_ranges.Goals as goal
+use Rattle.thorin_find.proofs.finding.put_ranges.Goals as goal
 
 pub loop-kind-preserved : goal.loop-kind-preserved
 loop-kind-preserved c =
