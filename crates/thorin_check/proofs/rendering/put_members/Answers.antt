@@ -1,5 +1,5 @@
 use Rattle.std.proofs.Common.{string_bytes, refl}
-use Rattle.thorin_find.specs.Json.{json_unit}
+use Rattle.thorin_find.specs.Lines.{json_unit}
 use Rattle.thorin_check.specs.Rendering.{fault_member}
 use Rattle.thorin_find.proofs.Pieces.{both}
 use Rattle.thorin_check.proofs.rendering.put_members.Goals as goal
