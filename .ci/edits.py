@@ -180,7 +180,7 @@ def type_above(lines, line):
             if not of:
                 return "+".join([subject, *arguments])
             trait, of_what = plain(of, generics)
-            return subject + trait + "".join(of_what)
+            return subject + "".join(arguments) + trait + "".join(of_what)
     return ""
 
 
@@ -194,10 +194,11 @@ def plain(text, generics):
     """The last name of a type or a trait, `Any` for a parameter, and the types that it is of, as a check writes them."""
     name, arguments = re.match(r"\s*&?(?:'\w+ )?([\w:]+)\s*(?:<(.*)>)?", text).groups()
     is_parameter = lambda it: re.search(rf"[<,]\s*{re.escape(it)}\s*[:,>]", generics)
-    given = [re.sub(r"<.*", "", it).strip() for it in re.split(r",(?![^<]*>)", arguments or "")]
-    types = [it for it in given if it and it[0] != "'" and not is_parameter(it)]
-    camel = lambda it: "".join(part[:1].upper() + part[1:] for part in it.split("::"))
-    return "Any" if is_parameter(name) else name.split("::")[-1], [camel(it) for it in types]
+    given = [it.strip() for it in re.split(r",(?![^<]*>)", arguments or "")]
+    types = [it for it in given if it and it[0] != "'" and not is_parameter(re.sub(r"<.*", "", it))]
+    camel = lambda it: "".join(part[:1].upper() + part[1:] for part in re.sub(r"<.*", "", it).split("::"))
+    inner = lambda it: "".join(plain(it, generics)[1]) if "<" in it else ""
+    return "Any" if is_parameter(name) else name.split("::")[-1], [camel(it) + inner(it) for it in types]
 
 
 def split_generics(head):
