@@ -17,8 +17,7 @@ use Rattle.dwp_elf_read.specs.declared.error.ReadError.{ReadError}
 use Rattle.dwp_elf_read.specs.declared.section.Section.{Section}
 use Rattle.dwp_index.specs.Contents.{content, content_among, contents_of, is_of_kind}
 use Rattle.dwp_index.specs.Contents.{bytes_of}
-use Rattle.dwp_index.specs.Package.{as_error, package_of}
-use Rattle.dwp_index.specs.declared.error.PackageError.{PackageError}
+use Rattle.dwp_index.specs.Package.{package_of}
 use Rattle.dwp_index.specs.declared.error.PackageError.TheVariants as errors
 use Rattle.thorin_c.specs.Opening.{bytes_at, nowhere, IsPlaceIn, place_in, sections_at, order_of}
 use Rattle.thorin_c.specs.Opening.{package_in}
@@ -105,14 +104,12 @@ content_placed places bytes kind = value-of (λ k. bytes_at bytes (place_in plac
 
 -- a package is what stands at the places of its sections
 pub package_by : (bytes : List ℕ) (places : ThorinPackage) (file : Elf)
-    → as_error errors.Elf (elf_of bytes) ≡ Ok file
-    → as_error errors.Elf (contents_of file.sections) ≡ Ok (sections_at places bytes)
+    → elf_of bytes ≡ Ok file → contents_of file.sections ≡ Ok (sections_at places bytes)
     → order_of places.big_endian ≡ file.order → package_of bytes ≡ package_in places bytes
 unfolding package_of package_in
 package_by bytes places file read contents order = rw (read, contents, order) refl
 
-pub none_by : (bytes : List ℕ) (file : Elf) (e : PackageError)
-    → as_error errors.Elf (elf_of bytes) ≡ Ok file
-    → as_error errors.Elf (contents_of file.sections) ≡ Err e → package_of bytes ≡ Err e
+pub none_by : (bytes : List ℕ) (file : Elf) (e : ReadError) → elf_of bytes ≡ Ok file
+    → contents_of file.sections ≡ Err e → package_of bytes ≡ Err (errors.Elf e)
 unfolding package_of
 none_by bytes file e read contents = rw (read, contents) refl

@@ -1,6 +1,6 @@
 -- Lists of the units that an executable names.
 use Rattle.std.proofs.Common.{◌≡◌, ◌∙◌, ℕ, zero, suc, ◌+◌, ◌-◌, ◌<◌, List, [], ◌∷◌, ◌++◌, refl, sym}
-use Rattle.std.proofs.Common.{ap, arith, map, min, take, length, Option, Some, None}
+use Rattle.std.proofs.Common.{ap, arith, map, min, take, length, Option}
 use native.Mathlib.Numerals.{unary_clauses}
 use Rattle.std.proofs.lemmas.List.{append_assoc, append-nil, length-append, map-append}
 use Rattle.thorin_executable.specs.Skeletons.{Named, Listed}

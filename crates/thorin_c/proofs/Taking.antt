@@ -4,13 +4,13 @@ use Rattle.std.proofs.Common.{Ok, Err, ◌<◌, if◌then◌else◌, inl, length
 use Rattle.std.proofs.Common.{arith}
 use Rattle.std.proofs.lemmas.List.{map_more, length-map}
 use Rattle.std.proofs.Math.Seq.{take-append_seam}
-use Rattle.dwp_base.specs.Reading.{◌>>=◌}
 use Rattle.thorin_errors.specs.Errors.{error_of, NoOutputObjectCreated}
 use Rattle.thorin_errors.specs.Answers.{MemoryAside}
 use Rattle.thorin_errors.specs.declared.error.Error.{Error}
 use Rattle.thorin_errors.specs.declared.error.Error.TheVariants as errors
 use Rattle.thorin.specs.Run.{IsWritten, RefusesToWrite}
 use Rattle.dwp_table.specs.declared.object.DebugTypeSignature.{DebugTypeSignature}
+use Rattle.thorin_c.specs.Errors.{Tells}
 use Rattle.thorin_c.specs.Listing.{written_over}
 use Rattle.thorin_c.specs.declared.packing.RefusedInput.{RefusedInput}
 use Rattle.thorin_c.specs.declared.types.ThorinReport.{ThorinReport}
@@ -22,19 +22,11 @@ use Rattle.thorin_again.specs.PlainInputs.{AreTaken}
 use Rattle.thorin.specs.Again.{IsTakenAgain}
 use Rattle.thorin.specs.Groups.{taken_each}
 use Rattle.thorin.proofs.Running.{taken-then, each-taken, join-append}
-use Rattle.thorin_c.specs.Packing.{bytes_of, all_taken, Accepts, StopsAt, Leaves}
-use Rattle.thorin_c.specs.Packing.{TellsRefused, TellsLeft, TellsUnfinished, Refuses, RunsOutAt}
+use Rattle.thorin_c.specs.Packing.{bytes_of, Accepts, StopsAt, Leaves}
+use Rattle.thorin_c.specs.Packing.{TellsRefused, TellsUnfinished, Refuses, RunsOutAt}
 use Rattle.thorin_c.specs.Packing.{RunsOutAfter, IsPackage, ArePackedAgain, Differ}
 use Rattle.thorin_c.specs.declared.types.ThorinBytes.{ThorinBytes}
 use Rattle.dwp_base.proofs.Steps.{bind-ok}
-
--- taking all is taking the bytes of each
-all-taken-each : (inputs : List ThorinBytes) (old : State)
-    → all_taken inputs old ≡ taken_each (bytes_of inputs) old
-unfolding taken_each
-all-taken-each [] old = refl
-all-taken-each (x ∷ rest) old =
-    λ i. taken x.bytes.now old >>= λ next. all-taken-each rest next i
 
 -- one more input is accepted
 pub accepts-next : (inputs : List ThorinBytes) (i : ℕ) (d : ThorinBytes) (old middle new : State)
@@ -46,10 +38,10 @@ accepts-next inputs i d old middle new h before now joins =
     let done = bytes_of (take i inputs) in
     let bytes = (get_or inputs i d).bytes.now in
     let more = map_more (λ (input : ThorinBytes). input.bytes.now) inputs i d h in
-    let first = sym (all-taken-each (take i inputs) old) ∙ before.taken in
     record {
-      taken = all-taken-each (take (i + 1) inputs) old ∙ ap (λ l. taken_each l old) more
-          ∙ taken-then done (bytes ∷ []) old middle first ∙ bind-ok (taken bytes middle) new _ now;
+      taken = ap (λ l. taken_each l old) more
+          ∙ taken-then done (bytes ∷ []) old middle before.taken
+          ∙ bind-ok (taken bytes middle) new _ now;
       joined = rw more (join-append done (bytes ∷ []) (units_in old) (units_in middle)
           (units_in new) before.joined (units_in new, joins, refl));
     }
@@ -61,12 +53,10 @@ pub refuses : (inputs : List ThorinBytes) (old : State) (refusal : RefusedInput)
     report → Refuses inputs report
 refuses inputs old refusal report is at told = record {
   error = error_of refusal.error;
-  refused = rw (← is, told.input) (record {
-    within = at.within;
-    state = at.state;
-    before = at.before;
-    refused = at.refused told.not_memory;
-  });
+  within = rw told.input at.within;
+  state = at.state;
+  before = rw (← is, told.input) at.before;
+  refused = rw told.input (at.refused told.not_memory);
   told = told.told;
 }
 
@@ -80,19 +70,22 @@ runs_out_at inputs old refusal number is at here = rw here
 
 -- and of a package that can't be finished
 pub unfinished : (inputs : List ThorinBytes) (error : Error) (report : ThorinReport)
-    → Leaves inputs error → TellsLeft error report → TellsUnfinished inputs report
-unfinished inputs error report is told = record {
+    → Leaves inputs error → Tells (error_of error) report → (error ≡ errors.Memory → ⊥)
+    → TellsUnfinished inputs report
+unfinished inputs error report is told not_memory = record {
   error = error_of error;
-  is = record { state = is.state; accepted = is.accepted; refused = is.refused told.not_memory };
-  told = told.told;
+  state = is.state;
+  accepted = is.accepted;
+  refused = is.refused not_memory;
+  told = told;
 }
 
 -- and of one for which memory ran out
 pub runs_out_after : (inputs : List ThorinBytes) (error : Error) (number : ℕ) → Leaves inputs error
-    → (error ≡ errors.Memory) × (number ≡ length inputs) → RunsOutAfter inputs number
-runs_out_after inputs error number is out = record {
-  some = rw out.1 (is.memory out.0);
-  all = out.1;
+    → error ≡ errors.Memory → number ≡ length inputs → RunsOutAfter inputs number
+runs_out_after inputs error number is out all = record {
+  some = rw all (is.memory out);
+  all = all;
   state = is.state;
   accepted = is.accepted;
 }
@@ -126,8 +119,8 @@ pub taken_again : AgainLaw → (inputs : List ThorinBytes) (state : State) (byte
 taken_again law inputs state bytes accepted written packs = record {
   units = units_in state;
   joined = accepted.joined;
-  again = law (bytes_of inputs) state bytes (each-taken (bytes_of inputs) start state
-      (sym (all-taken-each inputs start) ∙ accepted.taken)) packs written;
+  again = law (bytes_of inputs) state bytes
+      (each-taken (bytes_of inputs) start state accepted.taken) packs written;
 }
 
 -- and so are the bytes in the caller's room
@@ -151,6 +144,7 @@ none_begun = refl
 -- no input makes no package
 pub none_fails : (inputs : List ThorinBytes) → length inputs ≡ 0
     → Leaves inputs errors.NoOutputObjectCreated
+unfolding taken_each
 none_fails [] e = record {
   state = start;
   accepted = record { taken = refl; joined = refl };

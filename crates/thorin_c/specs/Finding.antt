@@ -2,20 +2,26 @@
 use Rattle.std.specs.Prelude.{◌≡◌, ℕ, ℤ, pos, List, map, slice_get, Option, Some, None, Result, Ok}
 use Rattle.std.specs.Prelude.{Err, ◌==◌, if◌then◌else◌}
 use Rattle.dwp_base.specs.Reading.{◌>>=◌}
+use Rattle.dwp_base.specs.declared.endian.Endianness.{Endianness}
 use Rattle.dwp_base.specs.declared.section.SectionKind.{SectionKind}
 use Rattle.dwp_base.specs.declared.section.SectionKind.TheVariants as kinds
 use Rattle.dwp_base.specs.declared.section.Contribution.{Contribution}
 use Rattle.dwp_bytes.specs.Encoding.{offset_size}
 use Rattle.dwp_bytes.specs.StringOffsets.{string_in}
+use Rattle.dwp_bytes.specs.declared.encoding.Encoding.{Encoding}
 use Rattle.dwp_bytes.specs.declared.error.ReadError.{ReadError}
 use Rattle.dwp_table.specs.Columns.{contribution_kinds}
 use Rattle.dwp_table.specs.declared.object.DwarfObject.{DwarfObject}
 use Rattle.dwp_table.specs.declared.object.DwarfObject.TheVariants.{Compilation, TypeUnit}
-use Rattle.dwp_index.specs.Contents.{content}
+use Rattle.dwp_index.specs.Contents.{Sections, content}
 use Rattle.dwp_index.specs.Index.{Ranges, range_in}
-use Rattle.dwp_index.specs.Package.{Package, FoundUnit, found_counted, row_counted, row_bytes}
+use Rattle.dwp_index.specs.Package.{Package, found_counted, row_counted, row_bytes}
 use Rattle.dwp_index.specs.declared.error.PackageError.{PackageError}
 use Rattle.dwp_index.specs.declared.error.PackageError.TheVariants as errors
+use Rattle.thorin_c.specs.declared.opened.Lent.{Lent}
+use Rattle.thorin_c.specs.declared.opened.Lent.TheVariants.{Section, String}
+use Rattle.thorin_c.specs.declared.finding.Wanted.{Wanted}
+use Rattle.thorin_c.specs.declared.finding.Wanted.TheVariants as wanted
 use Rattle.thorin_c.specs.declared.types.ThorinLookup.{ThorinLookup}
 use Rattle.thorin_c.specs.declared.types.ThorinRange.{ThorinRange}
 use Rattle.thorin_c.specs.declared.types.ThorinUnit.{ThorinUnit}
@@ -43,18 +49,14 @@ abbrev pub present : {A : Type 0} → Option A × ℕ → Result (A × ℕ) ℤ
 present (None, slots) = Err (pos 1)
 present (Some x, slots) = Ok (x, slots)
 
--- the unit of a name in a package
-unfoldable pub unit_in : Package → ℕ → ℕ → Result (FoundUnit × ℕ) ℤ
-unit_in pack kind id = do
-  object ← object_of kind id
-  found ← as_status (found_counted pack object)
-  present found
+-- what a look-up gives of an object in a package, and of a name
+abbrev pub of_object : {A : Type 0} → (Package → DwarfObject → Result (Option A × ℕ) PackageError)
+    → Package → DwarfObject → Result (A × ℕ) ℤ
+of_object look pack object = as_status (look pack object) >>= present
 
--- the same where the package could be read
-unfoldable pub looked_up : Result Package ℤ → ℕ → ℕ → Result (FoundUnit × ℕ) ℤ
-looked_up read kind id = do
-  pack ← read
-  unit_in pack kind id
+unfoldable pub of_name : {A : Type 0} → (Package → DwarfObject → Result (Option A × ℕ) PackageError)
+    → Package → ℕ → ℕ → Result (A × ℕ) ℤ
+of_name look pack kind id = object_of kind id >>= of_object look pack
 
 -- a range; of no bytes where it is absent
 abbrev pub range_of : Option Contribution → ThorinRange
@@ -65,41 +67,38 @@ range_of (Some range) = record { offset = range.offset.0; size = range.size }
 abbrev pub ranges_of : Ranges → List ThorinRange
 ranges_of row = map (λ kind. range_of (range_in row kind)) contribution_kinds
 
--- a row with its ranges; the encoding is left out, since it stands in the unit's header
-abbrev pub row_of : ℕ → Ranges → ℕ → ThorinUnit
-row_of number row slots = record {
-  ranges = ranges_of row;
-  row = number;
-  slots = slots;
+-- a row with its ranges, and the encoding in its unit's header, where that is read
+abbrev pub unit_of : (ℕ × Ranges) × ℕ → Option Encoding → ThorinUnit
+unit_of row None = record {
+  ranges = ranges_of row.0.1;
+  row = row.0.0;
+  slots = row.1;
   version = 0;
   offset_size = 0;
   address_size = 0;
 }
-
--- a unit with its ranges and its encoding
-abbrev pub unit_of : FoundUnit → ℕ → ThorinUnit
-unit_of unit slots = record (row_of unit.number unit.row slots) {
-  version = unit.encoding.version;
-  offset_size = offset_size unit.encoding.format;
-  address_size = unit.encoding.address_size;
+unit_of row (Some encoding) = record {
+  ranges = ranges_of row.0.1;
+  row = row.0.0;
+  slots = row.1;
+  version = encoding.version;
+  offset_size = offset_size encoding.format;
+  address_size = encoding.address_size;
 }
 
--- what a call that looks a unit up gives
+-- what a call that looks a unit up gives, and one that looks up its row alone
 abbrev pub unit_found : Result Package ℤ → ℕ → ℕ → Result ThorinUnit ℤ
-unit_found pack kind id =
-    pack >>= λ p. (unit_in p kind id >>= λ found. Ok (unit_of found.0 found.1))
+unit_found read kind id = read >>= λ pack. (of_name found_counted pack kind id >>= λ found.
+    Ok (unit_of ((found.0.number, found.0.row), found.1) (Some found.0.encoding)))
 
--- the row of a name in a package, with its ranges
-unfoldable pub row_found : Package → ℕ → ℕ → Result ThorinUnit ℤ
-row_found pack kind id = do
-  object ← object_of kind id
-  found ← as_status (row_counted pack object)
-  row ← present found
-  Ok (row_of row.0.0 row.0.1 row.1)
+abbrev pub row_found : Result Package ℤ → ℕ → ℕ → Result ThorinUnit ℤ
+row_found read kind id =
+    read >>= λ pack. (of_name row_counted pack kind id >>= λ row. Ok (unit_of row None))
 
--- what a call that looks a row up gives
-abbrev pub row_found_in : Result Package ℤ → ℕ → ℕ → Result ThorinUnit ℤ
-row_found_in read kind id = read >>= λ pack. row_found pack kind id
+-- either, as it is wanted
+abbrev pub found_as : Wanted → Result Package ℤ → ℕ → ℕ → Result ThorinUnit ℤ
+found_as wanted.Unit = unit_found
+found_as wanted.Row = row_found
 
 -- the section of a number, in the order of columns; status 7 where there is none
 abbrev pub section_of_place : Option SectionKind → Result SectionKind ℤ
@@ -109,25 +108,23 @@ section_of_place None = Err (pos 7)
 abbrev pub section_of : ℕ → Result SectionKind ℤ
 section_of number = section_of_place (slice_get contribution_kinds number)
 
--- a unit's bytes in a section
-unfoldable pub content_found : Result Package ℤ → ℕ → ℕ → ℕ → Result (List ℕ) ℤ
-content_found read kind id section = do
-  found ← looked_up read kind id
-  place ← section_of section
-  Ok (row_bytes found.0.contents found.0.row place)
-
 -- a string; status 8 past the last one, 9 where it is malformed
 abbrev pub string_or_status : Result (Option (List ℕ)) ReadError → Result (List ℕ) ℤ
 string_or_status (Ok (Some string)) = Ok string
 string_or_status (Ok None) = Err (pos 8)
 string_or_status (Err error) = Err (pos 9)
 
--- a unit's string of a number
-unfoldable pub string_found : Result Package ℤ → ℕ → ℕ → ℕ → Result (List ℕ) ℤ
-string_found read kind id i = do
-  found ← looked_up read kind id
-  string_or_status (string_in found.0.order found.0.encoding (content found.0.contents kinds.Str)
-      (row_bytes found.0.contents found.0.row kinds.StrOffsets) i)
+-- what is lent of a unit: its bytes in the section of a number, or its string of a number
+abbrev pub lent_of : Lent → Endianness → Sections → Ranges → Encoding → Result (List ℕ) ℤ
+lent_of (Section number) order contents row encoding =
+    section_of number >>= λ kind. Ok (row_bytes contents row kind)
+lent_of (String number) order contents row encoding =
+    string_or_status (string_in order encoding (content contents kinds.Str)
+    (row_bytes contents row kinds.StrOffsets) number)
+
+abbrev pub lent_in : Lent → Result Package ℤ → ℕ → ℕ → Result (List ℕ) ℤ
+lent_in lent read kind id = read >>= λ pack. (of_name found_counted pack kind id >>= λ found.
+    lent_of lent found.0.order found.0.contents found.0.row found.0.encoding)
 
 -- a call answers 0 and writes what is asked for; or it answers the status, and writes nothing
 abbrev pub Fills : {X Y : Type 0} → (Y → X) → Result X ℤ → (old new : Y) → ℤ → Type 0
@@ -139,15 +136,12 @@ abbrev pub told : ThorinLookup → Result ThorinUnit ℤ → ThorinLookup
 told asked (Ok unit) = record asked { status = pos 0; unit = unit }
 told asked (Err s) = record asked { status = s }
 
-abbrev pub looked : Package → ThorinLookup → ThorinLookup
-looked pack asked = told asked (unit_found (Ok pack) asked.kind asked.id)
-
--- the same of a look-up of a row alone
-abbrev pub row_looked : Package → ThorinLookup → ThorinLookup
-row_looked pack asked = told asked (row_found pack asked.kind asked.id)
+abbrev pub looked : (Result Package ℤ → ℕ → ℕ → Result ThorinUnit ℤ) → Package → ThorinLookup
+    → ThorinLookup
+looked find pack asked = told asked (find (Ok pack) asked.kind asked.id)
 
 -- each of many look-ups has what came of it; or the package can't be read, and nothing is written
-abbrev pub FillsEach : (Package → ThorinLookup → ThorinLookup) → Result Package ℤ
+abbrev pub FillsEach : (Result Package ℤ → ℕ → ℕ → Result ThorinUnit ℤ) → Result Package ℤ
     → (old new : List ThorinLookup) → ℤ → Type 0
-FillsEach look (Ok pack) old new status = (status ≡ pos 0) × (new ≡ map (look pack) old)
-FillsEach look (Err s) old new status = (status ≡ s) × (new ≡ old)
+FillsEach find (Ok pack) old new status = (status ≡ pos 0) × (new ≡ map (looked find pack) old)
+FillsEach find (Err s) old new status = (status ≡ s) × (new ≡ old)

@@ -1,6 +1,7 @@
 -- What the exports that list a package's units answer.
 use Rattle.std.specs.Prelude.{◌≡◌, ℕ, ◌-◌, ◌^◌, ℤ, List, [], ◌∷◌, map, length, min, Result, Ok, Err}
 use Rattle.dwp_base.specs.Reading.{◌>>=◌}
+use Rattle.dwp_table.specs.Objects.{identifier_of}
 use Rattle.dwp_table.specs.declared.object.DwarfObject.{DwarfObject}
 use Rattle.dwp_table.specs.declared.object.DwarfObject.TheVariants.{Compilation, TypeUnit}
 use Rattle.dwp_index.specs.Entries.{entries_from}
@@ -8,13 +9,18 @@ use Rattle.dwp_index.specs.Package.{Package}
 use Rattle.dwp_index.specs.declared.units.UnitEntry.{UnitEntry}
 use Rattle.thorin_c.specs.declared.types.ThorinName.{ThorinName}
 
--- a unit that an index names, by its kind and identifier
-abbrev pub name_at : DwarfObject → ℕ → ThorinName
-name_at (Compilation id) row = record { id = id.0; row = row; kind = 1 }
-name_at (TypeUnit signature) row = record { id = signature.0; row = row; kind = 2 }
+-- the number of a kind of units: 1 for a compilation unit, 2 for a type unit
+abbrev pub kind_number : DwarfObject → ℕ
+kind_number (Compilation id) = 1
+kind_number (TypeUnit signature) = 2
 
+-- a unit that an index names, by its kind and identifier
 abbrev pub name_of : UnitEntry → ThorinName
-name_of entry = name_at entry.object entry.row
+name_of entry = record {
+  id = identifier_of entry.object;
+  row = entry.row;
+  kind = kind_number entry.object;
+}
 
 -- the units that the indexes name, those of the compilation index first
 abbrev pub names_of : Package → List ThorinName

@@ -1,10 +1,15 @@
 -- What the values of an open package hold.
+use Rattle.std.specs.Prelude.{ℕ}
+use Rattle.dwp_table.specs.declared.object.DwarfObject.{DwarfObject}
+use Rattle.dwp_index.specs.Finding.{unit_of}
+use Rattle.dwp_index.specs.Index.{Ranges}
 use Rattle.dwp_index.specs.Package.{Package, FoundUnit}
 use Rattle.thorin_c.specs.Opening.{sections_at}
-use Rattle.thorin_c.specs.declared.opened.Opened.TheInside as opened
-use Rattle.thorin_c.specs.declared.unit.Found.TheInside as found
+use Rattle.thorin_c.specs.declared.opened.OpenPackage.TheInside.{Inside}
+use Rattle.thorin_c.specs.declared.opened.ListedRow.{ListedRow}
+use Rattle.thorin_c.specs.declared.opened.PlacedUnit.{PlacedUnit}
 
-abbrev pub package_held : opened.Inside → Package
+abbrev pub package_held : Inside → Package
 package_held o = record {
   order = o.order;
   contents = sections_at o.sections.places.now o.sections.bytes.now;
@@ -12,12 +17,11 @@ package_held o = record {
   types = o.types;
 }
 
-abbrev pub unit_held : found.Inside → FoundUnit
-unit_held u = record {
-  order = u.order;
-  contents = sections_at u.sections.places.now u.sections.bytes.now;
-  number = u.number;
-  row = u.row;
-  bytes = u.bytes.now;
-  encoding = u.encoding;
-}
+-- a row with its number, and how many slots were looked at
+abbrev pub row_held : ListedRow → (ℕ × Ranges) × ℕ
+row_held row = ((row.number, row.ranges), row.slots)
+
+-- the unit of an object
+abbrev pub unit_held : Package → DwarfObject → PlacedUnit → FoundUnit × ℕ
+unit_held pack object unit =
+    (unit_of pack object unit.row.number unit.row.ranges unit.encoding, unit.row.slots)

@@ -1,8 +1,7 @@
 -- What the exports that pack answer.
-use Rattle.std.specs.Prelude.{◌≡◌, ◌≢◌, ℕ, ℤ, pos, ◌<◌, ◌≤◌, if◌then◌else◌, List, [], ◌∷◌, map}
+use Rattle.std.specs.Prelude.{◌≡◌, ◌≢◌, ℕ, ℤ, pos, ◌<◌, ◌≤◌, if◌then◌else◌, List, [], map}
 use Rattle.std.specs.Prelude.{take, drop, length, Result, Ok, Err, ◌⊎◌}
 use Rattle.std.specs.List.{HoldsAt}
-use Rattle.dwp_base.specs.Reading.{◌>>=◌}
 use Rattle.thorin_errors.specs.Answers.{MemoryAside}
 use Rattle.thorin_errors.specs.Errors.{ErrorValue, error_of}
 use Rattle.thorin_errors.specs.declared.error.Error.{Error}
@@ -13,11 +12,12 @@ use Rattle.thorin_join.specs.Meaning.{Members}
 use Rattle.thorin_again.specs.Own.{packs_again}
 use Rattle.thorin_join.specs.Represents.{units_in}
 use Rattle.thorin.specs.Again.{IsTakenAgain}
+use Rattle.thorin.specs.Groups.{taken_each}
 use Rattle.thorin.specs.Run.{IsWritten, RefusesToWrite}
 use Rattle.thorin_c.specs.Errors.{Tells}
 use Rattle.thorin_c.specs.Listing.{written_over}
-use Rattle.thorin_c.specs.declared.packing.Refusal.{Refusal}
-use Rattle.thorin_c.specs.declared.packing.Refusal.TheVariants as refusals
+use Rattle.thorin_c.specs.declared.packing.PackingFailure.{PackingFailure}
+use Rattle.thorin_c.specs.declared.packing.PackingFailure.TheVariants as failures
 use Rattle.thorin_c.specs.declared.types.ThorinBytes.{ThorinBytes}
 use Rattle.thorin_c.specs.declared.types.ThorinReport.{ThorinReport}
 use Rattle.std.specs.declared.io.Error.{Error as IoError}
@@ -31,23 +31,10 @@ no_files path (Err cause) = Unit {0}
 abbrev pub bytes_of : List ThorinBytes → List (List ℕ)
 bytes_of inputs = map (λ input. input.bytes.now) inputs
 
--- the state once each input was taken, or the first error
-abbrev pub all_taken : List ThorinBytes → State → Result State ErrorValue
-all_taken [] state = Ok state
-all_taken (input ∷ rest) state = taken input.bytes.now state >>= λ next. all_taken rest next
-
 -- each input is taken, and its units are joined to those before
 pub record Accepts (inputs : List ThorinBytes) (old new : State) : Type 0 where
-  pub taken : all_taken inputs old ≡ Ok new
+  pub taken : taken_each (bytes_of inputs) old ≡ Ok new
   pub joined : JoinAll (bytes_of inputs) (units_in old) (units_in new)
-
--- the input of this number is refused for this error, and those before it are accepted
-pub record RefusesAt (inputs : List ThorinBytes) (old : State) (number : ℕ)
-    (error : ErrorValue) : Type 0 where
-  pub within : number < length inputs
-  pub state : State
-  pub before : Accepts (take number inputs) old state
-  pub refused : HoldsAt (λ input. taken input.bytes.now state ≡ Err error) inputs number
 
 -- the input of this number isn't taken, and those before it are accepted: it is refused for this
 -- error, want of memory aside
@@ -79,32 +66,22 @@ pub record ArePackedAgain (inputs : List ThorinBytes) (bytes : List ℕ) : Type 
   pub joined : JoinAll (bytes_of inputs) [] units
   pub again : IsTakenAgain units bytes
 
--- all inputs are accepted, and the package can't be finished or written for this error
-pub record IsUnfinished (inputs : List ThorinBytes) (error : ErrorValue) : Type 0 where
-  pub state : State
-  pub accepted : Accepts inputs start state
-  pub refused : RefusesToWrite state error
-
--- the same, want of memory aside, which there is with no input none of
+-- all inputs are accepted, and the package can't be finished or written for this error, want of
+-- memory aside, which there is with no input none of
 pub record Leaves (inputs : List ThorinBytes) (error : Error) : Type 0 where
   pub state : State
   pub accepted : Accepts inputs start state
   pub refused : MemoryAside error (RefusesToWrite state (error_of error))
   pub memory : error ≡ errors.Memory → 0 < length inputs
 
--- what stands in a refusal
-abbrev pub IsRefusal : List ThorinBytes → Refusal → Type 0
-IsRefusal inputs (refusals.Input input) = StopsAt inputs start input.number input.error
-IsRefusal inputs (refusals.Package error) = Leaves inputs error
+-- why inputs weren't packed
+abbrev pub IsFailure : List ThorinBytes → PackingFailure → Type 0
+IsFailure inputs (failures.Input input) = StopsAt inputs start input.number input.error
+IsFailure inputs (failures.Package error) = Leaves inputs error
 
--- what is told of a refused input, and of a package that can't be finished or written; never of
--- want of memory
+-- what is told of a refused input; never want of memory
 pub record TellsRefused (number : ℕ) (error : Error) (report : ThorinReport) : Type 0 where
   pub input : report.input ≡ number
-  pub told : Tells (error_of error) report
-  pub not_memory : error ≢ errors.Memory
-
-pub record TellsLeft (error : Error) (report : ThorinReport) : Type 0 where
   pub told : Tells (error_of error) report
   pub not_memory : error ≢ errors.Memory
 
@@ -122,16 +99,21 @@ pub record Needs (inputs : List ThorinBytes) (report : ThorinReport) (room : ℕ
   pub size : report.size ≡ length bytes
   pub past : room < report.size
 
--- the first input that is refused, and its error
+-- the first input that is refused, those before it being accepted, and its error
 pub record Refuses (inputs : List ThorinBytes) (report : ThorinReport) : Type 0 where
   pub error : ErrorValue
-  pub refused : RefusesAt inputs start report.input error
+  pub within : report.input < length inputs
+  pub state : State
+  pub before : Accepts (take report.input inputs) start state
+  pub refused : HoldsAt (λ input. taken input.bytes.now state ≡ Err error) inputs report.input
   pub told : Tells error report
 
--- why the package can't be finished or written
+-- all inputs are accepted, and why the package can't be finished or written
 pub record TellsUnfinished (inputs : List ThorinBytes) (report : ThorinReport) : Type 0 where
   pub error : ErrorValue
-  pub is : IsUnfinished inputs error
+  pub state : State
+  pub accepted : Accepts inputs start state
+  pub refused : RefusesToWrite state error
   pub told : Tells error report
 
 -- memory ran out while the input of this number was taken, those before it being accepted

@@ -1,26 +1,25 @@
 -- What the export that lists the objects of an executable answers.
 use Rattle.std.specs.Prelude.{◌≡◌, ℕ, Bool, true, false, List, [], ◌∷◌, ◌++◌, length, map, take}
 use Rattle.std.specs.Prelude.{Option, Some, None, Result, Ok, Err}
-use Rattle.dwp_table.specs.declared.object.DwarfObject.{DwarfObject}
-use Rattle.dwp_table.specs.declared.object.DwarfObject.TheVariants.{Compilation, TypeUnit}
+use Rattle.dwp_table.specs.Objects.{identifier_of}
 use Rattle.thorin_errors.specs.Answers.{MemoryAside}
 use Rattle.thorin_errors.specs.Errors.{ErrorValue, error_of}
 use Rattle.thorin_errors.specs.declared.error.Error.{Error}
 use Rattle.thorin_executable.specs.Skeletons.{Named, Listed}
 use Rattle.thorin_c.specs.Errors.{Tells}
-use Rattle.thorin_c.specs.Listing.{written_over}
+use Rattle.thorin_c.specs.Listing.{kind_number, written_over}
 use Rattle.thorin_c.specs.declared.types.ThorinReport.{ThorinReport}
 use Rattle.thorin_c.specs.declared.types.ThorinSkeleton.{ThorinSkeleton}
 use Rattle.thorin_c.specs.declared.units.FirstUnits.{FirstUnits}
 use Rattle.thorin_c.specs.declared.units.Room.{Room}
 
 -- a unit by its kind and identifier, and how long the path of its object is
-abbrev pub skeleton_of : DwarfObject → ℕ → ThorinSkeleton
-skeleton_of (Compilation id) size = record { id = id.0; path_size = size; kind = 1 }
-skeleton_of (TypeUnit signature) size = record { id = signature.0; path_size = size; kind = 2 }
-
 abbrev pub skeleton_named : Named → ThorinSkeleton
-skeleton_named unit = skeleton_of unit.0 (length unit.1)
+skeleton_named unit = record {
+  id = identifier_of unit.0;
+  path_size = length unit.1;
+  kind = kind_number unit.0;
+}
 
 -- the paths one behind the other, each with a zero byte behind it
 abbrev pub paths_of : List Named → List ℕ

@@ -1,25 +1,21 @@
 //! The exports over a package that is open: they check their arguments and fill what the caller
 //! gave.
 
-ghost use Rattle.std.specs.Prelude.{◌≡◌};
-ghost use Rattle.dwp_base.specs.Reading.{Answers};
-ghost use Rattle.thorin_c.specs.Finding.{as_status, unit_found, looked_up};
-ghost use Rattle.thorin_c.specs.Finding.{row_found_in, content_found, string_found};
-ghost use Rattle.thorin_c.specs.Finding.{Fills};
+ghost use Rattle.thorin_c.specs.Finding.{as_status, unit_found, row_found, lent_in, Fills};
 ghost use Rattle.thorin_c.specs.Listing.{count_in, Lists};
-ghost use Rattle.thorin_c.specs.Opening.{package_in, order_of};
+ghost use Rattle.thorin_c.specs.Opening.{package_in};
+ghost use Rattle.thorin_c.specs.declared.opened.Lent.TheVariants.{Section, String};
 
-use crate::finding::{object_of, section_of, write_encoding, write_row};
+use crate::finding::{object_of, write};
 use crate::listing::list;
-use crate::opened::{Opened, order_of};
-use crate::status::{ABSENT, DONE, MALFORMED_STRING, NO_SUCH_STRING, status_of};
+use crate::opened::{Lent, OpenPackage};
+use crate::status::{DONE, status_of};
 use crate::types::{ThorinBytes, ThorinName, ThorinPackage, ThorinUnit};
-use crate::unit::Found;
-use dwp_base::Endianness;
 
 /// `thorin_find` in a package that is open: its sections are where `places` says, whatever that
 /// says. So after `thorin_open` of the same bytes the answer is that of `thorin_find`; any other
 /// `places` gives an answer or a status too.
+#[tactic(auto, unfolding(crate::specs::Finding::of_name))]
 #[unsafe(no_mangle)]
 pub extern "C" fn thorin_find_in(
     places: &ThorinPackage,
@@ -31,13 +27,32 @@ pub extern "C" fn thorin_find_in(
     ensures { Fills (λ unit. unit) (unit_found (as_status (package_in places.now bytes.now)) kind
         id) found.old found.new result }
 {
-    match order_of(places.big_endian) {
-        Endianness::Little => find_unit(places, bytes, Endianness::Little, kind, id, found),
-        Endianness::Big => find_unit(places, bytes, Endianness::Big, kind, id, found),
+    let pack = match OpenPackage::at(places, bytes) {
+        Ok(pack) => pack,
+        Err(error) => return status_of(error),
+    };
+    let object = match object_of(kind, id) {
+        Ok(object) => object,
+        Err(status) => return status,
+    };
+    match pack.unit(object) {
+        Ok(unit) => {
+            let row = &unit.row;
+            write(
+                &row.ranges,
+                row.number,
+                row.slots,
+                Some(unit.encoding),
+                found,
+            );
+            DONE
+        }
+        Err(status) => status,
     }
 }
 
 /// The row of a unit alone, as `thorin_find_rows` looks it up, in a package that is open.
+#[tactic(auto, unfolding(crate::specs::Finding::of_name))]
 #[unsafe(no_mangle)]
 pub extern "C" fn thorin_find_row_in(
     places: &ThorinPackage,
@@ -46,17 +61,27 @@ pub extern "C" fn thorin_find_row_in(
     id: u64,
     found: &mut ThorinUnit,
 ) -> i32
-    ensures { Fills (λ unit. unit) (row_found_in (as_status (package_in places.now bytes.now)) kind
+    ensures { Fills (λ unit. unit) (row_found (as_status (package_in places.now bytes.now)) kind
         id) found.old found.new result }
 {
-    match order_of(places.big_endian) {
-        Endianness::Little => find_row(places, bytes, Endianness::Little, kind, id, found),
-        Endianness::Big => find_row(places, bytes, Endianness::Big, kind, id, found),
+    let pack = match OpenPackage::at(places, bytes) {
+        Ok(pack) => pack,
+        Err(error) => return status_of(error),
+    };
+    let object = match object_of(kind, id) {
+        Ok(object) => object,
+        Err(status) => return status,
+    };
+    match pack.row(object) {
+        Ok(row) => {
+            write(&row.ranges, row.number, row.slots, None, found);
+            DONE
+        }
+        Err(status) => status,
     }
 }
 
 /// `thorin_content` in a package that is open.
-#[tactic(auto, unfolding(crate::specs::Finding::content_found))]
 #[unsafe(no_mangle)]
 pub extern "C" fn thorin_content_in<'a>(
     places: &ThorinPackage,
@@ -66,25 +91,13 @@ pub extern "C" fn thorin_content_in<'a>(
     section: u8,
     found: &mut ThorinBytes<'a>,
 ) -> i32
-    ensures { Fills (λ lent. lent.bytes.now) (content_found
-        (as_status (package_in places.now bytes.now)) kind id section) found.old found.new
-        result }
+    ensures { Fills (λ lent. lent.bytes.now) (lent_in (Section section)
+        (as_status (package_in places.now bytes.now)) kind id) found.old found.new result }
 {
-    let (unit, _) = match look_up(places, bytes, kind, id) {
-        Ok(unit) => unit,
-        Err(status) => return status,
-    };
-    match section_of(section) {
-        Ok(section) => {
-            found.bytes = unit.section(section);
-            DONE
-        }
-        Err(status) => status,
-    }
+    lend(places, bytes, Lent::Section(section), kind, id, found)
 }
 
 /// `thorin_string` in a package that is open.
-#[tactic(auto, unfolding(crate::specs::Finding::string_found))]
 #[unsafe(no_mangle)]
 pub extern "C" fn thorin_string_in<'a>(
     places: &ThorinPackage,
@@ -94,21 +107,10 @@ pub extern "C" fn thorin_string_in<'a>(
     index: u64,
     found: &mut ThorinBytes<'a>,
 ) -> i32
-    ensures { Fills (λ lent. lent.bytes.now) (string_found
-        (as_status (package_in places.now bytes.now)) kind id index) found.old found.new result }
+    ensures { Fills (λ lent. lent.bytes.now) (lent_in (String index)
+        (as_status (package_in places.now bytes.now)) kind id) found.old found.new result }
 {
-    let (unit, _) = match look_up(places, bytes, kind, id) {
-        Ok(unit) => unit,
-        Err(status) => return status,
-    };
-    match unit.string(index) {
-        Ok(Some(string)) => {
-            found.bytes = string;
-            DONE
-        }
-        Ok(None) => NO_SUCH_STRING,
-        Err(_) => MALFORMED_STRING,
-    }
+    lend(places, bytes, Lent::String(index), kind, id, found)
 }
 
 /// `thorin_list` of a package that is open.
@@ -123,103 +125,45 @@ pub extern "C" fn thorin_list_in(
         (count_in (as_status (package_in places.now bytes.now))) count.old count.new result }
     ensures names { Lists (as_status (package_in places.now bytes.now)) names.old names.new }
 {
-    match opened(places, bytes) {
+    match OpenPackage::at(places, bytes) {
         Ok(pack) => {
             *count = list(pack.units(), names);
-            DONE
-        }
-        Err(status) => status,
-    }
-}
-
-/// `thorin_find_in` in the byte order of the package: all that it calls is compiled into it.
-#[tactic(auto, using(crate::proofs::RowsTold::unit_is_told))]
-#[inline(always)]
-fn find_unit(
-    places: &ThorinPackage,
-    bytes: &[u8],
-    order: Endianness,
-    kind: u8,
-    id: u64,
-    found: &mut ThorinUnit,
-) -> i32
-    requires { order ≡ order_of places.now.big_endian }
-    ensures { Fills (λ unit. unit) (unit_found (as_status (package_in places.now bytes.now)) kind
-        id) found.old found.new result }
-{
-    let pack = match Opened::at(places, bytes, order) {
-        Ok(pack) => pack,
-        Err(error) => return status_of(error),
-    };
-    let (object, ((number, row), slots)) = match pack.row_asked(kind, id) {
-        Ok(asked) => asked,
-        Err(status) => return status,
-    };
-    match pack.row_encoding(object, &row) {
-        Ok(encoding) => {
-            write_row(&row, number, slots, found);
-            write_encoding(encoding, found);
             DONE
         }
         Err(error) => status_of(error),
     }
 }
 
-/// `thorin_find_row_in` in the byte order of the package, in the same way.
-#[tactic(auto, using(crate::proofs::RowsTold::row_is_told))]
-#[inline(always)]
-fn find_row(
+/// Lends what is asked for of the unit of a name.
+#[tactic(auto, unfolding(crate::specs::Finding::of_name))]
+fn lend<'a>(
     places: &ThorinPackage,
-    bytes: &[u8],
-    order: Endianness,
+    bytes: &'a [u8],
+    lent: Lent,
     kind: u8,
     id: u64,
-    found: &mut ThorinUnit,
+    found: &mut ThorinBytes<'a>,
 ) -> i32
-    requires { order ≡ order_of places.now.big_endian }
-    ensures { Fills (λ unit. unit) (row_found_in (as_status (package_in places.now bytes.now)) kind
-        id) found.old found.new result }
+    ensures { Fills (λ lent. lent.bytes.now) (lent_in lent
+        (as_status (package_in places.now bytes.now)) kind id) found.old found.new result }
 {
-    let pack = match Opened::at(places, bytes, order) {
+    let pack = match OpenPackage::at(places, bytes) {
         Ok(pack) => pack,
         Err(error) => return status_of(error),
     };
-    let (_, ((number, row), slots)) = match pack.row_asked(kind, id) {
-        Ok(asked) => asked,
+    let object = match object_of(kind, id) {
+        Ok(object) => object,
         Err(status) => return status,
     };
-    write_row(&row, number, slots, found);
-    DONE
-}
-
-/// The package whose sections are at these places.
-fn opened<'p, 'a>(places: &'p ThorinPackage, bytes: &'a [u8]) -> Result<Opened<'p, 'a>, i32>
-    ensures { Answers (λ x. x) result (as_status (package_in places.now bytes.now)) }
-{
-    match Opened::at(places, bytes, order_of(places.big_endian)) {
-        Ok(pack) => Ok(pack),
-        Err(error) => Err(status_of(error)),
-    }
-}
-
-/// The unit of a name, and how many slots were looked at.
-#[tactic(auto, unfolding(crate::specs::Finding::looked_up, crate::specs::Finding::unit_in))]
-fn look_up<'p, 'a>(
-    places: &'p ThorinPackage,
-    bytes: &'a [u8],
-    kind: u8,
-    id: u64,
-) -> Result<(Found<'p, 'a>, u32), i32>
-    ensures { Answers (λ x. x) result (looked_up (as_status (package_in places.now bytes.now)) kind
-        id) }
-{
-    let pack = opened(places, bytes)?;
-    let object = object_of(kind, id)?;
-    match pack.find_counted(object) {
-        Ok((found, slots)) => match found {
-            Some(unit) => Ok((unit, slots)),
-            None => Err(ABSENT),
-        },
-        Err(error) => Err(status_of(error)),
+    let unit = match pack.unit(object) {
+        Ok(unit) => unit,
+        Err(status) => return status,
+    };
+    match pack.lent(&unit, lent) {
+        Ok(bytes) => {
+            found.bytes = bytes;
+            DONE
+        }
+        Err(status) => status,
     }
 }

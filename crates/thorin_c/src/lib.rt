@@ -10,17 +10,14 @@ mod opened;
 mod opening;
 mod packing;
 mod plain;
-mod rows;
-mod sections;
 mod session;
 mod skeletons;
 mod status;
 mod types;
-mod unit;
 mod units;
 mod version;
 
-pub use finding::{thorin_content, thorin_find, thorin_find_each, thorin_string};
+pub use finding::{thorin_content, thorin_find, thorin_find_each, thorin_find_rows, thorin_string};
 pub use inside::{
     thorin_content_in, thorin_find_in, thorin_find_row_in, thorin_list_in, thorin_string_in,
 };
@@ -28,7 +25,6 @@ pub use listing::{thorin_list, thorin_unit_count};
 pub use opening::thorin_open;
 pub use packing::{thorin_differing_types, thorin_pack};
 pub use plain::thorin_decompress;
-pub use rows::thorin_find_rows;
 pub use skeletons::thorin_skeletons;
 pub use types::{
     ThorinBytes, ThorinLookup, ThorinName, ThorinPackage, ThorinRange, ThorinReport,

@@ -4,26 +4,25 @@ ghost use Rattle.std.specs.Prelude.{◌≡◌, map};
 ghost use Rattle.dwp_index.specs.Entries.{units_left};
 ghost use Rattle.dwp_index.specs.Package.{package_of};
 ghost use Rattle.thorin_c.specs.Finding.{as_status, Fills};
-ghost use Rattle.thorin_c.specs.Listing.{name_of, counted, count_in, written_over, Lists};
+ghost use Rattle.thorin_c.specs.Listing.{kind_number, name_of, counted, count_in, written_over, Lists};
 
-use crate::finding::open;
-use crate::status::DONE;
+use crate::inside::thorin_list_in;
+use crate::opening::placed;
+use crate::status::status_of;
 use crate::types::ThorinName;
-use dwp_index::{UnitEntry, Units};
-use dwp_table::DwarfObject;
+use dwp_index::Units;
+use dwp_table::{Bucketable, DwarfObject};
 
 /// How many units the indexes of a package name, written to `count`: 0; or 3 or 4 where the package
 /// can't be read.
 #[unsafe(no_mangle)]
 pub extern "C" fn thorin_unit_count(bytes: &[u8], count: &mut u64) -> i32
-    ensures { Fills (λ count. count) (count_in (as_status (package_of bytes.now))) count.old count.new result }
+    ensures { Fills (λ count. count) (count_in (as_status (package_of bytes.now))) count.old
+        count.new result }
 {
-    match open(bytes) {
-        Ok(file) => {
-            *count = list(file.units(), &mut []);
-            DONE
-        }
-        Err(status) => status,
+    match placed(bytes) {
+        Ok(places) => thorin_list_in(&places, bytes, &mut [], count),
+        Err(error) => status_of(error),
     }
 }
 
@@ -32,15 +31,13 @@ pub extern "C" fn thorin_unit_count(bytes: &[u8], count: &mut u64) -> i32
 /// many there are in `count`; or 3 or 4 where the package can't be read, and nothing is written.
 #[unsafe(no_mangle)]
 pub extern "C" fn thorin_list(bytes: &[u8], names: &mut [ThorinName], count: &mut u64) -> i32
-    ensures count { Fills (λ count. count) (count_in (as_status (package_of bytes.now))) count.old count.new result }
+    ensures count { Fills (λ count. count) (count_in (as_status (package_of bytes.now))) count.old
+        count.new result }
     ensures names { Lists (as_status (package_of bytes.now)) names.old names.new }
 {
-    match open(bytes) {
-        Ok(file) => {
-            *count = list(file.units(), names);
-            DONE
-        }
-        Err(status) => status,
+    match placed(bytes) {
+        Ok(places) => thorin_list_in(&places, bytes, names, count),
+        Err(error) => status_of(error),
     }
 }
 
@@ -53,27 +50,31 @@ pub(crate) fn list(units: Units<'_>, names: &mut [ThorinName]) -> u64
     for entry in units {
         let place = count as usize;
         if place < names.len() {
-            names[place] = name_of(entry);
+            names[place] = ThorinName {
+                id: entry.object.index(),
+                row: entry.row,
+                kind: kind_number(entry.object),
+            };
         }
         count = count.saturating_add(1);
     }
     count
 }
 
-fn name_of(entry: UnitEntry) -> ThorinName
-    ensures { result ≡ name_of entry }
+/// The number of a kind of units.
+pub(crate) fn kind_number(object: DwarfObject) -> u8
+    ensures { result ≡ kind_number object }
 {
-    let row = entry.row;
-    match entry.object {
-        DwarfObject::Compilation(id) => ThorinName {
-            id: id.0,
-            row,
-            kind: 1,
-        },
-        DwarfObject::TypeUnit(signature) => ThorinName {
-            id: signature.0,
-            row,
-            kind: 2,
-        },
+    match object {
+        DwarfObject::Compilation(_) => 1,
+        DwarfObject::TypeUnit(_) => 2,
     }
+}
+
+/// Writes a list over another, as far as there is room.
+pub(crate) fn write_over<T: Copy>(list: &[T], over: &mut [T])
+    ensures { over.new ≡ written_over over.old list.now }
+{
+    let len = list.len().min(over.len());
+    over[..len].copy_from_slice(&list[..len]);
 }

@@ -1,36 +1,89 @@
-//! A package that is open: looking its units and rows up by identifier or slot.
+//! A package that is open: its sections, rows, units and names, and what is lent of them.
 
 ghost use Rattle.std.specs.Prelude.{◌≡◌};
 ghost use Rattle.std.specs.Option.{option_copied};
 ghost use Rattle.dwp_base.specs.Reading.{Answers};
+ghost use Rattle.dwp_index.specs.Contents.{content};
+ghost use Rattle.dwp_index.specs.Package.{index_for, found_counted, row_counted};
+ghost use Rattle.dwp_index.specs.Package.{row_bytes, first_outside};
+ghost use Rattle.thorin_c.specs.ByIndex.{row_listed};
+ghost use Rattle.thorin_c.specs.Finding.{of_object, lent_of};
 ghost use Rattle.dwp_index.specs.Entries.{units_left, entries_from};
-ghost use Rattle.dwp_index.specs.Package.{as_error, index_for, unit_in};
-ghost use Rattle.dwp_index.specs.Package.{found_counted};
-ghost use Rattle.dwp_index.specs.declared.error.PackageError.TheVariants as errors;
-ghost use Rattle.thorin_c.specs.ByIndex.{row_named, row_asked, row_encoding};
-ghost use Rattle.thorin_c.specs.Opening.{package_in, order_of};
+ghost use Rattle.thorin_c.specs.OpenedFields.{row_held, unit_held};
+ghost use Rattle.thorin_c.specs.Opening.{package_in, order_of, sections_at};
 
-use crate::finding::object_of;
-use crate::sections::PlacedSections;
-use crate::status::{ABSENT, RANGE_OUTSIDE, status_of};
+use crate::status::{
+    ABSENT, MALFORMED_INDEX, MALFORMED_STRING, MALFORMED_UNIT, NO_SUCH_SECTION, NO_SUCH_STRING,
+    RANGE_OUTSIDE,
+};
 use crate::types::ThorinPackage;
-use crate::unit::{Found, encoding_of};
-use dwp_base::{Endianness, SectionKind};
-use dwp_bytes::Encoding;
-use dwp_index::{PackageError, Row, UnitIndex, Units, kind_of, place_of, read_index, read_row};
-use dwp_table::{Bucketable, DwarfObject};
+use dwp_base::{Contribution, ContributionOffset, Endianness, SectionKind};
+use dwp_bytes::{Encoding, StringOffsets};
+use dwp_index::{
+    PackageError, Row, UnitIndex, Units, encoding_in, kind_of, lies_inside, part_of, place_of,
+    read_index,
+};
+use dwp_table::{Bucketable, CONTRIBUTION_KINDS, DwarfObject};
 use std::marker::Model;
+
+/// A package's bytes, and where its sections lie among them.
+#[derive(Clone, Copy)]
+struct PlacedSections<'p, 'a> {
+    places: &'p ThorinPackage,
+    bytes: &'a [u8],
+}
+
+impl<'p, 'a> PlacedSections<'p, 'a> {
+    /// The content of a kind; no bytes where its place isn't inside.
+    #[inline(always)]
+    fn of(&self, kind: SectionKind) -> &'a [u8]
+        ensures { result.now ≡ content (sections_at self.now.places.now self.now.bytes.now) kind }
+    {
+        let place = self.places.sections[kind.rank() as usize];
+        let part = Contribution {
+            offset: ContributionOffset(place.offset),
+            size: place.size,
+        };
+        part_of(self.bytes, Some(part))
+    }
+
+    /// The bytes of a row's range in a section; none where it has no such range.
+    #[tactic(auto, unfolding(dwp_index::specs::Package::row_bytes))]
+    #[inline(always)]
+    fn row_bytes(&self, row: &Row<'_>, kind: SectionKind) -> &'a [u8]
+        ensures { result.now
+            ≡ row_bytes (sections_at self.now.places.now self.now.bytes.now) row.now kind }
+    {
+        part_of(self.of(kind), row.range(kind))
+    }
+
+    /// The first section, in the order of columns, that a range of the row isn't inside of.
+    #[tactic(auto, unfolding(dwp_index::specs::Package::first_outside))]
+    #[inline(always)]
+    fn first_outside(&self, row: &Row<'_>) -> Option<SectionKind>
+        ensures { result
+            ≡ first_outside (sections_at self.now.places.now self.now.bytes.now) row.now }
+    {
+        CONTRIBUTION_KINDS
+            .iter()
+            .copied()
+            .find(|kind| match row.range(*kind) {
+                None => false,
+                Some(range) => !lies_inside(self.of(*kind), range),
+            })
+    }
+}
 
 /// A package by the places of its sections: its indexes are read, and nothing else of it.
 #[derive(Drop)]
-pub(crate) struct Opened<'p, 'a> {
+pub(crate) struct OpenPackage<'p, 'a> {
     order: Endianness,
     sections: PlacedSections<'p, 'a>,
     compilations: Option<UnitIndex<'a>>,
     types: Option<UnitIndex<'a>>,
 }
 
-impl<'p, 'a> Model for Opened<'p, 'a> {
+impl<'p, 'a> Model for OpenPackage<'p, 'a> {
     ghost use Rattle.dwp_index.specs.Package.{Package};
 
     ghost Value = { Package };
@@ -40,45 +93,50 @@ impl<'p, 'a> Model for Opened<'p, 'a> {
     ghost view = { package_held };
 }
 
-impl<'p, 'a> Opened<'p, 'a> {
-    /// The package whose sections are at these places, in the byte order that they say.
+/// The row of a unit with its number, and how many slots were looked at.
+#[derive(Drop)]
+pub(crate) struct ListedRow<'a> {
+    pub(crate) number: u32,
+    pub(crate) ranges: Row<'a>,
+    pub(crate) slots: u32,
+}
+
+/// A unit by its row, and the encoding in its header.
+#[derive(Drop)]
+pub(crate) struct PlacedUnit<'a> {
+    pub(crate) row: ListedRow<'a>,
+    pub(crate) encoding: Encoding,
+}
+
+/// What is lent of a unit.
+#[derive(Clone, Copy)]
+pub(crate) enum Lent {
+    /// Its bytes in the section of a number.
+    Section(u8),
+    /// Its string of a number.
+    String(u64),
+}
+
+impl<'p, 'a> OpenPackage<'p, 'a> {
+    /// The package whose sections are at these places.
     #[tactic(auto, unfolding(crate::specs::Opening::package_in))]
     #[inline(always)]
     pub(crate) fn at(
         places: &'p ThorinPackage,
         bytes: &'a [u8],
-        order: Endianness,
-    ) -> Result<Opened<'p, 'a>, PackageError>
-        requires { order ≡ order_of places.now.big_endian }
+    ) -> Result<OpenPackage<'p, 'a>, PackageError>
         ensures { Answers (λ x. x) result (package_in places.now bytes.now) }
     {
         let sections = PlacedSections { places, bytes };
+        let order = order_of(places.big_endian);
         let compilations = read_index(sections.of(SectionKind::CuIndex), order)?;
         let types = read_index(sections.of(SectionKind::TuIndex), order)?;
-        Ok(Opened {
+        Ok(OpenPackage {
             order,
             sections,
             compilations,
             types,
         })
-    }
-
-    /// The unit of an identifier, and how many slots were looked at.
-    #[tactic(auto, using(crate::proofs::ByIndex::unit_is))]
-    pub(crate) fn find_counted(
-        &self,
-        object: DwarfObject,
-    ) -> Result<(Option<Found<'p, 'a>>, u32), PackageError>
-        ensures { Answers (λ x. x) result (found_counted self.now object) }
-    {
-        let (found, count) = self.row_named(object)?;
-        match found {
-            None => Ok((None, count)),
-            Some((number, row)) => {
-                let unit = self.unit_in(object, number, row)?;
-                Ok((Some(unit), count))
-            }
-        }
     }
 
     /// The units that the slots of both indexes name, in order of slot, those of the compilation
@@ -89,107 +147,98 @@ impl<'p, 'a> Opened<'p, 'a> {
         Units::new(self.compilations.as_ref(), self.types.as_ref())
     }
 
-    /// The row of a name in the index of its kind, with its number and how many slots were looked
-    /// at, behind the identifier that is asked for; or the status. Its ranges lie inside their
-    /// sections.
-    #[tactic(auto, unfolding(crate::specs::ByIndex::row_asked))]
+    /// The row of an object in the index of its kind.
     #[inline(always)]
-    pub(crate) fn row_asked(
-        &self,
-        kind: u8,
-        id: u64,
-    ) -> Result<(DwarfObject, ((u32, Row<'a>), u32)), i32>
-        ensures { Answers (λ x. x) result (row_asked self.now kind id) }
-    {
-        let object = object_of(kind, id)?;
-        match self.row_named(object) {
-            Ok((found, count)) => match found {
-                None => Err(ABSENT),
-                Some((number, row)) => {
-                    if self.sections.first_outside(&row).is_some() {
-                        return Err(RANGE_OUTSIDE);
-                    }
-                    Ok((object, ((number, row), count)))
-                }
-            },
-            Err(error) => Err(status_of(error)),
-        }
-    }
-
-    /// The encoding of the unit of a row.
-    #[inline(always)]
-    pub(crate) fn row_encoding(
-        &self,
-        object: DwarfObject,
-        row: &Row<'a>,
-    ) -> Result<Encoding, PackageError>
-        ensures { Answers (λ x. x) result
-            (as_error errors.Unit (row_encoding self.now object row.now)) }
-    {
-        let place = place_of(object, row.range(SectionKind::Types));
-        let bytes = self.sections.row_bytes(row, kind_of(place));
-        encoding_of(bytes, self.order, place)
-    }
-
-    /// The row of an identifier in the index of its kind, and how many slots were looked at.
-    #[inline(always)]
-    fn row_named(&self, object: DwarfObject) -> Result<(Option<(u32, Row<'a>)>, u32), PackageError>
-        ensures { Answers (λ x. x) result (row_named object (index_for self.now object)) }
+    fn listed(&self, object: DwarfObject) -> Result<ListedRow<'a>, i32>
+        ensures { Answers row_held result (row_listed object (index_for self.now object)) }
     {
         match object {
-            DwarfObject::Compilation(_) => row_by(object, self.compilations.as_ref()),
-            DwarfObject::TypeUnit(_) => row_by(object, self.types.as_ref()),
+            DwarfObject::Compilation(_) => listed_by(object, self.compilations.as_ref()),
+            DwarfObject::TypeUnit(_) => listed_by(object, self.types.as_ref()),
         }
     }
 
-    /// The unit of a row.
-    #[tactic(auto, unfolding(dwp_index::specs::Package::unit_in))]
+    /// The row of an object, whose ranges lie inside their sections.
+    #[tactic(auto, using(crate::proofs::ByIndex::row_is))]
     #[inline(always)]
-    fn unit_in(
-        &self,
-        object: DwarfObject,
-        number: u32,
-        row: Row<'a>,
-    ) -> Result<Found<'p, 'a>, PackageError>
-        ensures { Answers (λ x. x) result (unit_in self.now object number row.entry) }
+    pub(crate) fn row(&self, object: DwarfObject) -> Result<ListedRow<'a>, i32>
+        ensures { Answers row_held result (of_object row_counted self.now object) }
     {
-        if let Some(kind) = self.sections.first_outside(&row) {
-            return Err(PackageError::Range(kind));
+        let row = self.listed(object)?;
+        if self.sections.first_outside(&row.ranges).is_some() {
+            return Err(RANGE_OUTSIDE);
         }
-        let place = place_of(object, row.range(SectionKind::Types));
-        let bytes = self.sections.row_bytes(&row, kind_of(place));
-        let encoding = encoding_of(bytes, self.order, place)?;
-        Ok(Found {
-            order: self.order,
-            sections: self.sections,
-            number,
-            row,
-            bytes,
-            encoding,
-        })
+        Ok(row)
+    }
+
+    /// The unit of an object.
+    #[tactic(auto, using(crate::proofs::ByIndex::unit_is))]
+    #[inline(always)]
+    pub(crate) fn unit(&self, object: DwarfObject) -> Result<PlacedUnit<'a>, i32>
+        ensures { Answers (unit_held self.now object) result
+            (of_object found_counted self.now object) }
+    {
+        let row = self.row(object)?;
+        let place = place_of(object, row.ranges.range(SectionKind::Types));
+        let bytes = self.sections.row_bytes(&row.ranges, kind_of(place));
+        match encoding_in(bytes, self.order, place) {
+            Ok(encoding) => Ok(PlacedUnit { row, encoding }),
+            Err(_) => Err(MALFORMED_UNIT),
+        }
+    }
+
+    /// What is lent of a unit.
+    pub(crate) fn lent(&self, unit: &PlacedUnit<'a>, lent: Lent) -> Result<&'a [u8], i32>
+        ensures { Answers (λ bytes. bytes.now) result (lent_of lent self.now.order
+            self.now.contents unit.now.row.ranges unit.now.encoding) }
+    {
+        let ranges = &unit.row.ranges;
+        match lent {
+            Lent::Section(number) => match CONTRIBUTION_KINDS.get(number as usize) {
+                Some(kind) => Ok(self.sections.row_bytes(ranges, *kind)),
+                None => Err(NO_SUCH_SECTION),
+            },
+            Lent::String(number) => {
+                let offsets = StringOffsets {
+                    strings: self.sections.of(SectionKind::Str),
+                    offsets: self.sections.row_bytes(ranges, SectionKind::StrOffsets),
+                    order: self.order,
+                    encoding: unit.encoding,
+                };
+                match offsets.string(number) {
+                    Ok(Some(string)) => Ok(string),
+                    Ok(None) => Err(NO_SUCH_STRING),
+                    Err(_) => Err(MALFORMED_STRING),
+                }
+            }
+        }
     }
 }
 
-/// The row of an identifier in an index, and how many slots were looked at.
+/// The row of an object in an index.
 #[inline(always)]
-fn row_by<'a>(
-    object: DwarfObject,
-    index: Option<&UnitIndex<'a>>,
-) -> Result<(Option<(u32, Row<'a>)>, u32), PackageError>
-    ensures { Answers (λ x. x) result (row_named object (option_copied index.entry)) }
+fn listed_by<'a>(object: DwarfObject, index: Option<&UnitIndex<'a>>) -> Result<ListedRow<'a>, i32>
+    ensures { Answers row_held result (row_listed object (option_copied index.entry)) }
 {
     let Some(index) = index else {
-        return Ok((None, 0));
+        return Err(ABSENT);
     };
-    let (found, count) = index.find_counted(object.index());
+    let (found, slots) = index.find_counted(object.index());
     let Some(number) = found else {
-        return Ok((None, count));
+        return Err(ABSENT);
     };
-    Ok((Some((number, read_row(index, number)?)), count))
+    match index.row(number) {
+        Ok(ranges) => Ok(ListedRow {
+            number,
+            ranges,
+            slots,
+        }),
+        Err(_) => Err(MALFORMED_INDEX),
+    }
 }
 
 /// The byte order of a number.
-pub(crate) fn order_of(big_endian: u64) -> Endianness
+fn order_of(big_endian: u64) -> Endianness
     ensures { result ≡ order_of big_endian }
 {
     if big_endian == 0 {

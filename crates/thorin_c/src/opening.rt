@@ -4,14 +4,14 @@ ghost use Rattle.std.specs.Prelude.{◌≡◌, pos, Err, Some, IfOk, IfErr, IfSo
 ghost use Rattle.std.specs.Prelude.{slice_get};
 ghost use Rattle.dwp_base.specs.Reading.{Answers};
 ghost use Rattle.dwp_elf_read.specs.View.{elf, section, bytes_of, file_bytes};
-ghost use Rattle.dwp_index.specs.Contents.{is_of_kind, used_bytes, content_among, contents_of};
+ghost use Rattle.dwp_index.specs.Contents.{is_of_kind, used_bytes, content_among};
 ghost use Rattle.dwp_index.specs.Firsts.{first_in, found_in};
 ghost use Rattle.dwp_index.specs.Package.{package_of};
-ghost use Rattle.thorin_c.specs.Opening.{bytes_at, order_of, sections_at, package_in, opened};
+ghost use Rattle.thorin_c.specs.Opening.{bytes_at, order_of, package_in, opened};
 ghost use Rattle.thorin_c.specs.Opening.{IsPlaceIn, LieIn};
 ghost use Rattle.thorin_c.specs.Finding.{as_status, Fills};
 
-use crate::opened::{Opened, order_of};
+use crate::opened::OpenPackage;
 use crate::status::{DONE, status_of};
 use crate::types::{ThorinPackage, ThorinRange};
 use dwp_base::{ByKind, Endianness, SectionKind};
@@ -34,7 +34,7 @@ pub extern "C" fn thorin_open(bytes: &[u8], places: &mut ThorinPackage) -> i32
         Ok(found) => found,
         Err(error) => return status_of(error),
     };
-    match Opened::at(&found, bytes, order_of(found.big_endian)) {
+    match OpenPackage::at(&found, bytes) {
         Ok(_) => {
             *places = found;
             DONE
@@ -54,26 +54,12 @@ pub(crate) fn placed(bytes: &[u8]) -> Result<ThorinPackage, PackageError>
         Ok(file) => file,
         Err(e) => return Err(PackageError::Elf(e)),
     };
-    match section_places(&file) {
-        Ok(places) => Ok(places),
-        Err(e) => Err(PackageError::Elf(e)),
-    }
-}
-
-/// The places of all sections, and the byte order.
-#[tactic(auto, unfolding(dwp_index::specs::Contents::contents_of))]
-fn section_places(file: &ElfFile<'_>) -> Result<ThorinPackage, ReadError>
-    ensures contents { Answers (λ places. sections_at places (bytes_of file.now)) result
-        (contents_of (elf file.now).sections) }
-    ensures order { IfOk result (λ places. order_of places.big_endian ≡ (elf file.now).order) }
-    ensures inside { IfOk result (LieIn (bytes_of file.now)) }
-{
-    let firsts = first_sections(file);
+    let firsts = first_sections(&file);
     let mut sections = [NOWHERE; 13];
     for kind in &SectionKind::ALL {
-        match place(file, &firsts, *kind) {
+        match place(&file, &firsts, *kind) {
             Ok(found) => sections[kind.rank() as usize] = found,
-            Err(e) => return Err(e),
+            Err(e) => return Err(PackageError::Elf(e)),
         }
     }
     let big_endian = number_of(file.endianness());

@@ -2,13 +2,12 @@
 
 ghost use Rattle.std.specs.Prelude.{◌≡◌, ◌≢◌, ◌<◌, true, map, take, length, IfOk, IfErr, OnOk, pos, ◌⊎◌};
 ghost use Rattle.std.specs.Prelude.{if◌then◌else◌};
-ghost use Rattle.thorin_join.specs.Builder.{start};
 ghost use Rattle.thorin_join.specs.Represents.{units_in};
 ghost use Rattle.thorin_join.specs.Join.{IsPackageOf};
 ghost use Rattle.thorin.specs.Run.{Writes};
 ghost use Rattle.thorin_c.specs.Listing.{written_over};
-ghost use Rattle.thorin_c.specs.Packing.{Accepts, StopsAt, IsPackage, IsRefusal, TellsRefused};
-ghost use Rattle.thorin_c.specs.Packing.{ArePackedAgain, TellsLeft, Packs, Needs, Refuses};
+ghost use Rattle.thorin_c.specs.Packing.{Accepts, StopsAt, IsPackage, IsFailure, TellsRefused};
+ghost use Rattle.thorin_c.specs.Packing.{ArePackedAgain, Packs, Needs, Refuses};
 ghost use Rattle.thorin_c.specs.Packing.{TellsUnfinished, RunsOutAt, RunsOutAfter, Differ};
 ghost use Rattle.thorin_c.specs.Packing.{IsPackingStatus, IsDifferingStatus, TellsAlone};
 ghost use Rattle.thorin_c.specs.Packing.{TellsOfPackage, TellsOfInput, TellsOfError, TellsOfMemory};
@@ -27,7 +26,7 @@ use thorin_errors::Error;
 /// A package's bytes, how many type units were passed over that differ from those kept, and whether
 /// it is sure to be taken as an input again.
 #[derive(Drop)]
-struct Packed {
+struct FinishedPackage {
     file: Vec<u8>,
     differing: u64,
     packs_again: bool,
@@ -42,7 +41,7 @@ struct RefusedInput {
 
 /// Why inputs weren't packed.
 #[derive(Drop)]
-enum Refusal {
+enum PackingFailure {
     /// An input was refused.
     Input(RefusedInput),
     /// The package can't be finished or written.
@@ -58,7 +57,6 @@ enum Refusal {
 /// ran out at the input `report.input`, or, at their number, while the package was finished and
 /// written. Under 11 and 12 the error's number and text stand in `report`. The other fields of
 /// `report` are left as they are.
-#[tactic(auto, using(crate::proofs::Taking::refuses, crate::proofs::Taking::unfinished, crate::proofs::Taking::runs_out_at, crate::proofs::Taking::runs_out_after))]
 #[unsafe(no_mangle)]
 pub extern "C" fn thorin_pack(
     alloc: Global,
@@ -90,10 +88,7 @@ pub extern "C" fn thorin_pack(
             out[..len].copy_from_slice(packed.file.as_slice());
             DONE
         }
-        Err(refusal) => match refusal {
-            Refusal::Input(input) => refused(input, report),
-            Refusal::Package(error) => unfinished(error, inputs.len(), report),
-        },
+        Err(failure) => tell_failure(failure, inputs, report),
     }
 }
 
@@ -101,6 +96,7 @@ pub extern "C" fn thorin_pack(
 /// those of the unit that is kept: 0, as many as there is room for in `types`, in the order of
 /// passing over, and how many there are in `report.differing`. 11 and 13 as `thorin_pack`, and then
 /// `types` is left as it is, as are the other fields of `report` always.
+#[tactic(auto, using(crate::proofs::Taking::refuses, crate::proofs::Taking::differs, crate::proofs::Taking::runs_out_at))]
 #[unsafe(no_mangle)]
 pub extern "C" fn thorin_differing_types(
     alloc: Global,
@@ -117,35 +113,18 @@ pub extern "C" fn thorin_differing_types(
 {
     let session = NoFiles {};
     let mut builder = DwarfPackage::new(alloc, &session);
-    let status = tell_differing(&mut builder, inputs, types, report);
-    drop(builder);
-    status
-}
-
-// Tells of those that a new builder passes over.
-#[tactic(auto, using(crate::proofs::Taking::refuses, crate::proofs::Taking::differs, crate::proofs::Taking::runs_out_at))]
-fn tell_differing<'o, 's: 'o>(
-    builder: &mut DwarfPackage<'o, 's, NoFiles>,
-    inputs: &[ThorinBytes<'_>],
-    types: &mut [u64],
-    report: &mut ThorinReport,
-) -> i32
-    requires { builder.old.state ≡ start }
-    ensures done { result ≡ pos 0 → Differ inputs.now report.new types.old types.new }
-    ensures refused { result ≡ pos 11 → Refuses inputs.now report.new }
-    ensures memory { result ≡ pos 13 → RunsOutAt inputs.now report.new.input }
-    ensures status { IsDifferingStatus result }
-    ensures unchanged { result ≢ pos 0 → types.new ≡ types.old }
-    ensures alone { TellsAlone TellsOfDiffering result report.old report.new }
-{
-    match add_all(builder, inputs) {
+    match add_all(&mut builder, inputs) {
         Ok(()) => {
             let differing = builder.differing_types();
             report.differing = differing.len() as u64;
             write_signatures(differing, types);
+            drop(builder);
             DONE
         }
-        Err(refusal) => refused(refusal, report),
+        Err(refusal) => {
+            drop(builder);
+            refused(refusal, report)
+        }
     }
 }
 
@@ -167,72 +146,69 @@ fn refused(refusal: RefusedInput, report: &mut ThorinReport) -> i32
     REFUSED
 }
 
-// Tells of a package that can't be finished or written, of so many inputs.
-fn unfinished(error: Error, count: usize, report: &mut ThorinReport) -> i32
-    ensures told { result ≡ pos 12 → TellsLeft error report.new }
-    ensures memory { result ≡ pos 13 → (error ≡ Error.Memory) × (report.new.input ≡ count) }
-    ensures status { (result ≡ pos 12) ⊎ (result ≡ pos 13) }
+// Tells why inputs weren't packed.
+#[tactic(auto, using(crate::proofs::Taking::refuses, crate::proofs::Taking::unfinished, crate::proofs::Taking::runs_out_at, crate::proofs::Taking::runs_out_after))]
+fn tell_failure(
+    failure: PackingFailure,
+    inputs: &[ThorinBytes<'_>],
+    report: &mut ThorinReport,
+) -> i32
+    requires { IsFailure inputs.now failure }
+    ensures refused { result ≡ pos 11 → Refuses inputs.now report.new }
+    ensures unfinished { result ≡ pos 12 → TellsUnfinished inputs.now report.new }
+    ensures memory { result ≡ pos 13 → RunsOutAt inputs.now report.new.input
+        ⊎ RunsOutAfter inputs.now report.new.input }
+    ensures status { (result ≡ pos 11) ⊎ ((result ≡ pos 12) ⊎ (result ≡ pos 13)) }
+    ensures input_alone { result ≡ pos 11 → TellsOfInput report.old report.new }
     ensures error_alone { result ≡ pos 12 → TellsOfError report.old report.new }
     ensures memory_alone { result ≡ pos 13 → TellsOfMemory report.old report.new }
 {
-    if matches!(error, Error::Memory) {
-        report.input = count as u64;
-        return NO_MEMORY;
-    }
-    tell(error, report);
-    UNFINISHED
-}
-
-// The package of inputs.
-#[tactic(auto, using(crate::proofs::Taking::none_fails))]
-fn package_of(alloc: Global, inputs: &[ThorinBytes<'_>]) -> Result<Packed, Refusal>
-    ensures packed { IfOk result (λ packed. IsPackage inputs.now packed.differing
-        (if packed.packs_again then 1 else 0) packed.file.items) }
-    ensures again { IfOk result (λ packed. packed.packs_again ≡ true
-        → ArePackedAgain inputs.now packed.file.items) }
-    ensures refused { IfErr result (IsRefusal inputs.now) }
-{
-    if inputs.is_empty() {
-        return Err(Refusal::Package(Error::NoOutputObjectCreated));
-    }
-    let session = NoFiles {};
-    let mut builder = DwarfPackage::new(alloc, &session);
-    match add_all(&mut builder, inputs) {
-        Ok(()) => finish(inputs, builder),
-        Err(refusal) => {
-            drop(builder);
-            Err(Refusal::Input(refusal))
+    match failure {
+        PackingFailure::Input(input) => refused(input, report),
+        PackingFailure::Package(error) => {
+            if matches!(error, Error::Memory) {
+                report.input = inputs.len() as u64;
+                return NO_MEMORY;
+            }
+            tell(error, report);
+            UNFINISHED
         }
     }
 }
 
-// The package of inputs that were all accepted.
-fn finish<'o, 's: 'o>(
-    inputs: &[ThorinBytes<'_>],
-    builder: DwarfPackage<'o, 's, NoFiles>,
-) -> Result<Packed, Refusal>
-    requires some { 0 < length inputs.now }
-    requires accepted { Accepts inputs.now start builder.state }
+// The package of inputs.
+#[tactic(auto, using(crate::proofs::Taking::none_fails))]
+fn package_of(alloc: Global, inputs: &[ThorinBytes<'_>]) -> Result<FinishedPackage, PackingFailure>
     ensures packed { IfOk result (λ packed. IsPackage inputs.now packed.differing
         (if packed.packs_again then 1 else 0) packed.file.items) }
     ensures again { IfOk result (λ packed. packed.packs_again ≡ true
         → ArePackedAgain inputs.now packed.file.items) }
-    ensures refused { IfErr result (IsRefusal inputs.now) }
+    ensures refused { IfErr result (IsFailure inputs.now) }
 {
+    if inputs.is_empty() {
+        return Err(PackingFailure::Package(Error::NoOutputObjectCreated));
+    }
     written_packages_are_taken_again();
+    let session = NoFiles {};
+    let mut builder = DwarfPackage::new(alloc, &session);
+    if let Err(refusal) = add_all(&mut builder, inputs) {
+        drop(builder);
+        return Err(PackingFailure::Input(refusal));
+    }
     let differing = builder.differing_types().len() as u64;
     let packs_again = builder.packs_again();
     match written(builder) {
-        Ok(file) => Ok(Packed {
+        Ok(file) => Ok(FinishedPackage {
             file,
             differing,
             packs_again,
         }),
-        Err(error) => Err(Refusal::Package(error)),
+        Err(error) => Err(PackingFailure::Package(error)),
     }
 }
 
 // Adds inputs in order, up to the first that isn't taken: its number and its error.
+#[tactic(auto, unfolding(thorin::specs::Groups::taken_each))]
 fn add_all<'o, 's: 'o>(
     builder: &mut DwarfPackage<'o, 's, NoFiles>,
     inputs: &[ThorinBytes<'_>],

@@ -1,6 +1,6 @@
 //! Files with plain sections in place of compressed ones.
 
-ghost use Rattle.std.specs.Prelude.{◌≡◌, ◌≢◌, ◌⊎◌, ◌≤◌, ◌<◌, pos, length, take, drop, Ok, Err};
+ghost use Rattle.std.specs.Prelude.{◌≡◌, ◌≢◌, pos, length, take, Ok, Err};
 ghost use Rattle.std.specs.Prelude.{Some, None};
 ghost use Rattle.dwp_decompress.specs.Result.{decompressed_of};
 ghost use Rattle.dwp_decompress.specs.declared.asked.Asked.TheVariants.{All};
@@ -49,7 +49,7 @@ pub extern "C" fn thorin_decompress(
     }
 }
 
-/// The same once the headers are read.
+/// Writes the plain file, or tells why not, once the headers are read.
 #[tactic(auto, using(crate::proofs::PlainFiles::plain_put, crate::proofs::PlainFiles::room_needed, crate::proofs::PlainFiles::told, crate::proofs::PlainFiles::tells_none))]
 fn put_plain(alloc: Global, bytes: &[u8], out: &mut [u8], size: &mut u64) -> i32
     ensures plain { result ≡ pos 0 → Decompresses bytes.now size.new out.old out.new }
@@ -61,27 +61,18 @@ fn put_plain(alloc: Global, bytes: &[u8], out: &mut [u8], size: &mut u64) -> i32
     ensures untold { result ≢ pos 0 → result ≢ pos 10 → size.new ≡ size.old }
 {
     match decompressed(alloc, bytes, Asked::All) {
-        Ok(Some(file)) => put(file.as_slice(), out, size),
+        Ok(Some(file)) => {
+            let len = file.len();
+            *size = len as u64;
+            if len > out.len() {
+                return TOO_SMALL;
+            }
+            out[..len].copy_from_slice(file.as_slice());
+            DONE
+        }
         Ok(None) => NOT_COMPRESSED,
         Err(error) => status_of(error),
     }
-}
-
-/// Writes a file to the beginning of `out`, where it has room.
-fn put(file: &[u8], out: &mut [u8], size: &mut u64) -> i32
-    ensures size { size.new ≡ length file.now }
-    ensures whole { result ≡ pos 0 → (length file.now ≤ length out.new)
-        × ((take (length file.now) out.new ≡ file.now)
-        × (drop (length file.now) out.new ≡ drop (length file.now) out.old)) }
-    ensures small { result ≡ pos 10 → (length out.old < length file.now) × (out.new ≡ out.old) }
-    ensures status { (result ≡ pos 0) ⊎ (result ≡ pos 10) }
-{
-    *size = file.len() as u64;
-    if file.len() > out.len() {
-        return TOO_SMALL;
-    }
-    out[..file.len()].copy_from_slice(file);
-    DONE
 }
 
 /// The status of a file that isn't decompressed.

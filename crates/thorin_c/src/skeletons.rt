@@ -3,11 +3,11 @@
 ghost use Rattle.std.specs.Prelude.{◌≡◌, ◌⊎◌, pos, List, None, option_map};
 ghost use Rattle.thorin_errors.specs.Errors.{error_of};
 ghost use Rattle.thorin_executable.specs.Skeletons.{Named, skeletons_of};
-ghost use Rattle.thorin_c.specs.Listing.{written_over};
 ghost use Rattle.thorin_c.specs.Skeletons.{IsFirst, ListsUnits, room_of};
 ghost use Rattle.thorin_c.specs.Skeletons.{TellsEnd, TellsOfList, TellsOfEnd};
 
 use crate::error::tell;
+use crate::listing::write_over;
 use crate::status::{DONE, NO_MEMORY, REFUSED};
 use crate::types::{ThorinReport, ThorinSkeleton};
 use crate::units::{FirstUnits, Room};
@@ -80,12 +80,4 @@ fn told(
             REFUSED
         }
     }
-}
-
-/// Writes a list over another, as far as there is room.
-fn write_over<T: Copy>(list: &[T], over: &mut [T])
-    ensures { over.new ≡ written_over over.old list.now }
-{
-    let len = list.len().min(over.len());
-    over[..len].copy_from_slice(&list[..len]);
 }

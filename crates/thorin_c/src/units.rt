@@ -4,10 +4,11 @@ ghost use Rattle.std.specs.Prelude.{◌≡◌, ◌≢◌, ◌+◌, ◌++◌, ◌
 ghost use Rattle.std.specs.Prelude.{IfOk, OnOk};
 ghost use Rattle.thorin_errors.specs.Errors.{error_of};
 ghost use Rattle.thorin_executable.specs.Skeletons.{Named, skeletons_of};
-ghost use Rattle.thorin_c.specs.Skeletons.{skeleton_of, IsFirst, IsNextFirst};
+ghost use Rattle.thorin_c.specs.Skeletons.{IsFirst, IsNextFirst};
 
+use crate::listing::kind_number;
 use crate::types::ThorinSkeleton;
-use dwp_table::DwarfObject;
+use dwp_table::{Bucketable, DwarfObject};
 use std::alloc::{AllocError, Global};
 use thorin::BytesSession;
 use thorin_errors::Error;
@@ -105,11 +106,12 @@ impl FirstUnits {
     {
         let bytes = path.as_bytes();
         let path_size = bytes.len() as u64;
-        put(
-            &mut self.names,
-            room.names,
-            &[skeleton_of(target, path_size)],
-        )?;
+        let unit = ThorinSkeleton {
+            id: target.index(),
+            path_size,
+            kind: kind_number(target),
+        };
+        put(&mut self.names, room.names, &[unit])?;
         put(&mut self.paths, room.paths, bytes)?;
         put(&mut self.paths, room.paths, &[0])?;
         self.count = sum(self.count, 1)?;
@@ -147,21 +149,4 @@ fn put<T: Copy>(first: &mut Vec<T>, room: usize, more: &[T]) -> Result<(), Alloc
 {
     let left = room.saturating_sub(first.len());
     first.extend_from_slice(&more[..left.min(more.len())])
-}
-
-fn skeleton_of(target: DwarfObject, path_size: u64) -> ThorinSkeleton
-    ensures { result ≡ skeleton_of target path_size }
-{
-    match target {
-        DwarfObject::Compilation(id) => ThorinSkeleton {
-            id: id.0,
-            path_size,
-            kind: 1,
-        },
-        DwarfObject::TypeUnit(signature) => ThorinSkeleton {
-            id: signature.0,
-            path_size,
-            kind: 2,
-        },
-    }
 }

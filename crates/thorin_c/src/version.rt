@@ -4,6 +4,7 @@ ghost use Rattle.std.specs.Prelude.{◌≡◌, length};
 ghost use Rattle.thorin_c.specs.Listing.{written_over};
 ghost use Rattle.thorin_c.specs.Statuses.{status_text};
 
+use crate::listing::write_over;
 use crate::status::{
     ABSENT, DAMAGED, DAMAGED_ZSTD, DONE, MALFORMED_FILE, MALFORMED_INDEX, MALFORMED_STRING,
     MALFORMED_UNIT, NO_MEMORY, NO_SUCH_KIND, NO_SUCH_SECTION, NO_SUCH_STRING, NOT_COMPRESSED,
@@ -26,8 +27,7 @@ pub extern "C" fn thorin_status_text(status: i32, text: &mut [u8]) -> usize
     ensures size { result ≡ length (status_text status) }
 {
     let whole = status_text(status).as_bytes();
-    let len = whole.len().min(text.len());
-    text[..len].copy_from_slice(&whole[..len]);
+    write_over(whole, text);
     whole.len()
 }
 

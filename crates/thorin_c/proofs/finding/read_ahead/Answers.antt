@@ -1,12 +1,13 @@
 use Rattle.std.proofs.Common.{◌∙◌, arith}
 use Rattle.std.proofs.lemmas.List.{take-set-le}
-use Rattle.thorin_c.proofs.Looking.{status_left}
+use Rattle.thorin_c.specs.Finding.{found_as}
+use Rattle.thorin_c.proofs.Replacing.{status_left}
 use Rattle.thorin_c.proofs.finding.read_ahead.Goals as goal
 
 pub loop-i-preserved : goal.loop-i-preserved
 loop-i-preserved c = record {
   front = rw (take-set-le c.args.start c.loop-i.lookups c.loop-i.i _ (omega arith))
       c.loop-i.invariant.front;
-  same = status_left c.args.file.now c.loop-i.lookups c.loop-i.i _ _ (omega arith) ∙
-      c.loop-i.invariant.same;
+  same = status_left (found_as c.args.wanted) c.args.file.now c.loop-i.lookups c.loop-i.i _ _
+      (omega arith) ∙ c.loop-i.invariant.same;
 }

@@ -1,6 +1,7 @@
-use Rattle.std.proofs.Common.{◌≡◌, ◌∙◌, length, map, arith}
+use Rattle.std.proofs.Common.{◌≡◌, ◌∙◌, length, map, refl, arith}
 use Rattle.std.proofs.lemmas.List.{append_assoc, length-map, length_push}
 use Rattle.thorin_c.specs.Listing.{name_of}
+use Rattle.thorin_c.specs.declared.types.ThorinName.{ThorinName}
 use Rattle.thorin_c.proofs.Writing.{put-next, pass-next}
 use Rattle.thorin_c.proofs.listing.list.Goals as goal
 use Rattle.thorin_c.proofs.listing.list.Goals.{then-place-names, else-place-names}
@@ -15,8 +16,15 @@ loop-entry-preserved c =
       count = rw (length-map, length_push) (omega (arith, inv.count));
       names = elim c.if-place-names.branch [
         | then-place-names w ↦
+            let named : ThorinName = record {
+              id = w.index.result;
+              row = c.in-Some.entry.row;
+              kind = w.kind_number.result;
+            } in
+            let same : named ≡ name_of c.in-Some.entry =
+            rw (w.index.ensures, w.kind_number.ensures) refl in
             w.names-is ∙ put-next name_of c.args.names.now c.loop-entry.names done c.in-Some.entry
-            w.name_of.result c.loop-entry.count inv.names (omega arith) w.name_of.ensures
+            named c.loop-entry.count inv.names (omega arith) same
         | else-place-names w ↦
             w.names-is ∙ pass-next name_of c.args.names.now c.loop-entry.names done c.in-Some.entry
             inv.names (omega arith)

@@ -1,24 +1,45 @@
-use Rattle.std.proofs.Common.{ap}
-use Rattle.dwp_elf_read.specs.View.{elf}
-use Rattle.dwp_index.specs.Package.{as_error}
-use Rattle.dwp_index.specs.declared.error.PackageError.TheVariants as errors
+use Rattle.std.proofs.Common.{refl, ap, ◌∙◌, arith}
+use Rattle.std.specs.Prelude.{slice_set}
+use Rattle.std.proofs.lemmas.Option.{slice_get-get_or}
+use Rattle.dwp_base.specs.Sections.{all_kinds}
+use Rattle.dwp_base.proofs.KindsRead.{read-more}
+use Rattle.dwp_elf_read.specs.View.{elf, bytes_of}
+use Rattle.dwp_elf_read.specs.declared.error.ReadError.{ReadError}
+use Rattle.thorin_c.proofs.PlacesRead.{IsPlaceOf, contents_read, contents_stop, inside_each}
 use Rattle.thorin_c.proofs.PlacesRead.{package_by, none_by}
 use Rattle.thorin_c.proofs.opening.placed.Goals as goal
 
-pub returns-in-Ok-section_places-clause-same : goal.returns-in-Ok-section_places-clause-same
-returns-in-Ok-section_places-clause-same c =
-    package_by c.args.bytes.now c.in-Ok-section_places.places (elf c.in-Ok.file)
-    (ap (as_error errors.Elf) c.in-Ok.ensures.meaning)
-    (ap (as_error errors.Elf)
-    (rw c.in-Ok.ensures.of_bytes at c.in-Ok-section_places.ensures.contents))
-    c.in-Ok-section_places.ensures.order
+pub loop-kind-init : goal.loop-kind-init
+loop-kind-init c = (refl, λ place kind lt at. absurd (omega (arith, lt)))
 
-pub returns-in-Err-section_places-clause-fails : goal.returns-in-Err-section_places-clause-fails
-returns-in-Err-section_places-clause-fails c =
-    none_by c.args.bytes.now (elf c.in-Ok.file) _
-    (ap (as_error errors.Elf) c.in-Ok.ensures.meaning)
-    (ap (as_error errors.Elf) c.in-Err-section_places.ensures.contents)
+pub returns-in-Err-place-clause-fails : goal.returns-in-Err-place-clause-fails
+returns-in-Err-place-clause-fails c =
+    none_by c.args.bytes.now (elf c.in-Ok.file) _ c.in-Ok.ensures.meaning
+    (contents_stop (elf c.in-Ok.file).sections (bytes_of c.in-Ok.file) c.loop-kind.sections
+    c.loop-kind.kind-index _ c.in-Err-place.e
+    (slice_get-get_or all_kinds c.loop-kind.kind-index _ (omega (arith, c.loop-kind-test.true)))
+    (c.in-Err-place.ensures.content, tt) c.loop-kind.invariant.1)
 
-pub returns-in-Ok-section_places-clause-inside : goal.returns-in-Ok-section_places-clause-inside
-returns-in-Ok-section_places-clause-inside c =
-    rw c.in-Ok.ensures.of_bytes at c.in-Ok-section_places.ensures.inside
+pub loop-kind-preserved : goal.loop-kind-preserved
+loop-kind-preserved c =
+    read-more {E = ReadError} (IsPlaceOf (elf c.in-Ok.file).sections (bytes_of c.in-Ok.file))
+    c.loop-kind.sections _ c.loop-kind.kind-index _ c.in-Ok-place.found
+    c.loop-kind.invariant.0 c.loop-kind-test.true
+    (slice_get-get_or all_kinds c.loop-kind.kind-index _ (omega (arith, c.loop-kind-test.true)))
+    (ap (λ n. slice_set c.loop-kind.sections n c.in-Ok-place.found) c.rank.ensures)
+    (c.in-Ok-place.ensures.content, c.in-Ok-place.ensures.inside) c.loop-kind.invariant.1
+
+pub returns-clause-same : goal.returns-clause-same
+returns-clause-same c =
+    package_by c.args.bytes.now _ (elf c.in-Ok.file) c.in-Ok.ensures.meaning
+    (rw c.in-Ok.ensures.of_bytes at (contents_read (elf c.in-Ok.file).sections
+    (bytes_of c.in-Ok.file) c.loop-kind.sections (λ place kind lt.
+    c.loop-kind.invariant.1 place kind (omega (arith, lt, c.loop-kind-test.false)))
+    c.number_of-big_endian.result))
+    (c.number_of-big_endian.ensures ∙ c.endianness.ensures)
+
+pub returns-clause-inside : goal.returns-clause-inside
+returns-clause-inside c =
+    rw c.in-Ok.ensures.of_bytes at (inside_each (elf c.in-Ok.file).sections
+    (bytes_of c.in-Ok.file) c.loop-kind.sections (λ place kind lt.
+    c.loop-kind.invariant.1 place kind (omega (arith, lt, c.loop-kind-test.false))))

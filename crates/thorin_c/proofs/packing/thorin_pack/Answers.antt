@@ -1,5 +1,5 @@
 use Rattle.std.proofs.Common.{◌≡◌, length, rules, arith}
-use Rattle.thorin_c.proofs.Taking.{handed_over, refuses, unfinished, runs_out_at, runs_out_after}
+use Rattle.thorin_c.proofs.Taking.{handed_over}
 use Rattle.thorin_c.proofs.packing.thorin_pack.Goals as goal
 use Rattle.thorin_c.proofs.packing.thorin_pack.Goals.{then-packed, else-packed}
 
@@ -14,18 +14,6 @@ returns-else-len-out-clause-again c done one =
       | else-packed w ↦ absurd (omega (arith, w.report-is, one))
     ])
 
-pub returns-in-Input-clause-refused : goal.returns-in-Input-clause-refused
-returns-in-Input-clause-refused c = search (rules, refuses)
-
-pub returns-in-Input-clause-memory : goal.returns-in-Input-clause-memory
-returns-in-Input-clause-memory c = search (rules, runs_out_at)
-
-pub returns-in-Package-clause-unfinished : goal.returns-in-Package-clause-unfinished
-returns-in-Package-clause-unfinished c = search (rules, unfinished)
-
-pub returns-in-Package-clause-memory : goal.returns-in-Package-clause-memory
-returns-in-Package-clause-memory c = search (rules, runs_out_after)
-
 pub returns-else-len-out-clause-alone : goal.returns-else-len-out-clause-alone
 returns-else-len-out-clause-alone c = search rules
 
@@ -34,9 +22,3 @@ returns-then-len-out-clause-small c = search rules
 
 pub returns-then-len-out-clause-alone : goal.returns-then-len-out-clause-alone
 returns-then-len-out-clause-alone c = search rules
-
-pub returns-in-Input-clause-alone : goal.returns-in-Input-clause-alone
-returns-in-Input-clause-alone c = search rules
-
-pub returns-in-Package-clause-alone : goal.returns-in-Package-clause-alone
-returns-in-Package-clause-alone c = search rules

@@ -1,0 +1,9 @@
+use Rattle.std.proofs.Common.{◌≡◌, map}
+use Rattle.thorin_c.specs.Finding.{found_as, looked}
+use Rattle.thorin_c.proofs.Replacing.{outcome}
+use Rattle.thorin_c.proofs.finding.find_each.Given as goal
+
+-- those so far are looked up, and of each other comes what came of it before
+abbrev pub invariant-loop-i : goal.invariant-loop-i
+invariant-loop-i l = outcome (looked (found_as l.wanted) l.file) l.i l.lookups
+    ≡ map (looked (found_as l.wanted) l.file) l.initial.lookups

@@ -1,9 +1,0 @@
-use Rattle.std.proofs.Common.{rules}
-use Rattle.thorin_c.proofs.Taking.{refuses}
-use Rattle.thorin_c.proofs.packing.tell_differing.Goals as goal
-
-pub returns-in-Err-clause-refused : goal.returns-in-Err-clause-refused
-returns-in-Err-clause-refused c =
-    λ h. refuses c.args.inputs.now c.args.builder.now.state c.in-Err.refusal c.refused.new.report
-    c.requires c.in-Err.ensures.refused (c.refused.ensures.told
-    (search (rules, h)))
