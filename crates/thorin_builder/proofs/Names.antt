@@ -16,6 +16,7 @@ pub missing-is : (a : DwarfObject) (names : List DwarfObject) (there : Bool)
 missing-is a names there is = ap not (sym (is ∙ among-is a names))
 
 -- the first that passes is the first of those that do
-pub first_passing : {A : Type 0} (p : A → Bool) (xs : List A) → find p xs ≡ slice_get (filter p xs) 0
+pub first_passing : {A : Type 0} (p : A → Bool) (xs : List A)
+    → find p xs ≡ slice_get (filter p xs) 0
 first_passing p [] = refl
 first_passing p (x ∷ xs) = grind (rules, first_passing p xs)
