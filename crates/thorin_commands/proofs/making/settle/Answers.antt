@@ -1,5 +1,5 @@
 use Rattle.thorin_commands.proofs.Causes.{told_reason}
-use Rattle.thorin_commands.proofs.taking.settle.Goals as goal
+use Rattle.thorin_commands.proofs.making.settle.Goals as goal
 
 pub returns-in_ok-tell_refused-in-Err-clause-told :
     goal.returns-in_ok-tell_refused-in-Err-clause-told

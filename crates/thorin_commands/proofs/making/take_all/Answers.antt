@@ -5,7 +5,7 @@ use Rattle.thorin.specs.declared.packing.Input.{Input}
 use Rattle.thorin.specs.declared.packing.Input.TheVariants.{Object}
 use Rattle.thorin_commands.proofs.Causes.{refuses_by, stops_at}
 use Rattle.thorin_commands.proofs.Warned.{taking_begins, taking_more}
-use Rattle.thorin_commands.proofs.taking.take_all.Goals as goal
+use Rattle.thorin_commands.proofs.making.take_all.Goals as goal
 
 abbrev none : Input
 none = Object (record { text = record { ref_ptr = (0, 0); now = [] } })

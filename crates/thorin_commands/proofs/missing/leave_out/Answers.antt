@@ -1,8 +1,8 @@
-use Rattle.std.proofs.Common.{◌≡◌, refl, rules, string_bytes}
+use Rattle.std.proofs.Common.{◌≡◌, refl, rules, string_bytes, true}
 use Rattle.std.proofs.lemmas.List.{append_assoc}
 use Rattle.thorin_commands.specs.Warned.{missing_in}
-use Rattle.thorin_commands.proofs.Warned.{left_next, line_told, none_printed}
-use Rattle.thorin_commands.proofs.missing.tell_missing.Goals as goal
+use Rattle.thorin_commands.proofs.Warned.{all_left, left_next, line_told, none_printed}
+use Rattle.thorin_commands.proofs.missing.leave_out.Goals as goal
 
 pub loop-target-init : goal.loop-target-init
 loop-target-init g c = record { left = search rules; told = none_printed _ refl }
@@ -19,4 +19,6 @@ loop-target-preserved g c = record {
 pub returns-clause-lines : goal.returns-clause-lines
 returns-clause-lines g c =
     let all : c.loop-target.yielded ≡ missing_in c.args.builder.now.state = search rules in
-    rw all at c.loop-target.invariant.told
+    let partial : c.args.options.partial ≡ true = search rules in
+    all_left c.args.options.partial c.args.builder.now.state _ _ partial
+    (rw all at c.loop-target.invariant.told)

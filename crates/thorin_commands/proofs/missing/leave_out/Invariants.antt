@@ -2,7 +2,7 @@ use Rattle.std.proofs.Common.{◌≡◌, ◌++◌}
 use Rattle.thorin_builder.specs.Missing.{missing_left}
 use Rattle.thorin_output.specs.Warnings.{IsPrinted}
 use Rattle.thorin_commands.specs.Warned.{TellLeft, missing_in}
-use Rattle.thorin_commands.proofs.missing.tell_missing.Given as goal
+use Rattle.thorin_commands.proofs.missing.leave_out.Given as goal
 
 -- those so far are told
 abbrev pub invariant-loop-target : goal.invariant-loop-target

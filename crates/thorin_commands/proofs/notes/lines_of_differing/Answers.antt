@@ -1,6 +1,6 @@
 use Rattle.std.proofs.Common.{string_bytes}
 use Rattle.thorin_commands.proofs.Warned.{named_next}
-use Rattle.thorin_commands.proofs.differences.lines_of_differing.Goals as goal
+use Rattle.thorin_commands.proofs.notes.lines_of_differing.Goals as goal
 
 pub loop-number-preserved : goal.loop-number-preserved
 loop-number-preserved g c = named_next _ c.loop-number.number _ (string_bytes c.loop-number.lines)

@@ -1,6 +1,6 @@
 use Rattle.std.proofs.Common.{map, string_bytes, take}
 use Rattle.thorin_commands.specs.Warned.{TellNamed}
-use Rattle.thorin_commands.proofs.differences.lines_of_differing.Given as goal
+use Rattle.thorin_commands.proofs.notes.lines_of_differing.Given as goal
 
 -- the lines so far
 abbrev pub invariant-loop-number : goal.invariant-loop-number

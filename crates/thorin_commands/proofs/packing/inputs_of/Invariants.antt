@@ -1,6 +1,6 @@
 use Rattle.std.proofs.Common.{◌≡◌, ◌++◌, map, take}
 use Rattle.thorin_commands.specs.Packing.{asked, object_asked, executable_asked, paths_in}
-use Rattle.thorin_commands.proofs.asked.inputs_of.Given as goal
+use Rattle.thorin_commands.proofs.packing.inputs_of.Given as goal
 
 -- the paths so far
 abbrev pub invariant-loop-object : goal.invariant-loop-object

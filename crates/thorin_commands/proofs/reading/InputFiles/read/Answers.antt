@@ -3,7 +3,7 @@ use Rattle.std.specs.Path.{path_bytes}
 use Rattle.thorin_commands.specs.Packing.{paths_in}
 use Rattle.thorin_commands.specs.Taken.{MayRepeat}
 use Rattle.thorin_commands.proofs.Taken.{through_given}
-use Rattle.thorin_commands.proofs.plain.InputFiles.read.Goals as goal
+use Rattle.thorin_commands.proofs.reading.InputFiles.read.Goals as goal
 
 pub returns-then-is_given-clause-offered : goal.returns-then-is_given-clause-offered
 returns-then-is_given-clause-offered g c =
