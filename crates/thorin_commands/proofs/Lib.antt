@@ -2,6 +2,7 @@ mod Causes
 pub mod Lines
 mod Made
 mod Opened
+mod Puts
 mod Readable
 mod Taken
 mod Warned

@@ -3,11 +3,17 @@
 #![tactic(auto)]
 
 mod archives;
+mod asked;
+mod differences;
 mod making;
 mod missing;
-mod notes;
+mod no_package;
+mod origins;
 mod packing;
+mod plain;
 mod reading;
+mod room;
+mod taking;
 mod telling;
 
 pub use dwp_macros::KeptMacros;

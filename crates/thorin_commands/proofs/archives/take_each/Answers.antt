@@ -1,0 +1,47 @@
+use Rattle.std.proofs.lemmas.Result.{err_from_is_err_and}
+use Rattle.std.proofs.Common.{[], refl, ◌∙◌}
+use Rattle.std.proofs.lemmas.List.{map-append, take_all, take_more}
+use Rattle.std.proofs.lemmas.List.Elements.{filter-append}
+use Rattle.dwp_archive.specs.declared.member.Member as declared
+use Rattle.dwp_archive.specs.declared.member.NameForm.TheVariants.{Short}
+use Rattle.thorin_commands.proofs.Causes.{refuses_by, stops_among}
+use Rattle.thorin_commands.proofs.Opened.{each_none, each_append}
+use Rattle.thorin_commands.proofs.archives.take_each.Goals as goal
+
+pub loop-member-init : goal.loop-member-init
+loop-member-init g c = record { took = each_none; kept = refl }
+
+abbrev none : declared.Member
+none = record {
+  form = Short;
+  named = record { ref_ptr = (0, 0); now = [] };
+  content = record { ref_ptr = (0, 0); now = [] };
+}
+
+pub loop-member-preserved : goal.loop-member-preserved
+loop-member-preserved g c = record {
+  took = rw (
+    take_more c.args.members.now c.loop-member.member-index none c.loop-member-test.true,
+    map-append,
+    map-append,
+    filter-append,
+  )
+      (each_append c.loop-member.invariant.took c.in_ok-take_split.ensures.took);
+  kept = c.in_ok-take_split.ensures.kept ∙ c.loop-member.invariant.kept;
+}
+
+pub returns-clause-took : goal.returns-clause-took
+returns-clause-took g c =
+    rw (take_all c.loop-member.member-index c.args.members.now c.loop-member-test.false) at
+    c.loop-member.invariant.took
+
+pub returns-clause-kept : goal.returns-clause-kept
+returns-clause-kept g c = c.loop-member.invariant.kept
+
+pub returns-in_err-take_split-clause-told : goal.returns-in_err-take_split-clause-told
+returns-in_err-take_split-clause-told g c =
+    let p = err_from_is_err_and c.from_residual.result c.from_residual.ensures.1 in
+    rw (p.1, p.2) (refuses_by g.E.LineOutput.contents g.E.LineOutput.failed
+    c.take_split.new.err (stops_among
+    c.args.members.now c.loop-member.member-index none c.loop-member-test.true
+    c.loop-member.invariant.took) c.in_err-take_split.field-0.0 c.in_err-take_split.ensures.told)
