@@ -2,7 +2,7 @@
 use Rattle.std.specs.Prelude.{◌≡◌, ℕ, ◌≤◌, ◌||◌, Bool, true, false, nat_lt}
 use Rattle.std.specs.BTreeSet.{contains}
 use Rattle.std.specs.Ordering.{nat_cmp}
-use Rattle.thorin_inputs.specs.declared.inner.InnerStrings.{InnerStrings}
+use Rattle.thorin_inputs.specs.declared.overlaps.InnerStrings.{InnerStrings}
 use Rattle.thorin_inputs.specs.InnerStrings.{most_inner, sizes_at}
 
 -- a place is counted

@@ -20,8 +20,8 @@ const READ_AGAIN: usize = 16;
 /// How many bytes a type unit counts that differs from the one kept: a line warns of it.
 const DIFFERING_SIZE: usize = 64;
 
-/// Why an input is declined that a builder may take: it would make the package larger than its files
-/// are, or can't be changed as it is to be.
+/// Why an input is declined that a builder may take: it would make the package larger than its
+/// files are, or can't be changed as it is to be.
 #[derive(Clone, Copy)]
 pub enum Growth {
     /// The sections of a file overlap.
@@ -168,7 +168,7 @@ impl Repetitions {
             return Ok(false);
         }
         if input == self.input {
-            return Ok(self.admits_more(size));
+            return Ok(self.admits(size, 0));
         }
         self.read = self.read.saturating_add(size);
         Ok(true)
@@ -184,20 +184,13 @@ impl Repetitions {
         ensures admitted { result ≡ is_added_within self.new.counts }
     {
         let differing = differing.saturating_mul(DIFFERING_SIZE);
-        self.admits_more(bytes.saturating_add(differing))
-    }
-
-    /// Whether so many bytes may be added once more: all together as many as were read so far.
-    fn admits_more(&mut self, bytes: usize) -> bool
-        ensures counted { self.new ≡ record self.old { counts = with_added self.old.counts bytes } }
-        ensures admitted { result ≡ is_added_within self.new.counts }
-    {
+        let bytes = bytes.saturating_add(differing);
         self.added = self.added.saturating_add(bytes);
         self.added <= LEAST_ROOM || self.added <= self.read
     }
 
-    /// Notes that a file was read for the present input: the one for which it was read before, if it
-    /// was; that is the present one then.
+    /// Notes that a file was read for the present input: the one for which it was read before, if
+    /// it was; that is the present one then.
     fn note(
         &mut self,
         identity: Option<(u64, u64)>,

@@ -1,10 +1,11 @@
 //! The texts of the `note:` lines behind what `pack` refuses: which file, what is the matter with
 //! it, and which option helps.
 
-use crate::compression::Compression;
+use crate::plain::Compression;
 use dwp_elf::ElfFile;
 use dwp_elf_read::ReadError;
 use std::alloc::{AllocError, Global};
+use std::collections::BTreeMap;
 use std::fmt;
 use std::io::{self, Write};
 use thorin_errors::Error;
@@ -16,6 +17,9 @@ pub const MEMBER_NAME_READ: usize = 769;
 
 /// How many bytes of a longer one are shown.
 const BEGINNING_SHOWN: usize = 383;
+
+/// How many bytes the reasons may have that are kept. Behind them units are kept without one.
+const MOST: usize = 1 << 24;
 
 /// An input, or an object that it names, as it is printed. Of an empty name two marks are.
 pub fn place_of(alloc: Global, input: &str, named: Option<&str>) -> Result<String, AllocError> {
@@ -105,20 +109,16 @@ impl Lack {
         let Ok(file) = ElfFile::parse(bytes) else {
             return Lack::Unknown;
         };
-        let is_linked = has_section(&file, ".debug_info") || has_section(&file, ".zdebug_info");
+        let has = |name: &str| file.section_by_name(name).is_some();
+        let is_linked = has(".debug_info") || has(".zdebug_info");
         match (is_executable, is_linked) {
             (true, true) => Lack::Whole,
-            (true, false) if has_section(&file, ".debug_info.dwo") => Lack::Split,
+            (true, false) if has(".debug_info.dwo") => Lack::Split,
             (true, false) => Lack::Stripped,
             (false, true) => Lack::Linked,
             (false, false) => Lack::Bare,
         }
     }
-}
-
-/// Whether an ELF file has a section of this name.
-fn has_section(file: &ElfFile<'_>, name: &str) -> bool {
-    file.section_by_name(name).is_some()
 }
 
 /// What is said of it behind `no split units`.
@@ -203,5 +203,102 @@ impl fmt::Display for Cause<'_> {
             | Error::RowNotInIndex(cause, _) => write!(f, ": {cause}"),
             _ => Ok(()),
         }
+    }
+}
+
+/// The units that were absent, by their identifiers, each with the place of its reason, if it has
+/// one: units of one object share it.
+#[derive(Drop)]
+pub struct AbsentUnits {
+    alloc: Global,
+    units: BTreeMap<u64, Option<usize>>,
+    reasons: Vec<String>,
+    /// How many bytes the reasons have.
+    size: usize,
+    /// The object that was looked for last, and its reason.
+    object: Option<String>,
+    reason: Option<usize>,
+}
+
+impl AbsentUnits {
+    /// None yet.
+    pub fn new(alloc: Global) -> AbsentUnits {
+        AbsentUnits {
+            alloc,
+            units: BTreeMap::new(alloc),
+            reasons: Vec::new(alloc),
+            size: 0,
+            object: None,
+            reason: None,
+        }
+    }
+
+    /// Begins an executable.
+    pub fn begin(&mut self) {
+        self.object = None;
+        self.reason = None;
+    }
+
+    /// Adds a unit, where it wasn't absent before: with the object that an executable names for it
+    /// (none where that is the one before), and why that couldn't be read, unless it was read.
+    ///
+    /// # Errors
+    /// Want of memory.
+    pub fn add(
+        &mut self,
+        unit: u64,
+        executable: &str,
+        object: Option<String>,
+        unread: Option<String>,
+    ) -> Result<(), AllocError> {
+        match object {
+            Some(object) => self.look_for(executable, object, unread)?,
+            None => drop(unread),
+        }
+        if self.units.get(&unit).is_none() {
+            self.units.insert(unit, self.reason)?;
+        }
+        Ok(())
+    }
+
+    /// Keeps the object that is looked for, unless it is the last one, and why it brings no unit:
+    /// it couldn't be read, or lacks it.
+    fn look_for(
+        &mut self,
+        executable: &str,
+        object: String,
+        unread: Option<String>,
+    ) -> Result<(), AllocError> {
+        match &self.object {
+            Some(last) if last.as_str() == object.as_str() => return Ok(()),
+            _ => {}
+        }
+        self.reason = None;
+        if self.size <= MOST {
+            let linked = shown_briefly(self.alloc, executable)?;
+            let named = shown_briefly(self.alloc, object.as_str())?;
+            let reason = match &unread {
+                Some(why) => format!(in self.alloc; "{named}, named by {linked}: {why}"),
+                None => format!(in self.alloc;
+                    "{named}, named by {linked}: lacks the unit (rebuilt since {linked} was linked?)"
+                ),
+            }?;
+            self.size = self.size.saturating_add(reason.len());
+            self.reason = Some(self.reasons.len());
+            self.reasons.push(reason)?;
+        }
+        self.object = Some(object);
+        Ok(())
+    }
+
+    /// Why a unit is absent; none where that isn't known.
+    pub fn reason(&self, unit: u64) -> Option<&str> {
+        let place = (*self.units.get(&unit)?)?;
+        Some(self.reasons.get(place)?.as_str())
+    }
+
+    /// How many units were absent beside one of them.
+    pub fn others(&self) -> usize {
+        self.units.len().saturating_sub(1)
     }
 }

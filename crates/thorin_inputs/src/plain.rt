@@ -1,4 +1,4 @@
-//! Files with plain sections in place of compressed ones.
+//! Files with plain sections in place of compressed ones, and what is left compressed of them.
 
 ghost use Rattle.std.specs.Prelude.{◌≡◌, Err, IfOk, IfErr, OnOk, false, true};
 ghost use Rattle.dwp_elf_read.specs.Elf.{elf_of};
@@ -9,10 +9,59 @@ ghost use Rattle.dwp_decompress.specs.declared.asked.Asked.TheVariants.{OfUnits}
 ghost use Rattle.thorin_inputs.specs.Plain.{IsPlain, IsPlainOf, LeavesUnread, or_content};
 ghost use Rattle.thorin_inputs.specs.declared.plain.PlainError.TheVariants.{TooLarge};
 
-use crate::compression::Compression;
+use crate::growth::Growth;
 use crate::overlaps::has_compressed_overlap;
 use dwp_decompress::{Asked, DecompressError, decompressed};
 use std::alloc::{AllocError, Global};
+use std::fmt;
+
+/// What is left compressed of a file, of which units may be needed.
+#[derive(Clone, Copy)]
+pub enum Compression {
+    /// Nothing.
+    None,
+    /// All: it wasn't to be decompressed.
+    Left,
+    /// All: its compressed sections overlap.
+    Overlaps,
+    /// All: it can't be decompressed.
+    Unread(DecompressError),
+}
+
+impl Compression {
+    /// What is left of a file where decompressing it met an error. One that can't be read as ELF
+    /// isn't known to be compressed.
+    pub fn after(error: DecompressError) -> Compression {
+        match error {
+            DecompressError::Read(_) => Compression::None,
+            _ => Compression::Unread(error),
+        }
+    }
+}
+
+/// Why a file is still compressed; nothing where it isn't, and where it wasn't to be decompressed.
+impl fmt::Display for Compression {
+    fn fmt<W: fmt::Write>(&self, f: &mut fmt::Formatter<W>) -> fmt::Result {
+        match self {
+            Compression::None | Compression::Left => Ok(()),
+            Compression::Overlaps => f.write_str("sections overlap"),
+            Compression::Unread(DecompressError::Zlib(error)) => {
+                write!(f, "by zlib, unreadable: {error}")
+            }
+            Compression::Unread(DecompressError::Zstd(error)) => {
+                write!(f, "by zstd, unreadable: {error}")
+            }
+            Compression::Unread(DecompressError::UnknownType(number)) => {
+                write!(f, "of type {number}, neither zlib's nor zstd's")
+            }
+            Compression::Unread(DecompressError::Header) => f.write_str("its header is damaged"),
+            Compression::Unread(DecompressError::Unrepresentable) => {
+                f.write_str(Growth::Plain.note())
+            }
+            Compression::Unread(error) => write!(f, "{error}"),
+        }
+    }
+}
 
 /// Why plain sections can't be put in place of compressed ones.
 #[derive(Clone, Copy)]

@@ -1,10 +1,13 @@
-//! Prefixes of paths that others take the place of.
+//! Prefixes of paths that others take the place of, and the paths of the command line, whose
+//! prefixes stay.
 
 ghost use Rattle.std.specs.Prelude.{◌≡◌, true, false, ℕ, List, [], ◌∷◌, ◌++◌, ◌+◌, ◌<◌, ◌≤◌, IfOk, OnOk};
 ghost use Rattle.std.specs.Prelude.{◌-◌, MatchOption, option_map, length, take, string_bytes};
+ghost use Rattle.std.specs.Prelude.{IfSome};
 ghost use Rattle.std.specs.Borrow.{Bor};
 ghost use Rattle.std.specs.List.Sorted.{IsNonDecreasingBy, IsPartitionPoint};
 ghost use Rattle.std.specs.List.Sorted.{IsStrictlySortedBy-prop};
+ghost use Rattle.thorin_inputs.specs.Given.{StandsAt};
 ghost use Rattle.thorin_inputs.specs.Prefixes as spec;
 ghost use Rattle.thorin_inputs.specs.Mapped.{AreOf, IsOrdered, Counts, last_word};
 ghost use Rattle.thorin_inputs.specs.Mapped.{beginning, key_at};
@@ -34,7 +37,9 @@ impl<'a> Prefixes<'a> {
     {
         let mut last = BTreeMap::new(alloc);
         for word in words {
-            keep(&mut last, *word)?;
+            if let Some((from, _to)) = parts(*word) {
+                last.insert(from.as_bytes(), *word)?;
+            }
         }
         let last = last.into_iter().collect(alloc)?;
         Ok(Prefixes { alloc, words, last })
@@ -142,19 +147,6 @@ fn key_of(text: &[u8], place: usize) -> u16
     }
 }
 
-/// Keeps a word by its FROM, if it has one.
-#[tactic(auto, using(crate::proofs::Marking::passed, crate::proofs::Marking::put))]
-fn keep<'a>(last: &mut BTreeMap<&'a [u8], &'a str>, word: &'a str) -> Result<(), AllocError>
-    ensures { OnOk result ((words : List (Bor (List ℕ))) (held : Bor (List ℕ)) → held.now ≡ word.now
-        → AreOf words last.old.entries → AreOf (words ++ held ∷ []) last.new.entries) }
-{
-    let Some((from, _to)) = parts(word) else {
-        return Ok(());
-    };
-    last.insert(from.as_bytes(), word)?;
-    Ok(())
-}
-
 /// The two sides of the first `=` of a word.
 fn parts(word: &str) -> Option<(&str, &str)>
     ensures { MatchOption result (spec.has_equals word.now ≡ false) (λ parts.
@@ -162,4 +154,37 @@ fn parts(word: &str) -> Option<(&str, &str)>
         × (parts.1.now ≡ spec.to_of word.now)) }
 {
     word.split_once('=')
+}
+
+/// Where paths stand in their lists, by their texts: of equal ones that of the last that was added.
+#[derive(Drop)]
+pub struct Places<'a>(BTreeMap<&'a str, usize>);
+
+impl<'a> Places<'a> {
+    /// Of no path yet.
+    pub fn new(alloc: Global) -> Places<'a> {
+        Places(BTreeMap::new(alloc))
+    }
+
+    /// Adds the paths of a list.
+    ///
+    /// # Errors
+    /// Want of memory.
+    pub fn add(&mut self, paths: &[&'a str]) -> Result<(), AllocError> {
+        for place in 0..paths.len() {
+            self.0.insert(paths[place], place)?;
+        }
+        Ok(())
+    }
+
+    /// The place of a path in a list that was added, where it is there and in no list behind it.
+    pub fn place_among(&self, paths: &[&str], path: &str) -> Option<usize>
+        ensures { IfSome result (StandsAt paths.now path.now) }
+    {
+        let place = *self.0.get(path)?;
+        match paths.get(place) {
+            Some(given) if *given == path => Some(place),
+            _ => None,
+        }
+    }
 }

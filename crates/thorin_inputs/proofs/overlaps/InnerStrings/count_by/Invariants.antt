@@ -3,7 +3,7 @@ use Rattle.std.specs.List.{list_any, range_with_len}
 use Rattle.dwp_base.specs.Numbers.{number}
 use Rattle.thorin_inputs.specs.InnerPlaces.{IsWithin, is_counted}
 use Rattle.thorin_inputs.specs.InnerStrings.{begins_inside, has_word, word_count}
-use Rattle.thorin_inputs.proofs.inner.InnerStrings.count_by.Given as goal
+use Rattle.thorin_inputs.proofs.overlaps.InnerStrings.count_by.Given as goal
 
 -- those that are counted and those that words name which are left are all
 abbrev pub invariant-loop-number : goal.invariant-loop-number

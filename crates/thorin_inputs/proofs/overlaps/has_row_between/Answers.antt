@@ -2,7 +2,7 @@ use Rattle.std.proofs.Common.{◌+◌, length, arith, sym}
 use Rattle.dwp_index.specs.Index.{row_in}
 use Rattle.thorin_inputs.specs.InnerStrings.{is_row_between}
 use Rattle.thorin_inputs.proofs.InnerPlaces.{row_passed}
-use Rattle.thorin_inputs.proofs.inner.has_row_between.Goals as goal
+use Rattle.thorin_inputs.proofs.overlaps.has_row_between.Goals as goal
 
 pub loop-number-preserved : goal.loop-number-preserved
 loop-number-preserved c =

@@ -5,9 +5,9 @@ use Rattle.dwp_base.specs.Numbers.{number}
 use Rattle.thorin_inputs.specs.InnerPlaces.{is_counted}
 use Rattle.thorin_inputs.specs.InnerStrings.{begins_inside, has_word, word_count}
 use Rattle.thorin_inputs.proofs.InnerPlaces.{among, word_counted, word_passed}
-use Rattle.thorin_inputs.proofs.inner.InnerStrings.count_by.Goals as goal
-use Rattle.thorin_inputs.proofs.inner.InnerStrings.count_by.Goals.{else-begins_inside-via-then-begins_inside+in_ok-add+else-branch}
-use Rattle.thorin_inputs.proofs.inner.InnerStrings.count_by.Goals.{else-begins_inside-via-else-begins_inside}
+use Rattle.thorin_inputs.proofs.overlaps.InnerStrings.count_by.Goals as goal
+use Rattle.thorin_inputs.proofs.overlaps.InnerStrings.count_by.Goals.{else-begins_inside-via-then-begins_inside+in_ok-add+else-branch}
+use Rattle.thorin_inputs.proofs.overlaps.InnerStrings.count_by.Goals.{else-begins_inside-via-else-begins_inside}
 
 -- of the words so far
 abbrev OnlyThose : goal.Then-branch → Type 0

@@ -5,7 +5,7 @@ use Rattle.dwp_base.specs.declared.section.SectionKind.TheVariants.{CuIndex, Str
 use Rattle.dwp_elf_read.specs.View.{elf}
 use Rattle.thorin_inputs.specs.InnerStrings.{first_content}
 use Rattle.thorin_inputs.proofs.UsedSections.{is_offsets}
-use Rattle.thorin_inputs.proofs.used.UsedSections.of.Given as goal
+use Rattle.thorin_inputs.proofs.overlaps.UsedSections.of.Given as goal
 
 -- what was met, with what is left
 abbrev pub invariant-loop-i : goal.invariant-loop-i

@@ -12,10 +12,11 @@ use Rattle.thorin_inputs.proofs.InnerPlaces.{names_filled, not_too_large, nothin
 use Rattle.thorin_inputs.proofs.InnerPlaces.{sizes_none, too_large}
 use Rattle.thorin_inputs.proofs.UsedSections.{any_behind, any_further, any_less, is_offsets}
 use Rattle.std.specs.List.{list_any}
-use Rattle.thorin_inputs.proofs.inner.has_inner_beside.Goals as goal
-use Rattle.thorin_inputs.proofs.inner.has_inner_beside.Goals.{in-Some+else-holds}
-use Rattle.thorin_inputs.proofs.inner.has_inner_beside.Goals.{else-holds-via-then-holds+in_ok-count+else-branch}
-use Rattle.thorin_inputs.proofs.inner.has_inner_beside.Goals.{else-holds-via-else-holds, in_default}
+use Rattle.thorin_inputs.proofs.overlaps.has_inner_beside.Goals as goal
+use Rattle.thorin_inputs.proofs.overlaps.has_inner_beside.Goals.{in-Some+else-holds}
+use Rattle.thorin_inputs.proofs.overlaps.has_inner_beside.Goals.{else-holds-via-then-holds+in_ok-count+else-branch}
+use Rattle.thorin_inputs.proofs.overlaps.has_inner_beside.Goals.{else-holds-via-else-holds}
+use Rattle.thorin_inputs.proofs.overlaps.has_inner_beside.Goals.{in_default}
 
 pub loop-i-init : goal.loop-i-init
 loop-i-init c =

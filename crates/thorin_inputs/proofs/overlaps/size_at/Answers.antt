@@ -1,6 +1,6 @@
 use Rattle.std.proofs.Common.{arith}
 use Rattle.thorin_inputs.proofs.InnerPlaces.{ended, unended}
-use Rattle.thorin_inputs.proofs.inner.size_at.Goals as goal
+use Rattle.thorin_inputs.proofs.overlaps.size_at.Goals as goal
 
 pub returns-in-Ok : goal.returns-in-Ok
 returns-in-Ok c = ended c.args.strings.now c.args.place _ c.in-Ok.ensures.meaning

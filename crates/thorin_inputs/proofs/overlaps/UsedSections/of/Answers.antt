@@ -6,8 +6,8 @@ use Rattle.dwp_elf_read.specs.View as view
 use Rattle.dwp_elf_read.specs.View.{elf}
 use Rattle.thorin_inputs.proofs.UsedSections.{before_next, behind_next, met_next, none_next}
 use Rattle.thorin_inputs.proofs.UsedSections.{within_next}
-use Rattle.thorin_inputs.proofs.used.UsedSections.of.Goals as goal
-use Rattle.thorin_inputs.proofs.used.UsedSections.of.Goals.{in-Some, in_default}
+use Rattle.thorin_inputs.proofs.overlaps.UsedSections.of.Goals as goal
+use Rattle.thorin_inputs.proofs.overlaps.UsedSections.of.Goals.{in-Some, in_default}
 
 pub loop-i-preserved : goal.loop-i-preserved
 loop-i-preserved c =
