@@ -151,7 +151,7 @@ module _ {manner : Manner} {offer : Offer} where
       → (r : Result (Unit {0}) (NotTaken Error Growth))
       → Took offer (inputs.Bytes bytes) old (outcome_of r) new
       → OnOk r (TookEach manner offer (content ∷ []) old new)
-  content_took {bytes = bytes} is (Ok x) took =
+  content_took {bytes = bytes} is (Ok tt) took =
       each_one is (record { bytes = bytes; is = refl; took = took })
   content_took is (Err why) took = tt
 

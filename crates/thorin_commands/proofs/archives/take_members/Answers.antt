@@ -51,12 +51,13 @@ returns-clause-line g c = rw (
 pub returns-in_err-take_split-clause-told : goal.returns-in_err-take_split-clause-told
 returns-in_err-take_split-clause-told g c =
     let p = err_from_is_err_and c.from_residual.result c.from_residual.ensures.1 in
-    rw (p.1, p.2) (refuses_by g.E.LineOutput.contents g.E.LineOutput.failed
-    c.take_split.new.err (λ cause u. among c.in-Ok.ensures cause
-    (rw c.as_slice-list.ensures.value at (stops_among
-    c.as_slice-list.result.now c.loop-member.member-index none c.loop-member-test.true
-    c.loop-member.invariant.took cause u))) c.in_err-take_split.field-0.0
-    c.in_err-take_split.ensures.told)
+    let are = rw (← c.as_slice-list.ensures.value) at c.in-Ok.ensures in
+    rw (p.1, p.2) (refuses_by g.E.LineOutput.contents g.E.LineOutput.failed c.take_split.new.err
+    (among are) c.in_err-take_split.field-0.0
+    (refuses_by g.E.LineOutput.contents g.E.LineOutput.failed c.take_split.new.err
+    (stops_among c.as_slice-list.result.now c.loop-member.member-index none
+    c.loop-member-test.true c.loop-member.invariant.took) c.in_err-take_split.field-0.0
+    c.in_err-take_split.ensures.told))
 
 pub returns-in-Err-clause-told : goal.returns-in-Err-clause-told
 returns-in-Err-clause-told g c = refuses_by g.E.LineOutput.contents g.E.LineOutput.failed

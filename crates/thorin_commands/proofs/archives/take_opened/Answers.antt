@@ -36,13 +36,15 @@ returns-else-is_archive-clause-took g c =
 pub returns-else-is_archive-clause-told : goal.returns-else-is_archive-clause-told
 returns-else-is_archive-clause-told g c = err_by g.E.LineOutput.contents g.E.LineOutput.failed
     c.settle.new.err
-    (λ cause u. plain c.requires c.in-Ok.ensures.read
-    (search (rules, c.is_archive.ensures, c.if-is_archive)) cause
+    (plain c.requires c.in-Ok.ensures.read
+    (search (rules, c.is_archive.ensures, c.if-is_archive)))
+    c.settle.result
+    (err_by g.E.LineOutput.contents g.E.LineOutput.failed c.settle.new.err
     (reason_by c.take_input-outcome.result (bytes_refused (g.I.InputReader.offer c.args.inputs.now)
     (g.I.InputReader.declines c.args.inputs.now) c.in-Ok.bytes c.args.builder.now.state
     c.take_input-outcome.new.builder.state c.take_input-outcome.result
-    c.take_input-outcome.ensures.taken c.take_input-outcome.ensures.declined) cause u))
-    c.settle.result c.settle.ensures.told
+    c.take_input-outcome.ensures.taken c.take_input-outcome.ensures.declined))
+    c.settle.result c.settle.ensures.told)
 
 pub returns-else-is_archive-clause-line : goal.returns-else-is_archive-clause-line
 returns-else-is_archive-clause-line g c = rw c.unit_count-before.ensures at c.settle.ensures.line

@@ -11,13 +11,14 @@ returns-in_default-clause-took g c =
 
 pub returns-in_default-clause-told : goal.returns-in_default-clause-told
 returns-in_default-clause-told g c = err_by g.E.LineOutput.contents g.E.LineOutput.failed
-    c.settle.new.err
-    (λ cause u. alone (search rules) cause (reason_by c.take_input-outcome.result
+    c.settle.new.err (alone (search rules)) c.settle.result
+    (err_by g.E.LineOutput.contents g.E.LineOutput.failed c.settle.new.err
+    (reason_by c.take_input-outcome.result
     (refused (g.I.InputReader.offer c.args.inputs.now)
     (g.I.InputReader.declines c.args.inputs.now) c.args.input c.args.builder.now.state
     c.take_input-outcome.new.builder.state c.take_input-outcome.result
-    c.take_input-outcome.ensures.taken c.take_input-outcome.ensures.declined) cause u))
-    c.settle.result c.settle.ensures.told
+    c.take_input-outcome.ensures.taken c.take_input-outcome.ensures.declined))
+    c.settle.result c.settle.ensures.told)
 
 pub returns-in_default-clause-line : goal.returns-in_default-clause-line
 returns-in_default-clause-line g c = rw c.unit_count-before.ensures at c.settle.ensures.line
