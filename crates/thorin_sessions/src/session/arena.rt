@@ -36,16 +36,14 @@ impl<'a, R: Files, Relocations: Copy> Session<Relocations> for ArenaSession<'a, 
     ghost offer = { λ _ _ _. Unit {0} };
 
     fn alloc_data<'s>(&'s self, bytes: Vec<u8>) -> Result<&'s [u8], AllocError> {
-        let placed = self.bump.try_alloc_slice_copy(bytes.as_slice())?;
-        Ok(placed)
+        Ok(self.bump.try_alloc_slice_copy(bytes.as_slice())?)
     }
 
     fn alloc_relocation<'s>(
         &'s self,
         list: &[Relocations],
     ) -> Result<&'s [Relocations], AllocError> {
-        let placed = self.bump.try_alloc_slice_copy(list)?;
-        Ok(placed)
+        Ok(self.bump.try_alloc_slice_copy(list)?)
     }
 
     /// Reads the file into room of its length, where the system tells the length. Want of memory is

@@ -27,16 +27,14 @@ impl<'a, Relocations: Copy> Session<Relocations> for BytesSession<'a> {
     ghost offer = { λ _ _ answer. OffersNone answer };
 
     fn alloc_data<'s>(&'s self, bytes: Vec<u8>) -> Result<&'s [u8], AllocError> {
-        let placed = self.bump.try_alloc_slice_copy(bytes.as_slice())?;
-        Ok(placed)
+        Ok(self.bump.try_alloc_slice_copy(bytes.as_slice())?)
     }
 
     fn alloc_relocation<'s>(
         &'s self,
         list: &[Relocations],
     ) -> Result<&'s [Relocations], AllocError> {
-        let placed = self.bump.try_alloc_slice_copy(list)?;
-        Ok(placed)
+        Ok(self.bump.try_alloc_slice_copy(list)?)
     }
 
     /// Gives an error of kind `NotFound`. It takes no memory.

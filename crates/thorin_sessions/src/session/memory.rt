@@ -36,16 +36,14 @@ impl<'a, Relocations: Copy> Session<Relocations> for MemorySession<'a> {
     ghost offer = { λ session path answer. MapOffers (files_of session) path answer };
 
     fn alloc_data<'s>(&'s self, bytes: Vec<u8>) -> Result<&'s [u8], AllocError> {
-        let placed = self.bump.try_alloc_slice_copy(bytes.as_slice())?;
-        Ok(placed)
+        Ok(self.bump.try_alloc_slice_copy(bytes.as_slice())?)
     }
 
     fn alloc_relocation<'s>(
         &'s self,
         list: &[Relocations],
     ) -> Result<&'s [Relocations], AllocError> {
-        let placed = self.bump.try_alloc_slice_copy(list)?;
-        Ok(placed)
+        Ok(self.bump.try_alloc_slice_copy(list)?)
     }
 
     /// Gives the bytes of the file in the map, or an error of kind `NotFound`. It takes no memory.
