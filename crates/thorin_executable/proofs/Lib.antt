@@ -1,5 +1,3 @@
-pub mod Texts
-pub mod Loads
+pub mod SamePaths
+pub mod ByPlace
 pub mod NamedSteps
-pub mod Places
-pub mod Ascending

@@ -1,19 +1,24 @@
 -- The split units that an executable names: the skeleton units of DWARF 5 (3.1.2), and before
 -- version 5 the units with a GNU_dwo_id (the GNU page DebugFission).
 use Rattle.std.specs.Prelude.{ℕ, List, [], ◌∷◌, Option, Some, None, Result, Ok, Err}
+use Rattle.std.specs.Option.{ok_or}
 use Rattle.dwp_base.specs.Reading.{◌>>=◌}
+use Rattle.dwp_bytes.specs.Input.{Input}
 use Rattle.dwp_bytes.specs.declared.error.ReadError.{ReadError}
+use Rattle.dwp_bytes.specs.declared.error.ReadError.TheVariants.{UnknownCode}
 use Rattle.dwp_dwarf.specs.Entries.{DebugAttribute}
-use Rattle.dwp_dwarf.specs.Split.{SplitAttributes, object_name}
+use Rattle.dwp_dwarf.specs.Offsets.{from_at}
+use Rattle.dwp_dwarf.specs.Split.{SplitAttributes, object_name, split_at}
+use Rattle.dwp_units.specs.AbbreviationCodes.{root_code_at}
 use Rattle.dwp_units.specs.Units.{Unit, units}
 use Rattle.dwp_units.specs.declared.unit.UnitSection.TheVariants.{Info}
 use Rattle.dwp_table.specs.declared.object.DwarfObject.{DwarfObject}
 use Rattle.dwp_table.specs.declared.object.DwarfObject.TheVariants.{Compilation, TypeUnit}
-use Rattle.thorin_errors.specs.Errors.{ErrorValue, MissingDwoName, ParseUnitHeader}
+use Rattle.thorin_errors.specs.Errors.{ErrorValue, MissingDwoName, NoDie, ParseUnit}
+use Rattle.thorin_errors.specs.Errors.{ParseUnitHeader}
 use Rattle.thorin_errors.specs.Answers.{as_error}
 use Rattle.thorin_identity.specs.Identity.{identity}
 use Rattle.thorin_executable.specs.Sections.{DebugData, debug_data_of}
-use Rattle.thorin_executable.specs.Roots.{root_attributes}
 use Rattle.thorin_executable.specs.Paths.{object_path}
 use Rattle.thorin_executable.specs.declared.listing.NamelessUnits.{NamelessUnits}
 use Rattle.thorin_executable.specs.declared.listing.NamelessUnits.TheVariants.{Refused, PassedOver}
@@ -38,28 +43,31 @@ named_by nameless debug unit target root (Some attribute) =
     object_path debug.strings unit.encoding.format root attribute >>= λ path.
     Ok (Some (target, path))
 
--- the object of a unit of this identity
-unfoldable pub named_in : NamelessUnits → DebugData → Unit → DwarfObject
-    → Result (Option Named) ErrorValue
-named_in nameless debug unit target = do
-  root ← root_attributes debug.debug_abbrev unit
-  named_by nameless debug unit target root (object_name root)
+-- the attributes of a unit's root entry that name its split object (DWARF 5, 7.5.4); its
+-- abbreviations stand in that section
+unfoldable pub root_attributes : Input → Unit → Result SplitAttributes ErrorValue
+root_attributes debug_abbrev unit = do
+  read ← as_error ParseUnit (root_code_at unit.entries)
+  code ← ok_or read NoDie
+  table ← as_error ParseUnit (from_at unit.abbrev_offset debug_abbrev)
+  found ← as_error ParseUnit (split_at unit.encoding code.1 code.0 table)
+  ok_or found (ParseUnit UnknownCode)
 
--- the same where the unit has an identity; a unit without one is no part of a split unit
+-- the object of a unit that may have an identity; one without is no part of a split unit
 abbrev pub named_if : NamelessUnits → DebugData → Unit → Option DwarfObject
     → Result (Option Named) ErrorValue
 named_if nameless debug unit None = Ok None
-named_if nameless debug unit (Some target) = named_in nameless debug unit target
+named_if nameless debug unit (Some target) = do
+  root ← root_attributes debug.debug_abbrev unit
+  named_by nameless debug unit target root (object_name root)
 
--- the split unit that a unit of an executable stands for, if it does
-unfoldable pub skeleton_of : NamelessUnits → DebugData → Unit → Result (Option Named) ErrorValue
-skeleton_of nameless debug unit =
-    identity debug.debug_abbrev unit >>= named_if nameless debug unit
-
--- the same of the unit that was read next
+-- the split unit that the unit stands for that was read next, if it does
 unfoldable pub skeleton_read : NamelessUnits → DebugData → Result Unit ReadError
     → Result (Option Named) ErrorValue
-skeleton_read nameless debug read = as_error ParseUnitHeader read >>= skeleton_of nameless debug
+skeleton_read nameless debug read = do
+  unit ← as_error ParseUnitHeader read
+  found ← identity debug.debug_abbrev unit
+  named_if nameless debug unit found
 
 -- a list up to the first error, and that error
 abbrev pub Listed : Type 0

@@ -7,7 +7,7 @@ use Rattle.thorin_errors.specs.declared.error.Error.{Error}
 use Rattle.thorin_errors.specs.Answers.{MemoryAside}
 use Rattle.thorin_errors.specs.Errors.{error_of}
 use Rattle.thorin_executable.specs.declared.loading.DebugData.{DebugData as Data}
-use Rattle.thorin_executable.specs.declared.lending.NamedUnit.{NamedUnit}
+use Rattle.thorin_executable.specs.declared.listing.NamedUnit.{NamedUnit}
 use Rattle.thorin_executable.specs.declared.listing.Skeleton.{Skeleton}
 use Rattle.thorin_executable.specs.declared.listing.SkeletonList.{SkeletonList}
 use Rattle.thorin_executable.specs.Sections.{DebugData}

@@ -2,15 +2,12 @@
 //! DebugFission).
 #![tactic(auto)]
 
-mod last;
-mod lending;
 mod listing;
 mod loading;
 mod paths;
-mod reader;
 mod relocations;
-mod roots;
 
-pub use lending::{NamedUnit, NamedUnits};
-pub use listing::{NamelessUnits, Skeleton, SkeletonList, SkeletonUnits, skeletons};
+pub use listing::{
+    NamedUnit, NamedUnits, NamelessUnits, Skeleton, SkeletonList, SkeletonUnits, skeletons,
+};
 pub use relocations::add_relocations;

@@ -1,26 +1,26 @@
 //! The split units of an executable, up to the first error.
 
-ghost use Rattle.std.specs.Prelude.{◌≡◌, [], None, Ok, option_map, OnErr, string_bytes};
+ghost use Rattle.std.specs.Prelude.{◌≡◌, [], None, Some, option_map, IfOk, OnErr, string_bytes};
 ghost use Rattle.dwp_dwarf.specs.Sections.{strings_of};
+ghost use Rattle.dwp_dwarf.specs.Split.{attributes_of};
 ghost use Rattle.dwp_units.specs.Units.{unit_of, unit_seen, units_left};
 ghost use Rattle.thorin_errors.specs.Answers.{Gives};
 ghost use Rattle.thorin_executable.specs.Skeletons as spec;
-ghost use Rattle.thorin_executable.specs.Places.{IsKept};
+ghost use Rattle.thorin_executable.specs.Paths.{IsKept};
 ghost use Rattle.thorin_executable.specs.View.{data_of, listed, IsFront, UnlessMemory, named_at};
-ghost use Rattle.thorin_executable.specs.View.{IsOpened, IsNext, IsNextNamed, IsPathAfter};
-ghost use Rattle.thorin_executable.specs.View.{IsPushed};
+ghost use Rattle.thorin_executable.specs.View.{IsOpened, IsNext, IsOpenedNamed, IsNextNamed};
+ghost use Rattle.thorin_executable.specs.View.{IsPathAfter, IsPushed};
 
-use crate::last::LastPath;
-use crate::lending::NamedUnit;
-use crate::loading::DebugData;
-use crate::reader::SectionReader;
-use crate::roots::root_attributes;
+use crate::loading::{DebugData, SectionReader};
+use crate::paths::LastPath;
 use dwp_dwarf::{
-    AbbreviationCache, ReadError, Reader, RelocationEntry, UnitHeader, UnitHeaders, UnitSection,
+    AbbreviationCache, ReadError, Reader, RelocationEntry, SplitAttributes, UnitHeader,
+    UnitHeaders, UnitSection,
 };
 use dwp_table::DwarfObject;
 use std::alloc::Global;
 use std::marker::Model;
+use std::mem::replace;
 use thorin_errors::Error;
 use thorin_identity::dwo_identifier_remembering;
 use thorin_sessions::Session;
@@ -54,19 +54,42 @@ pub enum NamelessUnits {
     PassedOver,
 }
 
-/// A unit of this identity that names no object stands for none, or is an error.
-fn unnamed(nameless: NamelessUnits, target: DwarfObject) -> Result<(), Error>
-    ensures { Gives (λ _. None) result (spec.unnamed nameless target) }
+/// A split unit that an executable names, without the path of its object.
+#[derive(Clone, Copy, Debug)]
+pub struct NamedUnit {
+    /// The split unit.
+    pub target: DwarfObject,
+    /// Whether the path of its object is known to be that of the unit before: both are named by
+    /// strings at the same places. The paths may be equal otherwise too.
+    pub is_repeated: bool,
+}
+
+/// The attributes of a unit's root entry that name its split object.
+///
+/// # Errors
+/// `NoDie` where it has none, `ParseUnit` for any error in it.
+#[tactic(auto, unfolding(crate::specs::Skeletons::root_attributes))]
+fn root_attributes<R: Reader>(
+    debug_abbrev: &mut AbbreviationCache<R>,
+    header: &UnitHeader<R>,
+) -> Result<SplitAttributes<R>, Error>
+    ensures meaning { Gives (attributes_of R.input) result
+        (spec.root_attributes (R.input debug_abbrev.old) (unit_of R.input header.now)) }
+    ensures kept { debug_abbrev.new ≡ debug_abbrev.old }
 {
-    match (nameless, target) {
-        (NamelessUnits::Refused, DwarfObject::Compilation(id)) => Err(Error::MissingDwoName(id.0)),
-        (NamelessUnits::PassedOver, DwarfObject::Compilation(_)) => Ok(()),
-        (_, DwarfObject::TypeUnit(_)) => Ok(()),
+    let (code, values) = match header.root_code() {
+        Ok(Some(read)) => read,
+        Ok(None) => return Err(Error::NoDie),
+        Err(error) => return Err(Error::ParseUnit(error)),
+    };
+    match debug_abbrev.split_in(header.abbrev_offset(), code, header.encoding(), values) {
+        Ok(Some(root)) => Ok(root),
+        Ok(None) => Err(Error::ParseUnit(ReadError::UnknownCode)),
+        Err(error) => Err(Error::ParseUnit(error)),
     }
 }
 
-/// The split unit of this identity, and the path of its object.
-#[tactic(auto, unfolding(crate::specs::Skeletons::named_in))]
+/// The split unit of this identity. The path of its object becomes the last.
 fn named_unit<R: Reader>(
     last: &mut LastPath,
     debug: &DebugData<R>,
@@ -78,7 +101,8 @@ fn named_unit<R: Reader>(
     requires section { abbreviations.old ≡ debug.now.debug_abbrev }
     requires known { IsKept (strings_of R.input debug.now.strings) last.old }
     ensures meaning { Gives (option_map (named_at (string_bytes last.new.text))) result
-        (spec.named_in nameless (data_of R.input debug.now) (unit_of R.input header.now) target) }
+        (spec.named_if nameless (data_of R.input debug.now) (unit_of R.input header.now)
+        (Some target)) }
     ensures kept { abbreviations.new ≡ abbreviations.old }
     ensures path { IsPathAfter result (string_bytes last.old.text) (string_bytes last.new.text) }
     ensures last { IsKept (strings_of R.input debug.now.strings) last.new }
@@ -93,37 +117,16 @@ fn named_unit<R: Reader>(
                 is_repeated,
             }))
         }
-        None => {
-            unnamed(nameless, target)?;
-            Ok(None)
-        }
+        None => match (nameless, target) {
+            (NamelessUnits::Refused, DwarfObject::Compilation(id)) => {
+                Err(Error::MissingDwoName(id.0))
+            }
+            _ => Ok(None),
+        },
     }
 }
 
-/// The split unit that a unit stands for, if it does.
-#[tactic(auto, unfolding(crate::specs::Skeletons::skeleton_of))]
-fn skeleton_of<R: Reader>(
-    last: &mut LastPath,
-    debug: &DebugData<R>,
-    abbreviations: &mut AbbreviationCache<R>,
-    header: &UnitHeader<R>,
-    nameless: NamelessUnits,
-) -> Result<Option<NamedUnit>, Error>
-    requires section { abbreviations.old ≡ debug.now.debug_abbrev }
-    requires known { IsKept (strings_of R.input debug.now.strings) last.old }
-    ensures meaning { Gives (option_map (named_at (string_bytes last.new.text))) result
-        (spec.skeleton_of nameless (data_of R.input debug.now) (unit_of R.input header.now)) }
-    ensures kept { abbreviations.new ≡ abbreviations.old }
-    ensures path { IsPathAfter result (string_bytes last.old.text) (string_bytes last.new.text) }
-    ensures last { IsKept (strings_of R.input debug.now.strings) last.new }
-{
-    match dwo_identifier_remembering(abbreviations, header)? {
-        Some(target) => named_unit(last, debug, abbreviations, header, target, nameless),
-        None => Ok(None),
-    }
-}
-
-/// The skeleton of the unit that was read next.
+/// The split unit that the unit that was read next stands for, if it does.
 #[tactic(auto, unfolding(crate::specs::Skeletons::skeleton_read))]
 fn skeleton_read<R: Reader>(
     last: &mut LastPath,
@@ -141,7 +144,10 @@ fn skeleton_read<R: Reader>(
     ensures last { IsKept (strings_of R.input debug.now.strings) last.new }
 {
     let header = read.map_err(Error::ParseUnitHeader)?;
-    skeleton_of(last, debug, abbreviations, &header, nameless)
+    match dwo_identifier_remembering(abbreviations, &header)? {
+        Some(target) => named_unit(last, debug, abbreviations, &header, target, nameless),
+        None => Ok(None),
+    }
 }
 
 /// The first split unit that one of the units left stands for.
@@ -171,56 +177,76 @@ fn next_named<R: Reader>(
     Ok(None)
 }
 
-/// The units of an executable that are left to read, and the path of the one that came last.
+/// Gives the split units that an executable names, as `SkeletonUnits` does, and lends the path of
+/// each until the next. A path that units name in turn is made once.
 #[derive(Drop)]
-pub(crate) struct UnitsLeft<R: Reader> {
+pub struct NamedUnits<'a> {
     last: LastPath,
-    debug: DebugData<R>,
-    abbreviations: AbbreviationCache<R>,
-    headers: UnitHeaders<R>,
+    debug: DebugData<SectionReader<'a>>,
+    abbreviations: AbbreviationCache<SectionReader<'a>>,
+    headers: UnitHeaders<SectionReader<'a>>,
     nameless: NamelessUnits,
     // An error was met: nothing comes after it.
     ended: bool,
 }
 
-impl<R: Reader> Model for UnitsLeft<R> {
+impl<'a> Model for NamedUnits<'a> {
     ghost use Rattle.std.specs.Prelude.{◌≡◌, [], None, if◌then◌else◌, string_bytes};
     ghost use Rattle.dwp_dwarf.specs.Sections.{strings_of};
     ghost use Rattle.dwp_units.specs.Units.{units_left};
-    ghost use Rattle.thorin_executable.specs.Places.{IsKept};
+    ghost use Rattle.thorin_executable.specs.Paths.{IsKept};
     ghost use Rattle.thorin_executable.specs.Skeletons.{NamedLeft, skeletons_from};
     ghost use Rattle.thorin_executable.specs.View.{data_of};
 
-    // Contracts see the split units that they stand for, with the error behind them, and the path.
+    // Contracts see those that are left, the error behind them, and the path that came last.
     ghost Value = { NamedLeft };
 
     ghost view = { λ u. record {
       listed = if u.ended then ([], None)
-          else skeletons_from u.nameless (data_of R.input u.debug) (units_left R.input u.headers);
+          else skeletons_from u.nameless
+          (data_of ⟦<SectionReader<'static> as Reader>⟧.input u.debug)
+          (units_left ⟦<SectionReader<'static> as Reader>⟧.input u.headers);
       path = string_bytes u.last.text;
     } };
 
     ghost invariant = { λ u. (u.abbreviations ≡ u.debug.debug_abbrev)
-        × IsKept (strings_of R.input u.debug.strings) u.last };
+        × IsKept (strings_of ⟦<SectionReader<'static> as Reader>⟧.input u.debug.strings) u.last };
 }
 
-impl<R: Reader> UnitsLeft<R> {
-    /// All units.
-    pub fn new(alloc: Global, debug: DebugData<R>, nameless: NamelessUnits) -> UnitsLeft<R>
-        ensures listed { result.listed ≡ spec.skeletons_in nameless (Ok (data_of R.input debug)) }
-        ensures path { result.path ≡ [] }
+impl<'a> NamedUnits<'a> {
+    /// Begins to read the units of an executable, as `SkeletonUnits::read_by` does.
+    ///
+    /// # Errors
+    /// Those of `SkeletonUnits::read`.
+    #[tactic(auto, unfolding(crate::specs::Skeletons::skeletons_by))]
+    pub fn read_by<Sess: Session<RelocationEntry>>(
+        alloc: Global,
+        session: &'a Sess,
+        bytes: &'a [u8],
+        nameless: NamelessUnits,
+    ) -> Result<NamedUnits<'a>, Error>
+        ensures opened { IsOpenedNamed result (spec.skeletons_by nameless bytes.now) }
+        ensures path { IfOk result (λ units. units.path ≡ []) }
     {
-        UnitsLeft {
-            last: LastPath::new(alloc),
+        let debug = DebugData::read(alloc, session, bytes)?;
+        Ok(NamedUnits {
+            last: LastPath {
+                alloc,
+                places: None,
+                text: String::new(alloc),
+            },
             debug,
             abbreviations: AbbreviationCache::new(alloc, debug.debug_abbrev),
             headers: UnitHeaders::new(debug.debug_info, UnitSection::Info),
             nameless,
             ended: false,
-        }
+        })
     }
 
-    /// The next split unit that one of them stands for.
+    /// The next unit; None at the end.
+    ///
+    /// # Errors
+    /// Those of `SkeletonUnits::next`. No unit comes after an `Err`.
     pub fn next(&mut self) -> Result<Option<NamedUnit>, Error>
         ensures next { IsNextNamed self.old.listed result self.new.path self.new.listed }
         ensures path { IsPathAfter result self.old.path self.new.path }
@@ -240,19 +266,21 @@ impl<R: Reader> UnitsLeft<R> {
         found
     }
 
-    /// The path of the unit that came last.
+    /// The path of the object of the unit that came last; empty before the first. It stays at the
+    /// end of the units, and where one can't be read.
     pub fn path(&self) -> &str
         ensures { result.now ≡ self.now.path }
     {
         self.last.text.as_str()
     }
 
-    /// The path, handed out.
+    /// The path, handed out. What comes next is no path that came before.
     fn take_path(&mut self) -> String
         ensures path { string_bytes result ≡ self.old.path }
         ensures listed { self.new.listed ≡ self.old.listed }
     {
-        self.last.take()
+        self.last.places = None;
+        replace(&mut self.last.text, String::new(self.last.alloc))
     }
 }
 
@@ -260,7 +288,7 @@ impl<R: Reader> UnitsLeft<R> {
 /// It ends after the first error.
 #[derive(Drop)]
 pub struct SkeletonUnits<'a> {
-    left: UnitsLeft<SectionReader<'a>>,
+    named: NamedUnits<'a>,
 }
 
 impl<'a> Model for SkeletonUnits<'a> {
@@ -269,7 +297,7 @@ impl<'a> Model for SkeletonUnits<'a> {
     // Contracts see those that are left, and the error behind them.
     ghost Value = { Listed };
 
-    ghost view = { λ s. s.left.listed };
+    ghost view = { λ s. s.named.listed };
 }
 
 impl<'a> SkeletonUnits<'a> {
@@ -295,7 +323,6 @@ impl<'a> SkeletonUnits<'a> {
     ///
     /// # Errors
     /// Those of `read`.
-    #[tactic(auto, unfolding(crate::specs::Skeletons::skeletons_by))]
     pub fn read_by<Sess: Session<RelocationEntry>>(
         alloc: Global,
         session: &'a Sess,
@@ -304,10 +331,8 @@ impl<'a> SkeletonUnits<'a> {
     ) -> Result<SkeletonUnits<'a>, Error>
         ensures { IsOpened result (spec.skeletons_by nameless bytes.now) }
     {
-        let debug = DebugData::read(alloc, session, bytes)?;
-        Ok(SkeletonUnits {
-            left: UnitsLeft::new(alloc, debug, nameless),
-        })
+        let named = NamedUnits::read_by(alloc, session, bytes, nameless)?;
+        Ok(SkeletonUnits { named })
     }
 
     /// The next unit; None at the end.
@@ -319,12 +344,12 @@ impl<'a> SkeletonUnits<'a> {
         ensures next { IsNext self.old result self.new }
         ensures ended { OnErr result (self.new ≡ ([], None)) }
     {
-        let Some(unit) = self.left.next()? else {
+        let Some(unit) = self.named.next()? else {
             return Ok(None);
         };
         Ok(Some(Skeleton {
             target: unit.target,
-            path: self.left.take_path(),
+            path: self.named.take_path(),
         }))
     }
 }

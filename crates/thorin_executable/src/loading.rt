@@ -1,18 +1,79 @@
 //! The sections of an executable that are read.
 
-ghost use Rattle.std.specs.Prelude.{◌≡◌, find, option_map, IfSome};
+ghost use Rattle.std.specs.Prelude.{◌≡◌, find, option_map, IfSome, IsTrue};
+ghost use Rattle.dwp_bytes.specs.Input.{section};
+ghost use Rattle.dwp_bytes.specs.Relocation.{ascends, relocated_input};
 ghost use Rattle.dwp_elf_read.specs.View.{elf, file as file_of, section as meaning};
 ghost use Rattle.thorin_errors.specs.Answers.{Gives};
 ghost use Rattle.thorin_executable.specs.Sections as spec;
 ghost use Rattle.thorin_executable.specs.View.{data_of};
 
-use crate::reader::SectionReader;
 use crate::relocations::add_relocations;
-use dwp_dwarf::{Reader, RelocationEntry, StringSections};
+use dwp_dwarf::{
+    Endianness, Format, ReadError as DwarfReadError, Reader, Relocate, RelocationEntry,
+    SliceReader, StringSections,
+};
 use dwp_elf_read::{ElfFile, ReadError, Section};
 use std::alloc::Global;
 use thorin_errors::Error;
 use thorin_sessions::Session;
+
+/// Reads a section of an executable, relocated.
+#[derive(Clone, Copy)]
+pub(crate) struct SectionReader<'a> {
+    reader: Relocate<'a, SliceReader<'a>>,
+}
+
+impl<'a> SectionReader<'a> {
+    /// Reads a section from its start, by relocations whose offsets ascend.
+    pub fn new(relocations: &'a [RelocationEntry], bytes: &'a [u8], order: Endianness) -> Self
+        requires { IsTrue (ascends relocations.now) }
+        ensures { ⟦<SectionReader<'a> as Reader>⟧.input result
+            ≡ relocated_input relocations.now 0 (section order bytes.now) }
+    {
+        SectionReader {
+            reader: Relocate::new(relocations, SliceReader::new(bytes, order)),
+        }
+    }
+}
+
+impl<'a> Reader for SectionReader<'a> {
+    ghost input = { λ r. ⟦<Relocate<'a, SliceReader<'a>> as Reader>⟧.input r.reader };
+
+    fn endian(&self) -> Endianness {
+        self.reader.endian()
+    }
+
+    fn offset_from(&self, base: &Self) -> usize {
+        self.reader.offset_from(&base.reader)
+    }
+
+    fn to_slice(&self) -> &[u8] {
+        self.reader.to_slice()
+    }
+
+    #[tactic(auto, unfolding(dwp_bytes::specs::Input::split_at))]
+    fn split(&mut self, n: usize) -> Result<Self, DwarfReadError> {
+        let reader = self.reader.split(n)?;
+        Ok(SectionReader { reader })
+    }
+
+    fn read_address(&mut self, address_size: u8) -> Result<u64, DwarfReadError> {
+        self.reader.read_address(address_size)
+    }
+
+    fn read_length(&mut self, format: Format) -> Result<u64, DwarfReadError> {
+        self.reader.read_length(format)
+    }
+
+    fn read_offset(&mut self, format: Format) -> Result<u64, DwarfReadError> {
+        self.reader.read_offset(format)
+    }
+
+    fn read_sized_offset(&mut self, size: u8) -> Result<u64, DwarfReadError> {
+        self.reader.read_sized_offset(size)
+    }
+}
 
 /// A section of an executable that is read.
 #[derive(Clone, Copy)]
@@ -115,7 +176,7 @@ fn content<'a>(section: &Section<'a>, kind: DebugSection) -> Result<&'a [u8], Er
 }
 
 /// A reader of a section; its relocations are placed in the session.
-#[tactic(auto, using(crate::proofs::Loads::loaded_is), unfolding(crate::specs::Sections::loaded))]
+#[tactic(auto, using(crate::proofs::ByPlace::loaded_is), unfolding(crate::specs::Sections::loaded))]
 fn load<'a, Sess: Session<RelocationEntry>>(
     alloc: Global,
     session: &'a Sess,

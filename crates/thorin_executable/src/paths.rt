@@ -1,17 +1,62 @@
-//! The paths of split objects.
+//! The paths of split objects. The path that came last is kept with where its strings stand: many
+//! units may name one path.
 
-ghost use Rattle.std.specs.Prelude.{◌≡◌, option_map, string_bytes, IfOk};
+ghost use Rattle.std.specs.Prelude.{◌≡◌, option_map, string_bytes, IsTrue, IfOk, IfSome, OnErr};
 ghost use Rattle.dwp_dwarf.specs.Attributes.{attribute_of};
 ghost use Rattle.dwp_dwarf.specs.Sections.{strings_of};
 ghost use Rattle.dwp_dwarf.specs.Split.{attributes_of};
 ghost use Rattle.thorin_errors.specs.Answers.{Gives};
 ghost use Rattle.thorin_executable.specs.Paths as spec;
+ghost use Rattle.thorin_executable.specs.Paths.{IsStringAt, IsPathAt, IsKept};
 
 use dwp_dwarf::{
     Attribute, Format, ReadError, Reader, SplitAttributes, StringSections, attr_string,
 };
 use std::alloc::{AllocError, Global};
 use thorin_errors::Error;
+
+const DW_FORM_STRP: u64 = 0x0e;
+
+const DW_FORM_STRX: u64 = 0x1a;
+
+const DW_FORM_LINE_STRP: u64 = 0x1f;
+
+const DW_FORM_STRX1: u64 = 0x25;
+
+const DW_FORM_STRX2: u64 = 0x26;
+
+const DW_FORM_STRX3: u64 = 0x27;
+
+const DW_FORM_STRX4: u64 = 0x28;
+
+const DW_FORM_GNU_STR_INDEX: u64 = 0x1f02;
+
+/// Where a string stands that isn't in its unit.
+#[derive(Clone, Copy, PartialEq)]
+pub(crate) enum StringPlace {
+    /// At an offset of `.debug_str`.
+    Str(u64),
+    /// At an offset of `.debug_line_str`.
+    LineStr(u64),
+    /// At the offset of `.debug_str` that stands at an index of the table of string offsets that
+    /// begins at a base.
+    Indexed(Format, u64, u64),
+}
+
+/// Where the strings of a path stand: its name, and its directory.
+#[derive(Clone, Copy, PartialEq)]
+pub(crate) struct PathPlaces {
+    pub name: StringPlace,
+    pub directory: Option<StringPlace>,
+}
+
+/// The path that came last, and where its strings stand, if that is known.
+#[derive(Drop)]
+pub(crate) struct LastPath {
+    pub alloc: Global,
+    pub places: Option<PathPlaces>,
+    pub text: String,
+}
 
 /// The path of a name in a directory; a name from the root on replaces it.
 #[tactic(auto, unfolding(crate::specs::Paths::path_in))]
@@ -30,7 +75,7 @@ fn path_in(alloc: Global, directory: &str, name: &str) -> Result<String, AllocEr
 }
 
 /// A string as text.
-#[tactic(auto, using(crate::proofs::Texts::text_of_some, crate::proofs::Texts::text_of_none), unfolding(crate::specs::Paths::text_of))]
+#[tactic(auto, using(crate::proofs::SamePaths::text_of_some, crate::proofs::SamePaths::text_of_none), unfolding(crate::specs::Paths::text_of))]
 fn text<R: Reader>(string: &R) -> Result<&str, Error>
     ensures { Gives (λ text. text.now) result (spec.text_of (R.input string.now)) }
 {
@@ -50,24 +95,10 @@ fn text_if<R: Reader>(string: &Option<R>) -> Result<&str, Error>
     }
 }
 
-/// The directory that a unit was compiled in, where its string can be read.
-fn directory<R: Reader>(
-    strings: &StringSections<R>,
-    format: Format,
-    root: &SplitAttributes<R>,
-    base: u64,
-) -> Option<R>
-    requires { base ≡ spec.base_of (attributes_of R.input root.now) }
-    ensures { option_map R.input result ≡ spec.directory_of (strings_of R.input strings.now) format
-        (attributes_of R.input root.now) }
-{
-    attr_string(strings, format, base, &root.comp_dir?).ok()
-}
-
 /// The path of the split object that an attribute of a root entry names: `GimliRead` where a string
 /// can't be read or isn't UTF-8. A directory whose string can't be read is absent.
 #[tactic(auto, unfolding(crate::specs::Paths::object_path))]
-pub(crate) fn object_path<R: Reader>(
+fn object_path<R: Reader>(
     alloc: Global,
     strings: &StringSections<R>,
     format: Format,
@@ -80,7 +111,101 @@ pub(crate) fn object_path<R: Reader>(
     let base = root.str_offsets_base.unwrap_or(0);
     let name = attr_string(strings, format, base, name)?;
     let name = text(&name)?;
-    let directory = directory(strings, format, root, base);
+    let directory = match &root.comp_dir {
+        Some(directory) => attr_string(strings, format, base, directory).ok(),
+        None => None,
+    };
     let directory = text_if(&directory)?;
     Ok(path_in(alloc, directory, name)?)
+}
+
+/// The index that an attribute has as its value.
+#[tactic(auto, unfolding(dwp_dwarf::specs::Strings::string_of))]
+fn string_index<R: Reader>(
+    format: Format,
+    base: u64,
+    attribute: &Attribute<R>,
+) -> Option<StringPlace>
+    ensures { IfSome result (IsStringAt format base (attribute_of R.input attribute.now)) }
+{
+    let mut value = attribute.value;
+    let index = match attribute.form {
+        DW_FORM_STRX | DW_FORM_GNU_STR_INDEX => value.read_uleb128().ok()?,
+        DW_FORM_STRX1 => u64::from(value.read_u8().ok()?),
+        DW_FORM_STRX2 => u64::from(value.read_u16().ok()?),
+        DW_FORM_STRX3 => u64::from(value.read_u24().ok()?),
+        DW_FORM_STRX4 => u64::from(value.read_u32().ok()?),
+        _ => return None,
+    };
+    Some(StringPlace::Indexed(format, base, index))
+}
+
+/// Where the string of an attribute stands.
+#[tactic(auto, unfolding(dwp_dwarf::specs::Strings::string_of))]
+fn string_place<R: Reader>(
+    format: Format,
+    base: u64,
+    attribute: &Attribute<R>,
+) -> Option<StringPlace>
+    ensures { IfSome result (IsStringAt format base (attribute_of R.input attribute.now)) }
+{
+    let mut value = attribute.value;
+    match attribute.form {
+        DW_FORM_STRP => Some(StringPlace::Str(value.read_offset(format).ok()?)),
+        DW_FORM_LINE_STRP => Some(StringPlace::LineStr(value.read_offset(format).ok()?)),
+        _ => string_index(format, base, attribute),
+    }
+}
+
+/// Where the strings of the path stand that an attribute of a root entry names; none where one of
+/// them is in the unit.
+#[tactic(auto, using(crate::proofs::SamePaths::path_with, crate::proofs::SamePaths::path_without))]
+fn path_places<R: Reader>(
+    format: Format,
+    root: &SplitAttributes<R>,
+    name: &Attribute<R>,
+) -> Option<PathPlaces>
+    ensures { IfSome result (IsPathAt format (attributes_of R.input root.now)
+        (attribute_of R.input name.now)) }
+{
+    let base = root.str_offsets_base.unwrap_or(0);
+    let name = string_place(format, base, name)?;
+    let directory = match &root.comp_dir {
+        Some(directory) => Some(string_place(format, base, directory)?),
+        None => None,
+    };
+    Some(PathPlaces { name, directory })
+}
+
+impl LastPath {
+    /// Makes it the path that an attribute of a root entry names. Answers whether it was that
+    /// before; then no string is read. Where it fails, the text stays.
+    #[tactic(auto, using(crate::proofs::SamePaths::kept_is, crate::proofs::SamePaths::kept_anew))]
+    pub fn set<R: Reader>(
+        &mut self,
+        strings: &StringSections<R>,
+        format: Format,
+        root: &SplitAttributes<R>,
+        name: &Attribute<R>,
+    ) -> Result<bool, Error>
+        requires { IsKept (strings_of R.input strings.now) self.old }
+        ensures meaning { Gives (λ _. string_bytes self.new.text) result
+            (spec.object_path (strings_of R.input strings.now) format
+            (attributes_of R.input root.now) (attribute_of R.input name.now)) }
+        ensures kept { IsKept (strings_of R.input strings.now) self.new }
+        ensures again { IfOk result (λ again. IsTrue again
+            → string_bytes self.new.text ≡ string_bytes self.old.text) }
+        ensures failed { OnErr result (string_bytes self.new.text ≡ string_bytes self.old.text) }
+    {
+        let places = path_places(format, root, name);
+        if let (Some(kept), Some(places)) = (self.places, places) {
+            if kept == places {
+                return Ok(true);
+            }
+        }
+        self.places = None;
+        self.text = object_path(self.alloc, strings, format, root, name)?;
+        self.places = places;
+        Ok(false)
+    }
 }

@@ -1,15 +1,15 @@
 //! The relocations of an executable's section (ELF gABI, "Relocation").
 
-ghost use Rattle.std.specs.Prelude.{◌≡◌, [], map, IfOk, IsTrue};
+ghost use Rattle.std.specs.Prelude.{◌≡◌, [], map, IfOk, IsTrue, MatchResult, None, Some};
+ghost use Rattle.std.specs.Prelude.{string_bytes};
+ghost use Rattle.dwp_elf_read.specs.declared.error.ReadError.TheVariants.{NameRange};
 ghost use Rattle.dwp_elf_read.specs.Relocation.{relocations_of};
 ghost use Rattle.dwp_elf_read.specs.View.{elf, file, section};
 ghost use Rattle.dwp_bytes.specs.Relocation.{ascends};
 ghost use Rattle.thorin_errors.specs.Answers.{Gives, MemoryAside};
-ghost use Rattle.thorin_errors.specs.Errors.{error_of};
-ghost use Rattle.thorin_executable.specs.Relocations.{at_place, is_absolute, pair_of};
-ghost use Rattle.thorin_executable.specs.Relocations.{relocation_of, with_relocation};
+ghost use Rattle.thorin_errors.specs.Errors.{error_of, NamelessSection};
+ghost use Rattle.thorin_executable.specs.Relocations.{is_absolute, pair_of, with_relocation};
 ghost use Rattle.thorin_executable.specs.Relocations.{with_relocations};
-ghost use Rattle.thorin_executable.specs.Flaws.{flaw_error};
 
 use dwp_bytes::{Relocation, RelocationEntry};
 use dwp_elf_read::{ElfFile, RawRelocation, Section};
@@ -24,37 +24,6 @@ const EM_X86_64: u16 = 62;
 
 const EM_AARCH64: u16 = 183;
 
-/// The types of relocations that store a symbol's value plus an addend (the processor supplements).
-const R_X86_64_64: u32 = 1;
-
-const R_X86_64_32: u32 = 10;
-
-const R_X86_64_32S: u32 = 11;
-
-const R_X86_64_16: u32 = 12;
-
-const R_X86_64_8: u32 = 14;
-
-const R_386_32: u32 = 1;
-
-const R_386_16: u32 = 20;
-
-const R_386_8: u32 = 22;
-
-const R_AARCH64_ABS64: u32 = 257;
-
-const R_AARCH64_ABS32: u32 = 258;
-
-const R_AARCH64_ABS16: u32 = 259;
-
-/// Why a relocation can't be used.
-#[derive(Clone, Copy)]
-enum Flaw {
-    Unsupported,
-    InvalidSymbol,
-    Repeated,
-}
-
 /// The relocations of a section of an executable, in order of place, no two at one place; the value
 /// of the symbol is added to each addend.
 ///
@@ -64,6 +33,7 @@ enum Flaw {
 /// `RelocationWithInvalidSymbol` for a symbol that can't be read; `MultipleRelocations` for a
 /// second relocation at one place. These three name the section: where its name can't be read, the
 /// error is `NamelessSection`. Beside these `Memory` alone.
+#[tactic(auto, unfolding(crate::specs::Relocations::with_relocations))]
 pub fn add_relocations(
     alloc: Global,
     executable: &ElfFile,
@@ -74,30 +44,16 @@ pub fn add_relocations(
         (relocations_of (file target.now) (section target.now).number) []) }
     ensures ascends { IfOk result (λ list. IsTrue (ascends list.items)) }
 {
-    let found = found_relocations(alloc, executable, target)?;
-    Ok(listed(alloc, &found)?)
-}
-
-/// The relocations of a section by their places, or the first error in file order.
-#[tactic(auto, unfolding(crate::specs::Relocations::with_relocations))]
-fn found_relocations(
-    alloc: Global,
-    executable: &ElfFile,
-    target: &Section,
-) -> Result<BTreeMap<usize, Relocation>, Error>
-    ensures { Gives (λ found. found.entries) result
-        (with_relocations (elf executable.now) (section target.now).name
-        (relocations_of (file target.now) (section target.now).number) []) }
-{
     let mut found = BTreeMap::new(alloc);
     for raw in target.relocations() {
         add_relocation(alloc, executable, target, &raw?, &mut found)?;
     }
-    Ok(found)
+    Ok(listed(alloc, &found)?)
 }
 
-/// Adds a relocation to those found; a second at a place is an error.
-#[tactic(auto, unfolding(crate::specs::Relocations::with_relocation))]
+/// Adds what a relocation makes of the number at its place to those found; a second at a place is
+/// an error.
+#[tactic(auto, unfolding(crate::specs::Relocations::with_relocation, crate::specs::Relocations::relocation_of))]
 fn add_relocation(
     alloc: Global,
     executable: &ElfFile,
@@ -108,69 +64,49 @@ fn add_relocation(
     ensures { Gives (λ _. found.new.entries) result
         (with_relocation (elf executable.now) (section target.now).name raw.now found.old.entries) }
 {
-    let relocation = relocation(alloc, executable, target, raw)?;
     let place = raw.offset as usize;
+    if !is_absolute(executable.machine(), raw.kind) {
+        return Err(Error::UnsupportedRelocation(name_at(alloc, target, place)?, place));
+    }
+    let Ok(value) = executable.symbol_value(raw.table, raw.symbol) else {
+        return Err(Error::RelocationWithInvalidSymbol(name_at(alloc, target, place)?, place));
+    };
+    let relocation = Relocation {
+        addend: raw.addend.cast_unsigned().wrapping_add(value),
+        implicit_addend: raw.implicit_addend,
+    };
     if found.insert(place, relocation)?.is_some() {
-        return Err(flawed(alloc, target, Flaw::Repeated, place));
+        return Err(Error::MultipleRelocations(name_at(alloc, target, place)?, place));
     }
     Ok(())
 }
 
-/// What a relocation makes of the number at its place.
-#[tactic(auto, unfolding(crate::specs::Relocations::relocation_of))]
-fn relocation(
-    alloc: Global,
-    executable: &ElfFile,
-    target: &Section,
-    raw: &RawRelocation,
-) -> Result<Relocation, Error>
-    ensures { Gives (λ r. r) result
-        (relocation_of (elf executable.now) (section target.now).name raw.now) }
-{
-    let place = raw.offset as usize;
-    if !is_absolute(executable.machine(), raw.kind) {
-        return Err(flawed(alloc, target, Flaw::Unsupported, place));
-    }
-    match executable.symbol_value(raw.table, raw.symbol) {
-        Ok(value) => Ok(Relocation {
-            addend: raw.addend.cast_unsigned().wrapping_add(value),
-            implicit_addend: raw.implicit_addend,
-        }),
-        Err(_) => Err(flawed(alloc, target, Flaw::InvalidSymbol, place)),
-    }
-}
-
-/// Whether a relocation of this type stores a symbol's value plus an addend.
+/// Whether a relocation of this type stores a symbol's value plus an addend (the processor
+/// supplements).
 fn is_absolute(machine: u16, kind: u32) -> bool
     ensures { result ≡ is_absolute machine kind }
 {
     match machine {
-        EM_X86_64 => matches!(
-            kind,
-            R_X86_64_64 | R_X86_64_32 | R_X86_64_32S | R_X86_64_16 | R_X86_64_8
-        ),
-        EM_386 => matches!(kind, R_386_32 | R_386_16 | R_386_8),
-        EM_AARCH64 => matches!(kind, R_AARCH64_ABS64 | R_AARCH64_ABS32 | R_AARCH64_ABS16),
+        // R_X86_64_64, R_X86_64_32, R_X86_64_32S, R_X86_64_16, R_X86_64_8
+        EM_X86_64 => matches!(kind, 1 | 10 | 11 | 12 | 14),
+        // R_386_32, R_386_16, R_386_8
+        EM_386 => matches!(kind, 1 | 20 | 22),
+        // R_AARCH64_ABS64, R_AARCH64_ABS32, R_AARCH64_ABS16
+        EM_AARCH64 => matches!(kind, 257 | 258 | 259),
         _ => false,
     }
 }
 
-/// The error of a relocation, with the section's name.
-fn flawed(alloc: Global, target: &Section, flaw: Flaw, place: usize) -> Error
-    ensures { MemoryAside result (error_of result
-        ≡ at_place (flaw_error flaw) (section target.now).name place) }
+/// The name of a section for the error of a relocation at a place in it: where it can't be read,
+/// the error is `NamelessSection`.
+fn name_at(alloc: Global, target: &Section, place: usize) -> Result<String, Error>
+    ensures { MatchResult result (λ name. (section target.now).name ≡ Some (string_bytes name))
+        (λ e. MemoryAside e (((section target.now).name ≡ None)
+        × (error_of e ≡ NamelessSection NameRange place))) }
 {
-    let name = match target.name() {
-        Ok(name) => name,
-        Err(error) => return Error::NamelessSection(error, place),
-    };
-    let Ok(name) = String::from_str(alloc, name) else {
-        return Error::Memory;
-    };
-    match flaw {
-        Flaw::Unsupported => Error::UnsupportedRelocation(name, place),
-        Flaw::InvalidSymbol => Error::RelocationWithInvalidSymbol(name, place),
-        Flaw::Repeated => Error::MultipleRelocations(name, place),
+    match target.name() {
+        Ok(name) => Ok(String::from_str(alloc, name)?),
+        Err(error) => Err(Error::NamelessSection(error, place)),
     }
 }
 

@@ -1,6 +1,6 @@
 use Rattle.std.proofs.Common.{arith}
 use Rattle.thorin_executable.specs.Sections.{loaded}
-use Rattle.thorin_executable.proofs.Loads.{loaded_is}
+use Rattle.thorin_executable.proofs.ByPlace.{loaded_is}
 use Rattle.thorin_executable.proofs.loading.load.Goals as goal
 
 pub returns : goal.returns

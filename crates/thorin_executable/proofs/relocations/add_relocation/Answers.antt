@@ -1,7 +1,7 @@
 use Rattle.std.proofs.Common.{rules}
-use Rattle.thorin_executable.specs.Relocations.{with_relocation}
+use Rattle.thorin_executable.specs.Relocations.{relocation_of, with_relocation}
 use Rattle.thorin_executable.proofs.relocations.add_relocation.Goals as goal
 
 pub returns : goal.returns
-unfolding with_relocation
+unfolding with_relocation relocation_of
 returns c = search rules

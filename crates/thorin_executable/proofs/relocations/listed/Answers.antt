@@ -1,6 +1,6 @@
 use Rattle.std.proofs.Common.{arith}
 use Rattle.std.proofs.lemmas.Grind.{common_steps}
-use Rattle.thorin_executable.proofs.Ascending.{ascends_pairs}
+use Rattle.thorin_executable.proofs.ByPlace.{ascends_pairs}
 use Rattle.thorin_executable.proofs.relocations.listed.Goals as goal
 
 pub returns-clause-ascends : goal.returns-clause-ascends

@@ -2,7 +2,7 @@ use Rattle.std.proofs.Common.{◌≡◌, []}
 use Rattle.dwp_elf_read.specs.Relocation.{relocations_of}
 use Rattle.dwp_elf_read.specs.View.{elf, file, section, relocations_left}
 use Rattle.thorin_executable.specs.Relocations.{with_relocations}
-use Rattle.thorin_executable.proofs.relocations.found_relocations.Given as goal
+use Rattle.thorin_executable.proofs.relocations.add_relocations.Given as goal
 
 -- those found and those left have the meaning of all
 abbrev pub invariant-loop-raw : goal.invariant-loop-raw

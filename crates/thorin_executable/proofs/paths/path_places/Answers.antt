@@ -2,8 +2,8 @@ use Rattle.std.proofs.Common.{◌≡◌, Some, ap, rules, option_map}
 use Rattle.dwp_dwarf.specs.Attributes.{attribute_of}
 use Rattle.dwp_dwarf.specs.Split.{attributes_of}
 use Rattle.thorin_executable.specs.Paths.{base_of}
-use Rattle.thorin_executable.proofs.Places.{path_with}
-use Rattle.thorin_executable.proofs.last.PathPlaces.of.Goals as goal
+use Rattle.thorin_executable.proofs.SamePaths.{path_with}
+use Rattle.thorin_executable.proofs.paths.path_places.Goals as goal
 
 pub returns-in_ok-string_place-in-Some : goal.returns-in_ok-string_place-in-Some
 returns-in_ok-string_place-in-Some g c =
