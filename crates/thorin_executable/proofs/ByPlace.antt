@@ -11,7 +11,6 @@ use Rattle.dwp_bytes.specs.Input.{section as input_section}
 use Rattle.dwp_bytes.specs.Relocation.{ascends, relocated_input}
 use Rattle.thorin_executable.specs.Relocations.{pair_of, with_relocations}
 use Rattle.thorin_executable.specs.Sections.{entry_of, debug_content, loaded}
-use Rattle.thorin_executable.specs.declared.loading.DebugSection.{DebugSection}
 
 abbrev places : List RelocationEntry → List ℕ
 places es = map (λ (e : RelocationEntry). e.offset) es
@@ -40,13 +39,14 @@ pub entries-again : (entries : List RelocationEntry) → map entry_of (map pair_
 entries-again [] = refl
 entries-again (e ∷ es) = rw (entries-again es) refl
 
-pub loaded_is : (file target : Elf) (kind : DebugSection) (section : SectionMeaning)
+pub loaded_is : (file target : Elf) (older_name : List ℕ) (section : SectionMeaning)
     (bytes : List ℕ) (entries placed : List RelocationEntry) → target ≡ file
-    → debug_content kind section ≡ Ok bytes
+    → debug_content older_name section ≡ Ok bytes
     → with_relocations file section.name (relocations_of target section.number) [] ≡ Ok
     (map pair_of entries)
     → placed ≡ entries
-    → loaded file kind section ≡ Ok (relocated_input placed 0 (input_section file.order bytes))
+    → loaded file older_name section ≡ Ok (relocated_input placed 0
+    (input_section file.order bytes))
 unfolding loaded
-loaded_is file target kind section bytes entries placed same content found is =
+loaded_is file target older_name section bytes entries placed same content found is =
     let here = rw same at found in rw (content, here, entries-again entries, sym is)

@@ -17,25 +17,6 @@ use Rattle.dwp_dwarf.specs.Strings.{Strings}
 use Rattle.thorin_errors.specs.Errors.{ErrorValue, ParseObjectFile, DecompressData, ObjectRead}
 use Rattle.thorin_errors.specs.Answers.{as_error}
 use Rattle.thorin_executable.specs.Relocations.{with_relocations}
-use Rattle.thorin_executable.specs.declared.loading.DebugSection.{DebugSection}
-use Rattle.thorin_executable.specs.declared.loading.DebugSection.TheVariants.{Abbrev, Info, LineStr}
-use Rattle.thorin_executable.specs.declared.loading.DebugSection.TheVariants.{Str, StrOffsets}
-
--- the bytes of a section's name
-abbrev pub debug_name_of : DebugSection → List ℕ
-debug_name_of Abbrev = codes ".debug_abbrev"
-debug_name_of Info = codes ".debug_info"
-debug_name_of LineStr = codes ".debug_line_str"
-debug_name_of Str = codes ".debug_str"
-debug_name_of StrOffsets = codes ".debug_str_offsets"
-
--- its older name where its content is compressed
-abbrev pub compressed_debug_name_of : DebugSection → List ℕ
-compressed_debug_name_of Abbrev = codes ".zdebug_abbrev"
-compressed_debug_name_of Info = codes ".zdebug_info"
-compressed_debug_name_of LineStr = codes ".zdebug_line_str"
-compressed_debug_name_of Str = codes ".zdebug_str"
-compressed_debug_name_of StrOffsets = codes ".zdebug_str_offsets"
 
 -- a section has no bytes
 abbrev pub is_empty : SectionMeaning → Bool
@@ -45,17 +26,10 @@ is_empty section = section.size == 0 || section.kind == SHT_NOBITS
 unfoldable pub is_used : List ℕ → SectionMeaning → Bool
 is_used name section = not (is_empty section) && is_named name section
 
--- the section of a kind that is read: the first of its name that has bytes; where there is none,
--- that of its older name
-unfoldable pub section_read : DebugSection → List SectionMeaning → Option SectionMeaning
-section_read kind sections =
-    option_or (find (is_used (debug_name_of kind)) sections)
-    (find (is_used (compressed_debug_name_of kind)) sections)
-
 -- a section's content, which may not be compressed
-unfoldable pub debug_content : DebugSection → SectionMeaning → Result (List ℕ) ErrorValue
-debug_content kind section =
-    if has_compressed_flag section || is_named (compressed_debug_name_of kind) section
+unfoldable pub debug_content : List ℕ → SectionMeaning → Result (List ℕ) ErrorValue
+debug_content older_name section =
+    if has_compressed_flag section || is_named older_name section
     then Err (DecompressData Compressed)
     else as_error ObjectRead (ok_or section.content SectionRange)
 
@@ -69,20 +43,22 @@ relocated_section order bytes relocations =
     relocated_input (map entry_of relocations) 0 (section order bytes)
 
 -- what there is to read of a section: its content is tested before its relocations
-unfoldable pub loaded : Elf → DebugSection → SectionMeaning → Result Input ErrorValue
-loaded file kind section = do
-  bytes ← debug_content kind section
+unfoldable pub loaded : Elf → List ℕ → SectionMeaning → Result Input ErrorValue
+loaded file older_name section = do
+  bytes ← debug_content older_name section
   relocations ← with_relocations file section.name (relocations_of file section.number) []
   Ok (relocated_section file.order bytes relocations)
 
 -- the same of a section that may be absent, which is as an empty one
-abbrev pub loaded_if : Elf → DebugSection → Option SectionMeaning → Result Input ErrorValue
-loaded_if file kind None = Ok (relocated_section file.order [] [])
-loaded_if file kind (Some section) = loaded file kind section
+abbrev pub loaded_if : Elf → List ℕ → Option SectionMeaning → Result Input ErrorValue
+loaded_if file older_name None = Ok (relocated_section file.order [] [])
+loaded_if file older_name (Some section) = loaded file older_name section
 
--- what there is to read of the section of a kind
-unfoldable pub loaded_first : Elf → DebugSection → Result Input ErrorValue
-loaded_first file kind = loaded_if file kind (section_read kind file.sections)
+-- what there is to read of the first section of a name that has bytes; where there is none, of that
+-- of its older name
+unfoldable pub loaded_first : Elf → List ℕ → List ℕ → Result Input ErrorValue
+loaded_first file name older_name = loaded_if file older_name
+    (option_or (find (is_used name) file.sections) (find (is_used older_name) file.sections))
 
 -- the units of an executable, their abbreviations and their strings
 pub record DebugData : Type 0 where
@@ -90,14 +66,14 @@ pub record DebugData : Type 0 where
   pub debug_info : Input
   pub strings : Strings
 
--- those of an ELF file
+-- those of an ELF file; a section whose content is compressed may have an older name
 unfoldable pub debug_data : Elf → Result DebugData ErrorValue
 debug_data file = do
-  debug_abbrev ← loaded_first file Abbrev
-  debug_info ← loaded_first file Info
-  debug_line_str ← loaded_first file LineStr
-  debug_str ← loaded_first file Str
-  debug_str_offsets ← loaded_first file StrOffsets
+  debug_abbrev ← loaded_first file (codes ".debug_abbrev") (codes ".zdebug_abbrev")
+  debug_info ← loaded_first file (codes ".debug_info") (codes ".zdebug_info")
+  debug_line_str ← loaded_first file (codes ".debug_line_str") (codes ".zdebug_line_str")
+  debug_str ← loaded_first file (codes ".debug_str") (codes ".zdebug_str")
+  debug_str_offsets ← loaded_first file (codes ".debug_str_offsets") (codes ".zdebug_str_offsets")
   Ok (record {
     debug_abbrev = debug_abbrev;
     debug_info = debug_info;

@@ -1,6 +1,7 @@
 //! The sections of an executable that are read.
 
 ghost use Rattle.std.specs.Prelude.{◌≡◌, find, option_map, IfSome, IsTrue};
+ghost use Rattle.std.specs.Option.{option_or};
 ghost use Rattle.dwp_bytes.specs.Input.{section};
 ghost use Rattle.dwp_bytes.specs.Relocation.{ascends, relocated_input};
 ghost use Rattle.dwp_elf_read.specs.View.{elf, file as file_of, section as meaning};
@@ -75,48 +76,6 @@ impl<'a> Reader for SectionReader<'a> {
     }
 }
 
-/// A section of an executable that is read.
-#[derive(Clone, Copy)]
-pub(crate) enum DebugSection {
-    /// Abbreviations.
-    Abbrev,
-    /// Units.
-    Info,
-    /// Strings of line tables.
-    LineStr,
-    /// Strings.
-    Str,
-    /// Offsets of strings.
-    StrOffsets,
-}
-
-impl DebugSection {
-    fn name(self) -> &'static str
-        ensures { result.now ≡ spec.debug_name_of self }
-    {
-        match self {
-            DebugSection::Abbrev => ".debug_abbrev",
-            DebugSection::Info => ".debug_info",
-            DebugSection::LineStr => ".debug_line_str",
-            DebugSection::Str => ".debug_str",
-            DebugSection::StrOffsets => ".debug_str_offsets",
-        }
-    }
-
-    /// The older name of a section whose content is compressed.
-    fn compressed_name(self) -> &'static str
-        ensures { result.now ≡ spec.compressed_debug_name_of self }
-    {
-        match self {
-            DebugSection::Abbrev => ".zdebug_abbrev",
-            DebugSection::Info => ".zdebug_info",
-            DebugSection::LineStr => ".zdebug_line_str",
-            DebugSection::Str => ".zdebug_str",
-            DebugSection::StrOffsets => ".zdebug_str_offsets",
-        }
-    }
-}
-
 /// The units of an executable, their abbreviations and their strings: readers at the start of each
 /// section.
 #[derive(Clone, Copy)]
@@ -126,23 +85,15 @@ pub(crate) struct DebugData<R> {
     pub strings: StringSections<R>,
 }
 
-/// Whether a section has a name, and isn't empty.
-#[tactic(auto, unfolding(crate::specs::Sections::is_used))]
-fn is_used(section: &Section<'_>, name: &str) -> bool
-    ensures { result ≡ spec.is_used name.now (meaning section.now) }
-{
-    !section.is_empty() && section.is_called(name)
-}
-
 /// The first section of a name that isn't empty.
-#[tactic(auto, using(dwp_base::proofs::Finds::find_hit, dwp_base::proofs::Finds::find_miss, dwp_base::proofs::Finds::slice_get_none))]
+#[tactic(auto, using(dwp_base::proofs::Finds::find_hit, dwp_base::proofs::Finds::find_miss, dwp_base::proofs::Finds::slice_get_none), unfolding(crate::specs::Sections::is_used))]
 fn find_named<'a>(file: &ElfFile<'a>, name: &str) -> Option<Section<'a>>
     ensures found { option_map meaning result ≡ find (spec.is_used name.now) (elf file.now).sections }
     ensures in_file { IfSome result (λ s. file_of s ≡ elf file.now) }
 {
     for i in 0..file.section_count() {
         if let Some(section) = file.section(i) {
-            if is_used(&section, name) {
+            if !section.is_empty() && section.is_called(name) {
                 return Some(section);
             }
         }
@@ -150,26 +101,28 @@ fn find_named<'a>(file: &ElfFile<'a>, name: &str) -> Option<Section<'a>>
     None
 }
 
-/// The section of a kind that is read: the first of its name that isn't empty; where there is none,
-/// that of its older name.
-#[tactic(auto, unfolding(crate::specs::Sections::section_read))]
-fn find_section<'a>(file: &ElfFile<'a>, kind: DebugSection) -> Option<Section<'a>>
-    ensures found { option_map meaning result ≡ spec.section_read kind (elf file.now).sections }
+/// The section of a name that is read: the first of it that isn't empty; where there is none, that
+/// of its older name.
+fn find_section<'a>(file: &ElfFile<'a>, name: &str, older_name: &str) -> Option<Section<'a>>
+    ensures found { option_map meaning result ≡ option_or
+        (find (spec.is_used name.now) (elf file.now).sections)
+        (find (spec.is_used older_name.now) (elf file.now).sections) }
     ensures in_file { IfSome result (λ s. file_of s ≡ elf file.now) }
 {
-    match find_named(file, kind.name()) {
+    match find_named(file, name) {
         Some(section) => Some(section),
-        None => find_named(file, kind.compressed_name()),
+        None => find_named(file, older_name),
     }
 }
 
 /// The content of a section: `DecompressData` where it is compressed, `ObjectRead` where it is
 /// outside the file.
 #[tactic(auto, unfolding(crate::specs::Sections::debug_content))]
-fn content<'a>(section: &Section<'a>, kind: DebugSection) -> Result<&'a [u8], Error>
-    ensures { Gives (λ bytes. bytes.now) result (spec.debug_content kind (meaning section.now)) }
+fn content<'a>(section: &Section<'a>, older_name: &str) -> Result<&'a [u8], Error>
+    ensures { Gives (λ bytes. bytes.now) result
+        (spec.debug_content older_name.now (meaning section.now)) }
 {
-    if section.is_compressed() || section.is_called(kind.compressed_name()) {
+    if section.is_compressed() || section.is_called(older_name) {
         return Err(Error::DecompressData(ReadError::Compressed));
     }
     section.data().map_err(Error::ObjectRead)
@@ -182,31 +135,32 @@ fn load<'a, Sess: Session<RelocationEntry>>(
     session: &'a Sess,
     file: &ElfFile<'a>,
     section: &Section<'a>,
-    kind: DebugSection,
+    older_name: &str,
 ) -> Result<SectionReader<'a>, Error>
     requires { file_of section.now ≡ elf file.now }
     ensures { Gives ⟦<SectionReader<'a> as Reader>⟧.input result
-        (spec.loaded (elf file.now) kind (meaning section.now)) }
+        (spec.loaded (elf file.now) older_name.now (meaning section.now)) }
 {
-    let bytes = content(section, kind)?;
+    let bytes = content(section, older_name)?;
     let found = add_relocations(alloc, file, section)?;
     let relocations = session.alloc_relocation(&found)?;
     Ok(SectionReader::new(relocations, bytes, file.endianness()))
 }
 
-/// A reader of the section of a kind; of no bytes where there is none.
+/// A reader of the section of a name; of no bytes where there is none.
 #[tactic(auto, unfolding(crate::specs::Sections::loaded_first))]
 fn load_first<'a, Sess: Session<RelocationEntry>>(
     alloc: Global,
     session: &'a Sess,
     file: &ElfFile<'a>,
-    kind: DebugSection,
+    name: &str,
+    older_name: &str,
 ) -> Result<SectionReader<'a>, Error>
     ensures { Gives ⟦<SectionReader<'a> as Reader>⟧.input result
-        (spec.loaded_first (elf file.now) kind) }
+        (spec.loaded_first (elf file.now) name.now older_name.now) }
 {
-    match find_section(file, kind) {
-        Some(section) => load(alloc, session, file, &section, kind),
+    match find_section(file, name, older_name) {
+        Some(section) => load(alloc, session, file, &section, older_name),
         None => Ok(SectionReader::new(&[], &[], file.endianness())),
     }
 }
@@ -222,11 +176,23 @@ impl<'a> DebugData<SectionReader<'a>> {
         ensures { Gives (data_of ⟦<SectionReader<'a> as Reader>⟧.input) result
             (spec.debug_data (elf file.now)) }
     {
-        let debug_abbrev = load_first(alloc, session, file, DebugSection::Abbrev)?;
-        let debug_info = load_first(alloc, session, file, DebugSection::Info)?;
-        let debug_line_str = load_first(alloc, session, file, DebugSection::LineStr)?;
-        let debug_str = load_first(alloc, session, file, DebugSection::Str)?;
-        let debug_str_offsets = load_first(alloc, session, file, DebugSection::StrOffsets)?;
+        let debug_abbrev = load_first(alloc, session, file, ".debug_abbrev", ".zdebug_abbrev")?;
+        let debug_info = load_first(alloc, session, file, ".debug_info", ".zdebug_info")?;
+        let debug_line_str = load_first(
+            alloc,
+            session,
+            file,
+            ".debug_line_str",
+            ".zdebug_line_str",
+        )?;
+        let debug_str = load_first(alloc, session, file, ".debug_str", ".zdebug_str")?;
+        let debug_str_offsets = load_first(
+            alloc,
+            session,
+            file,
+            ".debug_str_offsets",
+            ".zdebug_str_offsets",
+        )?;
         let strings = StringSections {
             debug_str,
             debug_line_str,
