@@ -1,0 +1,37 @@
+-- Ranges of a section in the order of their places.
+use Rattle.std.specs.Prelude.{◌≡◌, ◌⊎◌, ◌+◌, ◌≤◌, List, Option, Some, None, if◌then◌else◌}
+use Rattle.std.specs.List.{Contains}
+use Rattle.dwp_base.specs.declared.section.Contribution.{Contribution}
+use Rattle.dwp_base.specs.declared.section.SectionKind.{SectionKind}
+use Rattle.dwp_base.specs.declared.section.SectionKind.TheVariants.{Abbrev}
+use Rattle.dwp_index.specs.Package.{Package}
+use Rattle.dwp_index.specs.declared.units.UnitEntry.{UnitEntry}
+use Rattle.thorin_check.specs.Overlaps.{has_units, slot_range}
+use Rattle.thorin_check.specs.declared.overlaps.Placed.{Placed}
+
+-- two ranges are the same, and so are the abbreviations of their rows
+abbrev pub IsSame : Placed → Placed → Type 0
+IsSame a b = (a.offset ≡ b.offset) × (a.size ≡ b.size) × (a.tables ≡ b.tables)
+
+-- they are, or the first ends where the second begins, or before
+abbrev pub IsApart : Placed → Placed → Type 0
+IsApart a b = IsSame a b ⊎ (a.offset + a.size ≤ b.offset)
+
+abbrev pub IsLast : Option Placed → Placed → Type 0
+IsLast None range = ⊥
+IsLast (Some last) range = IsSame last range
+
+-- the abbreviations of a row, where a section has the bytes of units
+abbrev pub tables_by : SectionKind → (abbreviations : Option Contribution) → Option Contribution
+tables_by kind abbreviations = if has_units kind then abbreviations else None
+
+-- a range is among some, with these abbreviations
+abbrev pub HasRange : List Placed → Contribution → (tables : Option Contribution) → Type 0
+HasRange ranges range tables = (placed : Placed) × Contains ranges placed
+    × (placed.offset ≡ range.offset.0) × (placed.size ≡ range.size) × (placed.tables ≡ tables)
+
+-- those of a section that the rows have which these slots name
+abbrev pub HasRanges : Package → List UnitEntry → SectionKind → List Placed → Type 0
+HasRanges pack slots kind ranges = (slot : UnitEntry) → Contains slots slot
+    → (range : Contribution) → slot_range pack slot kind ≡ Some range
+    → HasRange ranges range (tables_by kind (slot_range pack slot Abbrev))
