@@ -34,7 +34,7 @@ struct NamedObject<'u> {
 
 /// What is known of the objects of the units so far.
 #[derive(Drop)]
-struct Known {
+struct SeenObjects {
     /// Whether that of the unit before can't be read, and is passed over.
     is_unread: bool,
     /// What each of those adds, by its path, that adds no unit and no string when it is taken
@@ -199,7 +199,7 @@ impl<'output, 'session: 'output, Sess: Session<RelocationEntry>> DwarfPackage<
             (R.declines reader.now) missing units.old.listed self.old.state) }
         ensures session { self.new.session ≡ self.old.session }
     {
-        let mut known = Known {
+        let mut known = SeenObjects {
             is_unread: false,
             taken: IndexMap::new(self.alloc),
         };
@@ -236,7 +236,7 @@ impl<'output, 'session: 'output, Sess: Session<RelocationEntry>> DwarfPackage<
         room: &mut Vec<u8>,
         named: NamedObject<'_>,
         missing: MissingReferencedObjectBehaviour,
-        known: &mut Known,
+        known: &mut SeenObjects,
     ) -> Result<(), NotTaken<Error, R::Refusal>>
         requires unread { IsUnread (R.offer reader.now named.path.now) missing known.old.is_unread }
         requires known { AreTaken (R.offer reader.now) known.old.taken.entries
@@ -289,7 +289,7 @@ impl<'output, 'session: 'output, Sess: Session<RelocationEntry>> DwarfPackage<
         room: &mut Vec<u8>,
         named: NamedObject<'_>,
         missing: MissingReferencedObjectBehaviour,
-        known: &mut Known,
+        known: &mut SeenObjects,
     ) -> Result<(), NotTaken<Error, R::Refusal>>
         requires unread { IsUnread (R.offer reader.now named.path.now) missing known.old.is_unread }
         requires known { AreTaken (R.offer reader.now) known.old.taken.entries
