@@ -5,7 +5,7 @@
 mod again;
 mod inputs;
 mod own;
-mod plain;
+mod written;
 
 pub use again::written_packages_mean_their_units;
 pub use inputs::{
@@ -17,7 +17,7 @@ pub use own::{
     identities_stay_in_longer_abbreviations, one_encoding_is_kept,
     own_packages_are_taken_up_to_their_parts,
 };
-pub use plain::{
+pub use written::{
     own_packages_are_accepted, own_packages_are_accepted_by_a_new_one,
     own_string_offsets_are_rewritten, own_units_are_taken, plain_packages_are_kept,
 };

@@ -2,6 +2,7 @@
 //! library, and states its clauses again. `include/thorin.h` declares them.
 #![tactic(auto)]
 
+mod decompressing;
 mod error;
 mod finding;
 mod inside;
@@ -9,7 +10,6 @@ mod listing;
 mod opened;
 mod opening;
 mod packing;
-mod plain;
 mod session;
 mod skeletons;
 mod status;
@@ -17,6 +17,7 @@ mod types;
 mod units;
 mod version;
 
+pub use decompressing::thorin_decompress;
 pub use finding::{thorin_content, thorin_find, thorin_find_each, thorin_find_rows, thorin_string};
 pub use inside::{
     thorin_content_in, thorin_find_in, thorin_find_row_in, thorin_list_in, thorin_string_in,
@@ -24,7 +25,6 @@ pub use inside::{
 pub use listing::{thorin_list, thorin_unit_count};
 pub use opening::thorin_open;
 pub use packing::{thorin_differing_types, thorin_pack};
-pub use plain::thorin_decompress;
 pub use skeletons::thorin_skeletons;
 pub use types::{
     ThorinBytes, ThorinLookup, ThorinName, ThorinPackage, ThorinRange, ThorinReport,

@@ -1,7 +1,7 @@
 use Rattle.thorin_again.proofs.Terms.{inr, IsForeseen, refl}
 use Rattle.thorin_again.proofs.Opened.Indexes.{own-plain, read-of}
 use Rattle.thorin_again.proofs.Accepted.OwnUnits.{taken-all}
-use Rattle.thorin_again.proofs.plain.own_units_are_taken.Goals as goal
+use Rattle.thorin_again.proofs.written.own_units_are_taken.Goals as goal
 
 pub returns : goal.returns
 returns c state encoding file own made begun plain indexes read before =
