@@ -1,10 +1,8 @@
 -- Powers of two, odd steps round them, and what is one to one.
 use Rattle.std.proofs.Common.{◌≡◌, ℕ, zero, suc, ◌+◌, ◌-◌, ◌*◌, ◌/◌, ◌%◌, ◌^◌, ◌<◌, ◌≤◌, cond, ltb}
-use Rattle.std.proofs.Common.{refl, eqb, ◌≢◌, inl, inr, sym, ap, ◌∙◌, arith, ◌⊎◌, eq-eqb}
-use Rattle.std.proofs.Common.{count_ones}
+use Rattle.std.proofs.Common.{refl, eqb, inl, inr, sym, ap, ◌∙◌, arith, ◌⊎◌, eq-eqb, count_ones}
 use Rattle.std.proofs.Common.{bit_or, IsTrue, eqb-true, pow_pos, pow-suc, mod-lt, pow_mono}
 use Rattle.std.specs.Int.{is_power_of_two}
-use Rattle.std.proofs.lemmas.Bool.{eqb-false}
 use Rattle.std.proofs.lemmas.Bool.Decides.{nat_tests}
 use Rattle.std.proofs.lemmas.Nat.{zero_from_ones, ones_le_self, ones_cat, or_mod}
 use Rattle.std.proofs.Math.Nat.{mul-sub, div-add-mod, le_of_dvd, dvd-mul_right}
@@ -62,9 +60,12 @@ apart size k start step i j power odd less below same =
           (rw r.1 (dvd-mul_right (2 ^ k) r.0)),
     )
 
-pub one_slot : (size start step i j : ℕ) → IsTrue (is_power_of_two size) → step % 2 ≡ 1 → i < size
-    → j < size → (start + i * step) % size ≡ (start + j * step) % size → i ≡ j
-one_slot size start step i j power odd in_i in_j same =
+abbrev pub OneToOne : (ℕ → ℕ) → ℕ → Type 0
+OneToOne f n = (i j : ℕ) → i < n → j < n → f i ≡ f j → i ≡ j
+
+pub one_slot : (size start step : ℕ) → IsTrue (is_power_of_two size) → step % 2 ≡ 1
+    → OneToOne (λ i. (start + i * step) % size) size
+one_slot size start step power odd i j in_i in_j same =
     let k = exponent size power in
     let below = apart size k.0 start step i j k.1 odd in
     let above = apart size k.0 start step j i k.1 odd in
@@ -82,42 +83,28 @@ odd-or_one a = or_mod a 1 1 ∙ or_one (a % 2) (omega arith)
 abbrev pub Into : (ℕ → ℕ) → ℕ → ℕ → Type 0
 Into f n m = (i : ℕ) → i < n → f i < m
 
-abbrev pub OneToOne : (ℕ → ℕ) → ℕ → Type 0
-OneToOne f n = (i j : ℕ) → i < n → j < n → f i ≡ f j → i ≡ j
-
--- f, with what it gives at last wherever it gives m
-abbrev past : (ℕ → ℕ) → ℕ → ℕ → ℕ → ℕ
-past f m last i = cond (eqb (f i) m) (f last) (f i)
-
 -- no more things than holes, where no two are in one
 pub pigeonhole : (n m : ℕ) (f : ℕ → ℕ) → Into f n m → OneToOne f n → n ≤ m
 pigeonhole zero m f into one = omega arith
 pigeonhole (suc n) zero f into one = absurd (omega (arith, into n (omega arith)))
 pigeonhole (suc n) (suc m) f into one = omega (
   arith,
-  pigeonhole n m (past f m n)
+  -- (what the last thing has is where one has m)
+  pigeonhole n m (λ i. cond (eqb (f i) m) (f n) (f i))
       (λ i p. grind (arith, nat_tests, into i, into n, one i n))
       (λ i j p q e. grind (arith, nat_tests, one i j, one i n, one j n)),
 )
 
 -- ---- each hole is filled, where no two of as many things are in one
--- f, and v at n
-abbrev with_last : (ℕ → ℕ) → ℕ → ℕ → ℕ → ℕ
-with_last f n v i = cond (ltb i n) (f i) v
-
 surjective : (n : ℕ) (f : ℕ → ℕ) (v : ℕ) → v < n → Into f n n → OneToOne f n → (i : ℕ)
     × (i < n) × (f i ≡ v)
 surjective n f v below into one =
     elim (first_or_none (λ i. eqb (f i) v) n) [
       | inl w ↦ (w.0, w.1.within, eqb-true _ _ w.1.here)
       | inr none ↦
-          let other : (i : ℕ) → i < n → f i ≢ v = λ i h. eqb-false _ _ (none i h) in
-          absurd (omega (
-            arith,
-            pigeonhole (suc n) n (with_last f n v)
-                (λ i h. grind (arith, nat_tests, into i))
-                (λ i j p q e. grind (arith, nat_tests, one i j, other i, other j)),
-          ))
+          let few = pigeonhole (suc n) n (λ i. cond (ltb i n) (f i) v)
+          (λ i h. grind (arith, nat_tests, into i))
+          (λ i j p q e. grind (arith, nat_tests, one i j, none i, none j)) in absurd (omega arith)
     ]
 
 -- ---- going round by an odd step
@@ -126,11 +113,9 @@ pub visits_each_once : (size start step : ℕ) → IsTrue (is_power_of_two size)
 visits_each_once size start step power odd =
     let k = exponent size power in
     let pos : 0 < size = omega (arith, k.1, pow_pos k.0) in
-    let once : OneToOne (λ i. (start + i * step) % size) size = λ i j p q e.
-    one_slot size start step i j power odd p q e in
+    let once = one_slot size start step power odd in
     record {
-      each = λ slot below. surjective size (λ i. (start + i * step) % size) slot below (λ i p.
-          mod-lt _ pos) once;
+      each = λ slot below. surjective size _ slot below (λ i p. mod-lt _ pos) once;
       once = once;
     }
 
@@ -143,23 +128,15 @@ is_power k =
     eq-eqb (count_ones (2 ^ k)) 1 (ap count_ones (sym shifted) ∙ cut ∙ omega
     (arith, ones_step 1, ones_le_self 0))
 
--- a power below a power is at most half of it
-half_at_most : (j k : ℕ) → 2 ^ j < 2 ^ suc k → 2 * 2 ^ j ≤ 2 ^ suc k
-half_at_most j k below = elim (dec_lt k j) [
-  | yes p ↦ absurd (omega (arith, pow_mono {i = suc k} {j = j} (omega arith)))
-  | no p ↦ omega (arith, pow-suc 2 k, pow_mono {i = j} {j = k} (omega arith))
-]
-
 pub has_slots : (units size k : ℕ) → size ≡ 2 ^ suc k → (size ≡ 2) ⊎ (size ≤ units * 3)
     → 3 * units < 2 * size → HasSlots units size
 has_slots units size k power least above = record {
   few = λ h. elim least [ inl e ↦ e | inr low ↦ omega (arith, power, pow-suc 2 k, pow_pos k) ];
   power = λ h. rw power (is_power (suc k));
   above = λ h. above;
-  least = λ h other is more. let j = exponent other is in elim (dec_lt other size) [
-    | yes p ↦
-        let half = half_at_most j.0 k (omega (arith, j.1, power)) in
-        absurd (grind (arith, half, j.1, power, least))
-    | no p ↦ omega arith
+  -- (a power below it is at most half of it)
+  least = λ h other is more. let j = exponent other is in elim (dec_lt k j.0) [
+    | yes p ↦ omega (arith, j.1, power, pow_mono {i = suc k} {j = j.0} (omega arith))
+    | no p ↦ grind (arith, j.1, power, least, pow-suc 2 k, pow_mono {i = j.0} {j = k} (omega arith))
   ];
 }

@@ -10,11 +10,6 @@ use Rattle.dwp_table.proofs.Numbers.{exponent, odd-or_one, one_slot, OneToOne}
 pub positive : (size : ℕ) → IsTrue (is_power_of_two size) → 0 < size
 positive size power = let k = exponent size power in omega (arith, k.1, pow_pos k.0)
 
-pub masked : (size n : ℕ) → IsTrue (is_power_of_two size) → bit_and n (size - 1) ≡ n % size
-masked size n power =
-    let k = exponent size power in
-    rw k.1 (and_mask n k.0)
-
 pub place-lt : (size x i : ℕ) → IsTrue (is_power_of_two size) → place size x i < size
 unfolding place
 place-lt size x i power = mod-lt _ (positive size power)
@@ -25,10 +20,11 @@ unfolding place
 place-next size x i power =
     let start = bit_and x (size - 1) in
     let s = step size x in
+    let k = exponent size power in
     let more : start + (i + 1) * s ≡ (start + i * s) + s = omega arith in
-    ap (λ n. n % size) more ∙ sym (mod-add-mod (start + i * s) size s) ∙ sym (masked size _ power)
+    ap (λ n. n % size) more ∙ sym (mod-add-mod (start + i * s) size s)
+    ∙ rw k.1 (sym (and_mask _ k.0))
 
 pub places_apart : (size x : ℕ) → IsTrue (is_power_of_two size) → OneToOne (place size x) size
 unfolding place step
-places_apart size x power i j p q e = one_slot size (bit_and x (size - 1))
-    (bit_or (bit_and (x / 2 ^ 32) (size - 1)) 1) i j power (odd-or_one _) p q e
+places_apart size x power = one_slot size _ _ power (odd-or_one _)

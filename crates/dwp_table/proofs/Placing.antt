@@ -1,17 +1,17 @@
 -- Placing one more identifier keeps all earlier placements.
-use Rattle.std.proofs.Common.{◌≡◌, ◌≢◌, ℕ, ◌+◌, ◌^◌, ◌<◌, ◌⊎◌, inl, inr, List, [], ◌∷◌, ◌++◌}
-use Rattle.std.proofs.Common.{length, get_or, set, eqb, eq-eqb, Some, None, refl, ap, ◌∙◌, arith}
-use Rattle.std.proofs.Common.{⊎_elim, IsTrue, replicate, ne_eqb, length-set, get_or-set_same}
+use Rattle.std.proofs.Common.{◌≡◌, ◌≢◌, ℕ, ◌+◌, ◌^◌, ◌<◌, ◌⊎◌, List, [], ◌∷◌, ◌++◌}
+use Rattle.std.proofs.Common.{length, get_or, set, eqb, eq-eqb, Some, None, ap, arith}
+use Rattle.std.proofs.Common.{IsTrue, replicate, ne_eqb, length-set, get_or-set_same}
 use Rattle.std.proofs.Common.{get_or-set_other, length-append}
 use Rattle.std.specs.Int.{is_power_of_two}
-use Rattle.std.proofs.lemmas.Bool.{cases_eq}
-use Rattle.std.proofs.lemmas.Grind.{get_or-set_at}
-use Rattle.std.proofs.lemmas.List.{length-replicate, get_or-replicate, get_or_past}
+use Rattle.std.proofs.lemmas.Bool.{cases_eq, cases_lt}
+use Rattle.std.proofs.lemmas.Grind.{elements, get_or-set_at}
+use Rattle.std.proofs.lemmas.List.{length-replicate, get_or_past}
 use Rattle.std.proofs.Math.ListN.{get_or-append}
 use Rattle.std.proofs.Math.Seq.{get_or-append_seam}
 use Rattle.std.proofs.Math.Decide.{dec_lt}
 use Rattle.dwp_table.specs.Probing.{place}
-use Rattle.dwp_table.specs.Table.{IsPlacedAfter, IsHashTable, first_unused, rows_with}
+use Rattle.dwp_table.specs.Table.{IsPlacedAfter, IsHashTable, first_unused}
 use Rattle.dwp_table.proofs.Finding.{find_first, find_none}
 use Rattle.dwp_table.proofs.Tables.{row_at, IsFree, has_free}
 use Rattle.dwp_table.proofs.Places.{place-lt, positive}
@@ -34,12 +34,8 @@ module _ (rows : List ℕ) (x i row : ℕ) (free : IsFree rows x i) where
 
   -- and so does each row at its place
   pub stays : (y r j : ℕ) → 0 < r → IsPlacedAfter rows y r j → IsPlacedAfter new y r j
-  stays y r j some at = record {
-    within = rw same at.within;
-    here = rw same (kept _ (omega (arith, at.here)) ∙ at.here);
-    earlier_used = λ k h. let used = at.earlier_used k h in rw (same, kept _ used) used;
-    earlier_smaller = λ k h. rw (same, kept _ (at.earlier_used k h)) (at.earlier_smaller k h);
-  }
+  stays y r j some at =
+      grind (arith, same, kept, at.within, at.here, at.earlier_used, at.earlier_smaller)
 
   -- the row stands there, behind rows that are smaller
   pub stands : IsTrue (is_power_of_two (length rows)) → ((k : ℕ) → get_or rows k 0 < row)
@@ -66,14 +62,9 @@ module _ (ids rows : List ℕ) (x i : ℕ) (table : IsHashTable ids rows) (free 
       ⊎ ((k ≢ last_slot) × (get_or with_last k 0 ≡ get_or rows k 0))
 
   after : (k : ℕ) → After k
-  after k = ⊎_elim
-      (λ (e : k ≡ last_slot). inl (
-        e,
-        get_or-set_at rows last_slot k (length ids + 1) 0 e
-            (place-lt (length rows) x i table.power),
-      ))
-      (λ ne. inr (ne, get_or-set_other rows last_slot k (length ids + 1) 0 ne))
-      (cases_eq k last_slot)
+  after k =
+      let within = place-lt (length rows) x i table.power in
+      grind (arith, cases_eq k last_slot, get_or-set_at, get_or-set_other)
 
   all_placed : (r : ℕ) → r < length (ids ++ x ∷ []) → (j : ℕ) × IsPlacedAfter with_last
       (get_or (ids ++ x ∷ []) r 0) (r + 1) j
@@ -101,14 +92,8 @@ module _ (ids rows : List ℕ) (x i : ℕ) (table : IsHashTable ids rows) (free 
         room = omega (arith, more, same);
         small = omega (arith, same, table.small);
         placed = all_placed;
-        once = λ k l p q used e. grind (
-          arith,
-          after k,
-          after l,
-          table.only k,
-          table.only l,
-          table.once k l,
-        );
+        once = λ k l p q used e.
+            grind (arith, after k, after l, table.only k, table.only l, table.once k l);
         only = λ k. grind (arith, more, after k, table.only k);
       }
 
@@ -122,11 +107,6 @@ first_unused-free rows x i free = find_first (λ j. eqb (row_at rows x j) 0)
       earlier = λ j h. ne_eqb _ _ (λ e. omega (arith, free.earlier j h));
     })
 
-pub rows_with-free : (rows : List ℕ) (x r i : ℕ) → IsFree rows x i → rows_with rows x r ≡ set rows
-    (place (length rows) x i) r
-unfolding rows_with
-rows_with-free rows x r i free = rw (first_unused-free rows x i free) refl
-
 -- every place of x is used
 abbrev pub AllUsed : List ℕ → ℕ → Type 0
 AllUsed rows x = (j : ℕ) → j < length rows → 0 < row_at rows x j
@@ -136,20 +116,13 @@ unfolding first_unused
 first_unused-none rows x used = find_none (λ j. eqb (row_at rows x j) 0) 0 (length rows)
     (length rows) (omega arith) (λ j h. ne_eqb _ _ (λ e. omega (arith, used j h)))
 
-pub rows_with-none : (rows : List ℕ) (x r : ℕ) → AllUsed rows x → rows_with rows x r ≡ rows
-unfolding rows_with
-rows_with-none rows x r used = rw (first_unused-none rows x used) refl
-
 pub not_all_used : (ids rows : List ℕ) (x : ℕ) → IsHashTable ids rows → AllUsed rows x → ⊥
 not_all_used ids rows x table used = let free = has_free ids rows x table in
     omega (arith, free.1.here, used free.0 free.1.within)
 
 -- ---- no identifier yet
 zero_in : (n k : ℕ) → ◌≡◌ {A = ℕ} (get_or (replicate n 0) k 0) 0
-zero_in n k = elim (dec_lt k n) [
-  | yes p ↦ get_or-replicate n k 0 0 p
-  | no p ↦ get_or_past (replicate n 0) k 0 (omega (arith, length-replicate {A = ℕ} n 0))
-]
+zero_in n k = grind (arith, elements, get_or_past, cases_lt k n)
 
 pub empty_table : (size : ℕ) → IsTrue (is_power_of_two size) → size < 2 ^ 32
     → IsHashTable [] (replicate size 0)

@@ -27,11 +27,6 @@ used_few ids rows x n m table within used low =
     (table.once (place size x i) (place size x j) (place-lt size x i table.power)
     (place-lt size x j table.power) (used i p) same))
 
-pub placed_early : (ids rows : List ℕ) (x r i : ℕ) → IsHashTable ids rows → IsPlacedAfter rows x
-    (r + 1) i → i ≤ r
-placed_early ids rows x r i table at = used_few ids rows x i r table (omega (arith, at.within))
-    at.earlier_used (λ j h. omega (arith, at.earlier_smaller j h))
-
 -- the first place of x that is unused
 pub record IsFree (rows : List ℕ) (x i : ℕ) : Type 0 where
   pub within : i < length rows
@@ -56,12 +51,10 @@ has_free ids rows x table =
           earlier = λ j h. used j (w.1.earlier j h);
         },
       )
-      | inr none ↦ absurd (omega (
-        arith,
-        table.room,
-        used_few ids rows x (length rows) (length ids) table (omega arith)
-            (λ j h. used j (none j h)) (λ j h. table.only _),
-      ))
+      | inr none ↦
+          let few = used_few ids rows x (length rows) (length ids) table (omega arith)
+          (λ j h. used j (none j h)) (λ j h. table.only _) in
+          absurd (omega (arith, table.room))
     ]
 
 -- ---- the end of a look-up
@@ -127,7 +120,8 @@ module _ (ids signatures rows : List ℕ) (x : ℕ) (index : IsIndex ids signatu
     present_row = λ r within same. let at = present r within same in
         rw (at.1, at.2.here, add-one) refl;
     present_count = λ r within same. let at = present r within same in
-        let few = placed_early ids rows x r at.0 index.table at.2 in rw at.1 (omega arith);
+        let few = used_few ids rows x at.0 r index.table (omega (arith, at.2.within))
+        at.2.earlier_used (λ j h. omega (arith, at.2.earlier_smaller j h)) in rw at.1 (omega arith);
     absent_row = λ nowhere. let free = absent nowhere in rw (free.1, free.2.here) refl;
     absent_count = λ nowhere. let free = absent nowhere in
         let few = free_early ids rows x free.0 index.table free.2 in rw free.1 (omega arith);
@@ -137,13 +131,10 @@ module _ (ids signatures rows : List ℕ) (x : ℕ) (index : IsIndex ids signatu
 pub count_within : (signatures rows : List ℕ) (x : ℕ) → look_count signatures rows x ≤ length rows
 unfolding look_count first_end
 count_within signatures rows x =
-    let ends = λ (i : ℕ). is_end signatures rows x (place (length rows) x i) in
-    elim (first_or_none ends (length rows)) [
-      | inl w ↦
-          let e = find_first ends 0 (length rows) _ w.0 (omega arith) (omega arith) w.1 in
-          rw e (omega (arith, w.1.within))
-      | inr none ↦
-          let e = find_none ends 0 (length rows) _ (omega arith) none in rw e (omega arith)
+    elim (first_or_none (λ i. is_end signatures rows x (place (length rows) x i)) (length rows)) [
+      | inl w ↦ rw (find_first _ 0 (length rows) _ w.0 (omega arith) (omega arith) w.1)
+          (omega (arith, w.1.within))
+      | inr none ↦ rw (find_none _ 0 (length rows) _ (omega arith) none) (omega arith)
     ]
 
 -- at most one more than there are identifiers, whether one is there or not
