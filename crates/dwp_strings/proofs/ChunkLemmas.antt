@@ -1,22 +1,20 @@
 -- A list cut into pieces: where each begins, what a rank finds, and how the whole changes with
 -- them. No piece is long: it is cut in its middle before it would be.
+use Rattle.std.proofs.lemmas.List.{drop-map, drop_all, get_or-append_right, get_or_append_left}
+use Rattle.std.proofs.lemmas.List.{length-map, map-append, map-set, map_more, set-get_or, set_split}
+use Rattle.std.proofs.lemmas.List.{take-map, take_all, take_more, take_more_set}
+use Rattle.std.proofs.lemmas.List.Edits.{get_or-insert_above, get_or-insert_at, get_or-insert_below}
+use Rattle.std.proofs.lemmas.List.Edits.{insert-append_left, insert-append_right, length-insert}
+use Rattle.std.proofs.lemmas.List.Edits.{map_over_more}
+use Rattle.std.proofs.lemmas.List.Elements.{All-cons, All-map, All-set, filter-append}
+use Rattle.std.proofs.lemmas.List.Sums.{count_by-le-length, length-filter}
 use Rattle.dwp_strings.proofs.Terms
-use Terms.{[], add-one, All-cons, All-permutation, ap, append_assoc, arith, Bool, concat}
-use Terms.{concat-append, drop, filter, get_or, get_or-map, get_or_default, insert, IsChunked}
-use Terms.{IsPermutation-insert, IsPieceOf, length, length-append, List, map, refl, set, split_at}
-use Terms.{suc, sym, take, zero, ℕ, ◌++◌, ◌+◌, ◌-◌, ◌/◌, ◌<◌, ◌∙◌, ◌∷◌, ◌≡◌, ◌≤◌, ◌⊎◌, ap₂, pieces}
-use Terms.{take_rest, Vec}
-use Rattle.std.proofs.lemmas.List.{append-nil, get_or_append_left, get_or-append_right, set_split}
-use Rattle.std.proofs.lemmas.List.{ext_get_or, map_more, take_more_set, take_all, take_more}
-use Rattle.std.proofs.lemmas.List.{take-append-drop, drop_all, length-take, length-drop, length-set}
-use Rattle.std.proofs.lemmas.List.{map-append, map-set, take-map, drop-map, set-get_or, length-map}
-use Rattle.std.proofs.lemmas.List.Edits.{map_over_more, insert-append_left, insert-append_right}
-use Rattle.std.proofs.lemmas.List.Edits.{length-insert, get_or-insert_below, get_or-insert_at}
-use Rattle.std.proofs.lemmas.List.Edits.{get_or-insert_above}
-use Rattle.std.proofs.lemmas.List.Elements.{filter-append, All-set, All-map}
-use Rattle.std.proofs.lemmas.List.Sums.{length-filter, count_by-le-length}
-use Rattle.std.proofs.lemmas.Grind.{common_steps, elements, get_or-set_at}
-use Rattle.dwp_strings.specs.Chunks.{starts_from, AreShort, IsHalved}
+use Terms.{All-permutation, Bool, IsChunked, IsPermutation-insert, List, Vec, [], add-one, ap}
+use Terms.{append-nil, append_assoc, ap₂, arith, common_steps, concat, concat-append, drop, filter}
+use Terms.{get_or, get_or-map, get_or-set_at, get_or_default, insert, length, length-append}
+use Terms.{length-drop, length-set, length-take, map, pieces, refl, set, split_at, suc, sym, take}
+use Terms.{take-append-drop, take_rest, zero, ℕ, ◌++◌, ◌+◌, ◌-◌, ◌/◌, ◌<◌, ◌∙◌, ◌∷◌, ◌≡◌, ◌≤◌, ◌⊎◌}
+use Rattle.dwp_strings.specs.Chunks.{AreShort, IsHalved, IsPieceOf, starts_from}
 
 pub length-starts_from : (n : ℕ) (ps : List (List ℕ)) → length (starts_from n ps) ≡ length ps
 length-starts_from n [] = refl
@@ -27,11 +25,6 @@ concat_around : (ps : List (List ℕ)) (k : ℕ) → k < length ps → concat ps
     (get_or ps k [] ++ concat (drop (suc k) ps))
 concat_around ps k within = ap concat (split_at ps k [] within) ∙ concat-append (take k ps)
     (get_or ps k [] ∷ drop (suc k) ps)
-
--- how much the pieces up to one hold
-length-concat-take : (ps : List (List ℕ)) (k : ℕ) → k < length ps
-    → length (concat (take (k + 1) ps)) ≡ length (concat (take k ps)) + length (get_or ps k [])
-length-concat-take ps k within = grind (arith, common_steps, concat-append, take_more)
 
 -- a piece begins behind those before it
 start_at : (n : ℕ) (ps : List (List ℕ)) (k : ℕ) → k < length ps → get_or (starts_from n ps) k 0
@@ -58,13 +51,6 @@ some_piece (p ∷ ps) some = omega arith
 -- one more to each number from a place on
 abbrev pub raised : ℕ → List ℕ → List ℕ
 raised from xs = take from xs ++ map (λ s. s + 1) (drop from xs)
-
-pub raised_each : (from : ℕ) (old now : List ℕ) → length now ≡ length old
-    → ((k : ℕ) → k < from → get_or now k 0 ≡ get_or old k 0)
-    → ((k : ℕ) → from ≤ k → k < length old → get_or now k 0 ≡ get_or old k 0 + 1)
-    → now ≡ raised from old
-raised_each from old now long low high = ext_get_or 0 _ _ (grind (arith, elements)) (λ k less.
-    grind (arith, elements, get_or-map (λ s. s + 1) (drop from old) (k - from) 0 0))
 
 starts_raised : (n : ℕ) (ps : List (List ℕ)) → starts_from (n + 1) ps ≡ map (λ s. s + 1)
     (starts_from n ps)
@@ -97,7 +83,8 @@ module _ (ps : List (List ℕ)) (starts : List ℕ) (rank at start : ℕ)
       let there : at < length ps = grind (arith, piece.there, length-starts_from) in
       let begins : start ≡ length (concat (take at ps)) = grind (arith, start_at 0 ps at there) in
       let low : start ≤ rank = grind (arith, piece.low) in
-      let long = length-concat-take ps at there in
+      let long : length (concat (take (at + 1) ps)) ≡ start + length (get_or ps at []) =
+      grind (arith, common_steps, concat-append, take_more) in
       let next = start_at 0 ps (at + 1) in
       let last : (rank < start + length (get_or ps at []))
       ⊎ (length (concat ps) ≡ start + length (get_or ps at [])) =

@@ -1,18 +1,17 @@
 -- Comparing the string at a place with another one, without looking for its end: by as many bytes
 -- as the other has, and whether a zero follows them. Halving a sorted list of positions. The string
 -- at the front of some bytes, up to the first zero.
-use Rattle.dwp_strings.proofs.Terms
-use Terms.{[], All-head, All-tail, AllPairs, arith, before_first, cases_lt, cond, drop, eqb, Equal}
-use Terms.{exact_bytes, get_or, Greater, IsBefore, IsZeroFree, length, Less, List, nat_cmp_is}
-use Terms.{nat_list_cmp_total, nat_tests, not, Ordering, string_from, sym, take, take_rest}
-use Terms.{tied_itself, ℕ, ◌+◌, ◌-◌, ◌/◌, ◌<◌, ◌^◌, ◌↔◌, ◌∷◌, ◌≡◌, ◌≢◌, ◌≤◌, add-one}
-use Terms.{get_or_default, IsFirstZero, position_or_len_is, suc, take-suc, terminated, zero}
-use Rattle.std.specs.Ordering.{nat_cmp, ordering_then}
-use Rattle.std.specs.Cmp.Lexicographic.{slice_cmp}
-use Rattle.std.proofs.lemmas.List.{take_all, get_or_past}
-use Rattle.std.proofs.lemmas.List.Sums.{take_while-cons}
 use Rattle.std.proofs.Math.Nat.{pow-suc}
-use Rattle.std.proofs.Common.{get_or-take, length-take}
+use Rattle.std.proofs.lemmas.List.{get_or_past, take_all}
+use Rattle.std.specs.Cmp.Lexicographic.{slice_cmp}
+use Rattle.std.specs.Ordering.{nat_cmp, ordering_then}
+use Rattle.dwp_strings.proofs.Terms
+use Terms.{All-head, All-tail, AllPairs, Equal, Greater, IsBefore, IsFirstZero, IsZeroFree, Less}
+use Terms.{List, Ordering, [], add-one, arith, before_first, cases_lt, cond, drop, eqb, exact_bytes}
+use Terms.{get_or, get_or-take, get_or_default, length, length-take, nat_cmp_is, nat_list_cmp_total}
+use Terms.{nat_tests, not, position_or_len_is, string_from, suc, sym, take, take-suc, take_rest}
+use Terms.{take_while-cons, terminated, tied_itself, zero, ℕ, ◌+◌, ◌-◌, ◌/◌, ◌<◌, ◌^◌, ◌↔◌, ◌∷◌}
+use Terms.{◌≡◌, ◌≢◌, ◌≤◌}
 
 -- the string at the front of some bytes
 abbrev pub front_string : List ℕ → List ℕ
@@ -25,9 +24,6 @@ front_string-cons x xs = take_while-cons (λ b. not (eqb b 0)) x xs
 then-assoc : (a b c : Ordering) → ordering_then a (ordering_then b c) ≡ ordering_then
     (ordering_then a b) c
 then-assoc a b c = grind arith
-
-both_equal : (a b : Ordering) → ordering_then a b ≡ Equal → (a ≡ Equal) × (b ≡ Equal)
-both_equal a b h = grind arith
 
 -- how as many bytes as a string has, and what follows them, stand to it and a zero
 abbrev pub beside : List ℕ → List ℕ → Ordering
@@ -66,7 +62,7 @@ module _ (bytes : List ℕ) (at : ℕ) (s : List ℕ) (free : IsZeroFree s) wher
       let own = tied_itself nat_list_cmp_total s in
       let last = nat_cmp_is (get_or rest (length s) 0) 0 Equal in (
         λ both. exact_bytes _ s (grind (arith, compared_at, own)),
-        λ same. grind (arith, nat_tests, both_equal, compared_at, exact_bytes, own, last),
+        λ same. grind (arith, nat_tests, compared_at, exact_bytes, own, last),
       )
 
 -- a window of a search after so many steps, in a list of n: each step took off a digit

@@ -1,15 +1,11 @@
 -- What a vector that is stored makes of a copy.
-use Rattle.dwp_strings.proofs.Terms
-use Terms.{ap, arith, cases_eq, cases_lt, drop, get_or, length, length-append, List, set, sym, take}
-use Terms.{Vec, with_items_is, ℕ, ◌++◌, ◌∙◌, ◌+◌, ◌-◌, ◌<◌, ◌≡◌, ◌≤◌}
-use Rattle.std.specs.Vec.{with_items}
-use Rattle.dwp_strings.proofs.LaneLemmas.{same_fronts}
-use Rattle.std.proofs.Math.Seq.{take-append-add}
-use Rattle.std.proofs.lemmas.Grind.{elements}
-use Rattle.std.proofs.lemmas.List.{length-drop, length-take-le, take-append-le}
+use Rattle.std.proofs.lemmas.List.{length-take-le, take-append-le}
+use Rattle.std.proofs.lemmas.Simd.{get_or-chunk, get_or-put_chunk_above, get_or-put_chunk_at}
+use Rattle.std.proofs.lemmas.Simd.{get_or-put_chunk_below, length-chunk}
 use Rattle.std.specs.Simd.Lanes.{put_chunk}
-use Rattle.std.proofs.lemmas.Simd.{length-chunk, get_or-chunk, get_or-put_chunk_at}
-use Rattle.std.proofs.lemmas.Simd.{get_or-put_chunk_above, get_or-put_chunk_below}
+use Rattle.dwp_strings.proofs.Terms
+use Terms.{List, Vec, ap, arith, cases_lt, drop, get_or, length, length-append, length-drop, sym}
+use Terms.{take, take-append-add, with_items, with_items_is, ℕ, ◌++◌, ◌+◌, ◌-◌, ◌<◌, ◌∙◌, ◌≡◌, ◌≤◌}
 
 -- so many bytes of a place
 module _ (bytes room : List ℕ) (at n : ℕ) (within : at + n ≤ length bytes)
@@ -35,19 +31,6 @@ module _ (bytes room : List ℕ) (at n : ℕ) (within : at + n ≤ length bytes)
       let below = get_or-put_chunk_below at room next k 0 in
       let above = get_or-put_chunk_above at room next k 0 in
       grind (arith, below, above, stored_there k, long, cases_lt k at, cases_lt k (at + n))
-
--- a zero is the same once it is set
-pub zero_set : (bytes room : List ℕ) (at : ℕ) → at < length room → get_or bytes at 0 ≡ 0
-    → get_or (set room at 0) at 0 ≡ get_or bytes at 0
-zero_set bytes room at within is_zero = grind (arith, elements)
-
--- fronts of which each byte is the same, and the one behind them
-pub fronts_copied : (bytes copy : List ℕ) (end : ℕ) → end < length bytes → end < length copy
-    → ((k : ℕ) → k < end → get_or copy k 0 ≡ get_or bytes k 0)
-    → get_or copy end 0 ≡ get_or bytes end 0 → take (end + 1) copy ≡ take (end + 1) bytes
-fronts_copied bytes copy end within fits before last =
-    same_fronts copy bytes (end + 1) (omega arith) (omega arith)
-    (λ k less. grind (arith, before k, last, cases_eq k end))
 
 -- room of a list, once it is written to
 pub room_long : (items room : List ℕ) (used k : ℕ) → used ≤ length items

@@ -1,8 +1,7 @@
 -- The hash of a string, made of blocks of sixteen bytes.
-use Rattle.dwp_strings.proofs.Terms
-use Terms.{arith, drop, get_or-drop, length, List, lt-leb, suc, wide, ℕ, ◌%◌, ◌*◌, ◌+◌, ◌-◌, ◌/◌}
-use Terms.{◌<◌, ◌^◌, ◌≡◌}
-use Rattle.std.specs.Hash.FoldHasher.{mix, initial, read_u32}
+use Rattle.std.specs.Hash.FoldHasher.{initial, mix, read_u32}
+use Rattle.dwp_strings.proofs.Terms.{List, arith, drop, get_or-drop, length, lt-leb, suc, wide, ℕ}
+use Rattle.dwp_strings.proofs.Terms.{◌%◌, ◌*◌, ◌+◌, ◌-◌, ◌/◌, ◌<◌, ◌^◌, ◌≡◌}
 use Rattle.dwp_strings.specs.Places.{after_block, after_blocks}
 
 -- the state after the blocks before a place

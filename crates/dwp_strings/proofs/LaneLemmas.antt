@@ -1,17 +1,15 @@
 -- What a mask of at most 64 bytes says of each.
-use Rattle.dwp_strings.proofs.Terms
-use Terms.{ap, ap₂, arith, Bool, cases_lt, cond, drop, eqb, eqb-false, false, get_or, length, List}
-use Terms.{ltb, map, nat_tests, not, replicate, sym, take, true, w64, w8, ℕ, ◌%◌, ◌+◌, ◌<◌, ◌^◌}
-use Terms.{◌∙◌, ◌≡◌, ◌≢◌, ◌≤◌}
-use Rattle.std.proofs.lemmas.List.{get_or-take, length-take, length-replicate}
+use Rattle.std.proofs.lemmas.Nat.Bits.{bit_at-trailing_zeros}
+use Rattle.std.proofs.lemmas.Simd.{bit_mask_l, get_or-chunk, get_or-replicate, get_or-sel_l}
+use Rattle.std.proofs.lemmas.Simd.{get_or-zip2, length-chunk, length-sel_l, length-zip2, mask_l-mod}
+use Rattle.std.proofs.lemmas.Simd.{tops_compared}
 use Rattle.std.specs.Int.{bit_at, trailing_zeros}
 use Rattle.std.specs.Int.Count.{trailing_of_zero}
-use Rattle.std.specs.Simd.Lanes.{zip2, sel_l, mask_l, top}
-use Rattle.std.proofs.lemmas.Simd.{length-zip2, get_or-zip2, get_or-replicate, bit_mask_l}
-use Rattle.std.proofs.lemmas.Simd.{tops_compared, mask_l-mod, length-sel_l, get_or-sel_l}
-use Rattle.std.proofs.lemmas.Simd.{length-chunk, get_or-chunk}
-use Rattle.std.proofs.lemmas.Nat.Bits.{bit_at-trailing_zeros}
-use Rattle.std.proofs.lemmas.Grind.{elements}
+use Rattle.std.specs.Simd.Lanes.{mask_l, sel_l, top, zip2}
+use Rattle.dwp_strings.proofs.Terms
+use Terms.{Bool, List, ap, ap₂, arith, cases_lt, cond, drop, elements, eqb, eqb-false, false}
+use Terms.{get_or, get_or-take, length, length-replicate, length-take, ltb, map, nat_tests, not}
+use Terms.{replicate, sym, take, true, w64, w8, ℕ, ◌%◌, ◌+◌, ◌<◌, ◌^◌, ◌∙◌, ◌≡◌, ◌≢◌, ◌≤◌}
 
 -- the mask of a test of two vectors of bytes, as it is computed
 abbrev mask_of : (ℕ → ℕ → Bool) → List ℕ → List ℕ → ℕ

@@ -1,8 +1,6 @@
 pub mod Terms
 pub mod CompareLemmas
 pub mod CopyLemmas
-pub mod OffsetLemmas
-pub mod TableLemmas
 pub mod ChunkLemmas
 pub mod Named
 pub mod PlacesLemmas

@@ -1,16 +1,156 @@
--- A string of a table is read where its offset says, also once more strings have come.
-use Rattle.std.proofs.Common.{take-append-drop, length-drop, take_all, take_at, length-take}
-use Rattle.std.proofs.Common.{get_or-take}
+-- The strings of a section in which each is ended by a zero byte, where each begins, and its
+-- offset. A string is read where its offset says, also once more strings have come.
+use Rattle.std.proofs.Common.{take_all}
+use Rattle.std.proofs.lemmas.List.{get_or_append_left, get_or_at}
+use Rattle.std.proofs.lemmas.List.Elements.{All-cons, All-nil, All-push, Contains-append_left}
+use Rattle.std.proofs.lemmas.List.Elements.{Contains-push, Decides-contains}
+use Rattle.std.proofs.lemmas.List.Quantifiers.{all_pairs_push}
+use Rattle.std.specs.Option.{is_some}
 use Rattle.dwp_strings.proofs.Terms
-use Terms.{[], arith, BeginsAt, Bool, by-bool, bytes_eq, bytes_eq-Decides, cond_both, data_of, drop}
-use Terms.{drop-drop, drop_at, eqb, false, get_or, get_or-append-add, IsTable, IsZeroFree, length}
-use Terms.{length-append, List, list_any, list_any-append, offset_of, Ok, position_or_len, refl}
-use Terms.{string_from, take, terminated, true, with_string, ℕ, ◌++◌, ◌+◌, ◌∷◌, ◌≡◌}
-use Rattle.std.proofs.lemmas.List.Elements.{All-push, Contains-append_left, Contains-push}
-use Rattle.std.proofs.lemmas.List.Sums.{fails_before_first}
+use Terms.{All, All-head, All-tail, AllPairs, BeginsAt, Bool, Contains, Decides, Decides-by_or}
+use Terms.{IsTable, IsZeroFree, List, None, Ok, Option, Some, [], ap, append_assoc, arith}
+use Terms.{before_first, by-bool, bytes_eq, bytes_eq-Decides, cond_both, data_of, drop, drop-drop}
+use Terms.{drop_at, eqb, eqb-false, eqb-true, fails_before_first, false, get_or, get_or-append-add}
+use Terms.{get_or-take, get_or_default, length, length-append, length-drop, length-take, list_any}
+use Terms.{list_any-append, map, nat_tests, offset_of, offsets_from, onto_first, position_or_len}
+use Terms.{position_or_len_is, refl, string_from, strings_in, suc, take, take-append-drop, take_at}
+use Terms.{terminated, true, with_string, zero, ℕ, ◌++◌, ◌+◌, ◌-◌, ◌<◌, ◌∙◌, ◌∷◌, ◌≡◌, ◌≢◌, ◌≤◌}
 use Rattle.dwp_bytes.specs.StringOffsets.{string_at}
-use Rattle.dwp_strings.proofs.OffsetLemmas.{data_of-cons, before_first-ended, has_Decides}
-use Rattle.dwp_strings.proofs.OffsetLemmas.{distinct_push}
+use Rattle.memchr.specs.Find.{IsFirstByte, is_byte}
+
+pub before_first-ended : (s rest : List ℕ) → IsZeroFree s → before_first (λ b. eqb b 0)
+    (s ++ 0 ∷ rest) ≡ s
+before_first-ended s rest free =
+    let first = position_or_len_is (λ b. eqb b 0) (s ++ 0 ∷ rest) (length s) 0 in
+    let before = λ (k : ℕ). free k 0 in
+    grind (arith, nat_tests, first, before, get_or_at, get_or_append_left, take_at, length-append)
+
+-- the string behind some bytes
+pub string_from-ended : (front s rest : List ℕ) (n : ℕ) → length front ≡ n → IsZeroFree s
+    → string_from (front ++ (s ++ 0 ∷ rest)) n ≡ s
+string_from-ended front s rest n long free = grind (arith, drop_at, before_first-ended s rest free)
+
+pub strings_in-ended : (s rest : List ℕ) → IsZeroFree s → strings_in (s ++ 0 ∷ rest) ≡ s
+    ∷ strings_in rest
+strings_in-ended [] rest free = refl
+strings_in-ended (b ∷ s) rest free =
+    let other = All-head (λ b. b ≢ 0) b s free in
+    grind (arith, nat_tests, other, strings_in-ended s rest (All-tail (λ b. b ≢ 0) b s free))
+
+pub data_of-cons : (s : List ℕ) (ss : List (List ℕ)) → data_of (s ∷ ss) ≡ s ++ 0 ∷ data_of ss
+data_of-cons s ss = append_assoc s (0 ∷ []) (data_of ss)
+
+pub strings_in-data_of : (ss : List (List ℕ)) → All IsZeroFree ss → strings_in (data_of ss) ≡ ss
+strings_in-data_of [] free = refl
+strings_in-data_of (s ∷ ss) free =
+    let first = All-head IsZeroFree s ss free in
+    let others = strings_in-data_of ss (All-tail IsZeroFree s ss free) in
+    grind (arith, data_of-cons, strings_in-ended, first, others)
+
+onto_first-zero_free : (b : ℕ) (ss : List (List ℕ)) → b ≢ 0 → All IsZeroFree ss
+    → All IsZeroFree (onto_first b ss)
+onto_first-zero_free b [] other free = All-cons IsZeroFree (b ∷ []) [] (All-cons (λ c. c ≢ 0) b []
+    other (All-nil _)) (All-nil _)
+onto_first-zero_free b (s ∷ ss) other free =
+    All-cons IsZeroFree (b ∷ s) ss (All-cons (λ c. c ≢ 0) b s other (All-head IsZeroFree s ss free))
+    (All-tail IsZeroFree s ss free)
+
+pub zero_free-strings_in : (bytes : List ℕ) → All IsZeroFree (strings_in bytes)
+zero_free-strings_in [] = All-nil _
+zero_free-strings_in (b ∷ bytes) =
+    let ss = strings_in bytes in
+    let rest = zero_free-strings_in bytes in
+    by-bool _ (eqb b 0) (λ e. rw e (All-cons IsZeroFree [] ss (All-nil _) rest))
+    (λ e. rw e (onto_first-zero_free b ss (eqb-false b 0 e) rest))
+
+-- bytes in which one was found aren't a table's string
+pub zero_within : (xs : List ℕ) (r : Option ℕ) → IsFirstByte (is_byte 0) xs r → is_some r ≡ true
+    → IsZeroFree xs → ⊥
+zero_within xs None h some free = cc
+zero_within xs (Some end) h some free = free end 0 h.0.high (eqb-true _ 0 h.1)
+
+pub length-data_of-cons : (s : List ℕ) (ss : List (List ℕ)) → length (data_of (s ∷ ss)) ≡ length s +
+    1 + length (data_of ss)
+length-data_of-cons s ss =
+    omega (arith, ap length (data_of-cons s ss), length-append s (0 ∷ data_of ss))
+
+-- the strings of a part of a section, from where they begin
+pub map-string_from : (front : List ℕ) (ss : List (List ℕ)) (rest : List ℕ) (n : ℕ)
+    → length front ≡ n → All IsZeroFree ss → map (string_from (front ++ (data_of ss ++ rest)))
+    (offsets_from n ss) ≡ ss
+map-string_from front [] rest n long free = refl
+map-string_from front (s ∷ ss) rest n long free =
+    let behind = data_of ss ++ rest in
+    let first = string_from-ended front s behind n long (All-head IsZeroFree s ss free) in
+    let others = map-string_from (front ++ terminated s) ss rest (n + length s + 1) in
+    grind (arith, append_assoc, length-append, first, others, All-tail IsZeroFree s ss free)
+
+pub AllPairs-rest : {X : Type 0} (R : X → X → Type 0) (x : X) (xs : List X)
+    → AllPairs R (x ∷ xs) → AllPairs R xs
+AllPairs-rest R x xs h = λ i j d less within. h (suc i) (suc j) d (omega arith) (omega arith)
+
+pub length-offsets_from : (n : ℕ) (ss : List (List ℕ)) → length (offsets_from n ss) ≡ length ss
+length-offsets_from n [] = refl
+length-offsets_from n (s ∷ ss) = ap suc (length-offsets_from (n + length s + 1) ss)
+
+-- of distinct strings, each has the offset where it begins
+pub offset_of-at : (ss : List (List ℕ)) (n i : ℕ) (d : List ℕ) (e : ℕ) → AllPairs (λ s t. s ≢ t) ss
+    → i < length ss → n + offset_of ss (get_or ss i d) ≡ get_or (offsets_from n ss) i e
+offset_of-at [] n i d e apart within = absurd (omega arith)
+offset_of-at (t ∷ ss) n zero d e apart within = grind (arith, bytes_eq-Decides t t)
+offset_of-at (t ∷ ss) n (suc i) d e apart within =
+    let rest = offset_of-at ss (n + length t + 1) i d e (AllPairs-rest (λ s t. s ≢ t) t ss apart) in
+    grind (arith, rest, bytes_eq-Decides t (get_or ss i d), apart 0 (suc i) d)
+
+-- whether a string is there
+pub has_Decides : (ss : List (List ℕ)) (s : List ℕ)
+    → Decides (list_any (λ t. bytes_eq t s) ss) (Contains ss s)
+has_Decides ss s = Decides-contains ss s _ (Decides-by_or (λ t. bytes_eq t s) (λ t. t ≡ s)
+    (list_any (λ t. bytes_eq t s)) (λ t. bytes_eq-Decides t s) refl (λ _ _. refl) ss)
+
+-- a list of distinct strings to which a new one comes
+pub distinct_push : (ss : List (List ℕ)) (s : List ℕ) → AllPairs (λ s t. s ≢ t) ss
+    → (Contains ss s → ⊥) → AllPairs (λ s t. s ≢ t) (ss ++ s ∷ [])
+distinct_push ss s distinct absent = all_pairs_push (λ s t. s ≢ t) ss s distinct
+    (λ k d within same. absent (k, within, get_or_default ss k s d within ∙ same))
+
+pub offset_of-absent : (ss : List (List ℕ)) (s : List ℕ) → list_any (λ t. bytes_eq t s) ss ≡ false
+    → offset_of ss s ≡ length (data_of ss)
+offset_of-absent [] s none = refl
+offset_of-absent (t ∷ ss) s none =
+    grind (arith, offset_of-absent ss s, length-data_of-cons t ss)
+
+pub offsets_from-append : (n : ℕ) (ss ts : List (List ℕ)) → offsets_from n (ss ++ ts) ≡ offsets_from
+    n ss ++ offsets_from (n + length (data_of ss)) ts
+offsets_from-append n [] ts = let e : n ≡ n + 0 = omega arith in ap (λ m. offsets_from m ts) e
+offsets_from-append n (s ∷ ss) ts =
+    grind (arith, offsets_from-append (n + length s + 1) ss ts, length-data_of-cons s ss)
+
+pub offsets_from-take : (n at : ℕ) (ss : List (List ℕ)) → offsets_from at (take n ss) ≡
+    take n (offsets_from at ss)
+offsets_from-take zero at ss = refl
+offsets_from-take (suc n) at [] = refl
+offsets_from-take (suc n) at (s ∷ ss) = grind (arith, offsets_from-take n (at + length s + 1) ss)
+
+-- each begins before the end of the part, and none before its start
+pub offsets_from-below : (n : ℕ) (ss : List (List ℕ)) → All (λ p. p < n + length (data_of ss))
+    (offsets_from n ss)
+offsets_from-below n (s ∷ ss) = λ i d within.
+    let rest = offsets_from-below (n + length s + 1) ss (i - 1) d in
+    grind (arith, length-data_of-cons s ss, rest)
+offsets_from-below n [] = All-nil _
+
+pub offsets_from-above : (n : ℕ) (ss : List (List ℕ)) → All (λ p. n ≤ p) (offsets_from n ss)
+offsets_from-above n [] = All-nil _
+offsets_from-above n (s ∷ ss) =
+    λ i d within. grind (arith, offsets_from-above (n + length s + 1) ss (i - 1) d)
+
+-- no string has its offset past the section's end
+pub offset_within : (strings : List (List ℕ)) (string : List ℕ) → offset_of strings string ≤ length
+    (data_of strings)
+offset_within [] string = omega arith
+offset_within (t ∷ strings) string =
+    grind (arith, length-data_of-cons t strings, offset_within strings string)
 
 -- a string is among those of a list
 abbrev pub has : List (List ℕ) → List ℕ → Bool

@@ -1,9 +1,8 @@
 -- Places of strings by their hashes, in slots.
-use Rattle.dwp_strings.proofs.Terms
-use Terms.{ap, arith, cases_lt, free, get_or, home, length, List, None, place_of, refl, set, Slot}
-use Terms.{Some, suc, zero, ℕ, ◌+◌, ◌-◌, ◌<◌, ◌≡◌, ◌≢◌, ◌≤◌}
 use Rattle.std.proofs.lemmas.List.{get_or-set_other, get_or-set_same, get_or_past}
-use Rattle.dwp_strings.specs.Places.{place_from}
+use Rattle.dwp_strings.proofs.Terms.{List, None, Slot, Some, ap, arith, cases_lt, free, get_or}
+use Rattle.dwp_strings.proofs.Terms.{home, length, place_from, place_of, refl, set, suc, zero, ℕ}
+use Rattle.dwp_strings.proofs.Terms.{◌+◌, ◌-◌, ◌<◌, ◌≡◌, ◌≢◌, ◌≤◌}
 
 -- past all slots each is free
 pub free_past : (slots : List Slot) (k : ℕ) → length slots ≤ k → (get_or slots k free).behind ≡ 0

@@ -101,8 +101,9 @@ fn copy_both<const N: usize>(room: &mut [u8], bytes: &[u8], at: usize, other: us
     requires second { other + N ≤ length bytes.now }
     requires first_fits { at + N ≤ length room.old }
     requires second_fits { other + N ≤ length room.old }
-    ensures some { IsTrue result → (k : ℕ) → k < N
-        → (slice_index bytes.now (at + k) ≢ 0) × (slice_index bytes.now (other + k) ≢ 0) }
+    ensures some { IsTrue result → (k : ℕ) → at ≤ k → k < at + N → slice_index bytes.now k ≢ 0 }
+    ensures others { IsTrue result → (k : ℕ) → other ≤ k → k < other + N
+        → slice_index bytes.now k ≢ 0 }
     ensures long { length room.new ≡ length room.old }
     ensures kept { (k : ℕ) → IsCopied bytes.now room.old k → IsCopied bytes.now room.new k }
     ensures first { (k : ℕ) → at ≤ k → k < at + N → IsCopied bytes.now room.new k }
@@ -117,21 +118,6 @@ fn copy_both<const N: usize>(room: &mut [u8], bytes: &[u8], at: usize, other: us
         == 0
 }
 
-/// Copies the first 32 bytes; whether none of so many, fewer than 32, is zero.
-#[inline(always)]
-fn copy_few(room: &mut [u8], bytes: &[u8], count: usize) -> bool
-    requires within { 32 ≤ length bytes.now }
-    requires fits { 32 ≤ length room.old }
-    requires few { count < 32 }
-    ensures some { IsTrue result → (k : ℕ) → k < count → slice_index bytes.now k ≢ 0 }
-    ensures long { length room.new ≡ length room.old }
-    ensures copied { (k : ℕ) → k < 32 → IsCopied bytes.now room.new k }
-{
-    let first = copy_lanes::<32>(room, bytes, 0);
-    let zeros = first.simd_eq(u8x32::splat(0)).to_bitmask();
-    zeros.trailing_zeros() as usize >= count
-}
-
 /// Copies the string at the front of some bytes into room, if it ends at that zero.
 #[inline(always)]
 fn copy_ended(room: &mut [u8], bytes: &[u8], end: usize) -> bool
@@ -140,11 +126,12 @@ fn copy_ended(room: &mut [u8], bytes: &[u8], end: usize) -> bool
     requires ended { slice_index bytes.now end ≡ 0 }
     requires fits { end + 32 ≤ length room.old }
     ensures first { IsTrue result → IsFirstZero bytes.now end }
-    ensures copied { IsTrue result → take (end + 1) room.new ≡ take (end + 1) bytes.now }
+    ensures copied { IsTrue result → (k : ℕ) → k ≤ end → IsCopied bytes.now room.new k }
     ensures long { length room.new ≡ length room.old }
 {
     if end < HALF {
-        return copy_few(room, bytes, end);
+        let first = copy_lanes::<32>(room, bytes, 0);
+        return first.simd_eq(u8x32::splat(0)).to_bitmask().trailing_zeros() as usize >= end;
     }
     room[end] = 0;
     if end <= LANES {

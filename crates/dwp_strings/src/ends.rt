@@ -19,7 +19,7 @@ pub const ROUNDS: usize = 4;
 #[inline(always)]
 fn before_zero(bytes: &[u8], at: usize) -> usize
     requires { at + 64 ≤ length bytes.now }
-    ensures some { (k : ℕ) → k < result → k < 64 → slice_index bytes.now (at + k) ≢ 0 }
+    ensures some { (k : ℕ) → at ≤ k → k < at + result → k < at + 64 → slice_index bytes.now k ≢ 0 }
     ensures zero { result < 64 → slice_index bytes.now (at + result) ≡ 0 }
 {
     let next = u8x64::from_slice(&bytes[at..]);

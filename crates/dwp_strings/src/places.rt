@@ -70,8 +70,7 @@ fn behind_last(slots: &[Slot], home: usize) -> usize
     }
 }
 
-/// The place that a hash has in these slots; the slot that is next for it where it has none, which
-/// is past all of them where none of the hash's is free.
+/// The place that a hash has in these slots, or the slot that is next for it, past all if none is.
 #[inline(always)]
 fn seek(slots: &[Slot], size: u32, hash: u32) -> Result<usize, usize>
     ensures found { IfOk result (λ place. place_of slots.now size hash ≡ Some place) }
@@ -259,8 +258,7 @@ impl HashedPlaces {
         })
     }
 
-    /// Enters a slot among more slots, where those that there are have no room for it and a quarter
-    /// is used (of fewer, such hashes were chosen); false where that can't be.
+    /// Enters a slot among more slots, if a quarter is used (of fewer, such hashes were chosen).
     #[inline(never)]
     fn enter_in_more(&mut self, slot: Slot) -> bool
         requires some { slot.behind ≢ 0 }

@@ -16,8 +16,7 @@ use std::simd::prelude::*;
 /// How many bytes of a string are looked at together.
 const LANES: usize = 32;
 
-/// How the string at a place stands to one without zero bytes. Its end isn't looked for: as many
-/// bytes as the other has decide, and where they are the same, whether a zero follows them.
+/// How the string at a place, whose end isn't looked for, stands to one without zero bytes.
 pub(crate) fn compare_at(bytes: &[u8], at: usize, string: &[u8]) -> Ordering
     requires within { at ≤ length bytes.now }
     requires zero_free { IsZeroFree string.now }
@@ -40,8 +39,7 @@ pub(crate) fn begins_at(bytes: &[u8], at: usize) -> bool
     at < bytes.len() && (at == 0 || bytes[at - 1] == 0)
 }
 
-/// Whether a string begins at a place of a section of ended strings and is this one, which is told
-/// faster than their order.
+/// Whether this string begins at a place of a section of ended strings.
 #[inline(always)]
 pub(crate) fn stands_at(bytes: &[u8], at: usize, string: &[u8]) -> bool
     requires { IsZeroFree string.now }
@@ -62,8 +60,8 @@ pub(crate) fn stands_at(bytes: &[u8], at: usize, string: &[u8]) -> bool
 fn are_same(bytes: &[u8], other: &[u8], at: usize) -> bool
     requires first { at + 32 ≤ length bytes.now }
     requires second { at + 32 ≤ length other.now }
-    ensures { IsTrue result → (k : ℕ) → k < 32
-        → slice_index bytes.now (at + k) ≡ slice_index other.now (at + k) }
+    ensures { IsTrue result → (k : ℕ) → at ≤ k → k < at + 32
+        → slice_index bytes.now k ≡ slice_index other.now k }
 {
     let first = u8x32::from_slice(&bytes[at..]);
     let second = u8x32::from_slice(&other[at..]);
@@ -98,9 +96,8 @@ fn begins_same(bytes: &[u8], other: &[u8], count: usize) -> bool
     are_same(bytes, other, last)
 }
 
-/// Whether a string begins at a place of a section of ended strings and is the one that some bytes
-/// begin with, of which one is zero: they are the same as far as that byte, so wherever they end.
-/// No where they differ behind an earlier end, which may be the same string.
+/// Whether the string that some bytes begin with, of which one is zero, begins at a place; no where
+/// they differ before that zero and behind an earlier one.
 #[inline(always)]
 pub(crate) fn begins_alike(bytes: &[u8], at: usize, other: &[u8], end: usize) -> bool
     requires at { at < 2 ^ 32 }
@@ -117,8 +114,7 @@ pub(crate) fn begins_alike(bytes: &[u8], at: usize, other: &[u8], end: usize) ->
     (at == 0 || bytes[at - 1] == 0) && begins_same(&bytes[at..], other, end)
 }
 
-/// What a search found: where the string begins, or the rank at which it would stand, and how many
-/// strings were compared.
+/// Where a string begins, or the rank at which it would stand, and how many were compared.
 #[derive(Drop)]
 pub(crate) struct Found {
     pub place: Result<usize, usize>,

@@ -20,7 +20,7 @@ use Rattle.thorin_strings.specs.StringOffsets.{entry_bytes, header_of, offset_at
 use Rattle.thorin_strings.specs.Rewritten.{NamesTheSame, NamesOneString}
 use Rattle.dwp_strings.proofs.Named.{has, there_later, string_was, read_free, used, read_later}
 use Rattle.thorin_strings.proofs.RemapLemmas.{kept_more}
-use Rattle.dwp_strings.proofs.OffsetLemmas.{has_Decides}
+use Rattle.dwp_strings.proofs.Named.{has_Decides}
 use Rattle.thorin_strings.proofs.NamedBytes.{entry_read, entries_long, header_long}
 
 pub as_error_ok : {A E : Type 0} (f : E → ErrorValue) (r : Result A E) (x : A)

@@ -1,5 +1,4 @@
-use Rattle.dwp_strings.proofs.Terms.{◌-◌, ◌<◌, length, slice_index, ℕ, ◌≡◌, ◌≢◌}
-use Rattle.dwp_strings.specs.Ends.{IsCopied}
+use Rattle.dwp_strings.proofs.Terms.{IsCopied, length, slice_index, ℕ, ◌-◌, ◌<◌, ◌≡◌, ◌≢◌}
 use Rattle.dwp_strings.proofs.buffer.copy_ended.Given as goal
 
 abbrev pub invariant-loop-at : goal.invariant-loop-at

@@ -1,13 +1,6 @@
 use Rattle.dwp_strings.proofs.places.put.Goals as goal
-use Rattle.std.proofs.Common.{rules}
 
 pub returns-in-Err-clause-put : goal.returns-in-Err-clause-put
 returns-in-Err-clause-put c = λ is n more.
     c.put_next.ensures.put is _ n (c.in-Err.ensures.next (c.put_next.ensures.within is))
     c.in-Err.ensures.none more
-
-pub returns-in-Ok-clause-kept : goal.returns-in-Ok-clause-kept
-returns-in-Ok-clause-kept c = search rules
-
-pub returns-in-Ok-clause-put : goal.returns-in-Ok-clause-put
-returns-in-Ok-clause-put c = search rules

@@ -1,4 +1,4 @@
-use Rattle.dwp_strings.proofs.Terms.{◌-◌, ◌<◌, free, get_or, length, place_of, Some, ℕ, ◌≡◌, ◌≢◌}
+use Rattle.dwp_strings.proofs.Terms.{Some, free, get_or, length, place_of, ℕ, ◌-◌, ◌<◌, ◌≡◌, ◌≢◌}
 use Rattle.dwp_strings.proofs.places.put_again.Given as goal
 
 abbrev pub invariant-loop-number : goal.invariant-loop-number

@@ -1,5 +1,5 @@
 use Rattle.dwp_strings.proofs.Terms.{arith, place_of, refl, rules, ◌∙◌}
-use Rattle.dwp_strings.proofs.PlacesLemmas.{none_of, free_past, passed_more, shared_of, others_from}
+use Rattle.dwp_strings.proofs.PlacesLemmas.{free_past, none_of, others_from, passed_more, shared_of}
 use Rattle.dwp_strings.proofs.places.put_over.Goals as goal
 
 pub loop-number-preserved : goal.loop-number-preserved

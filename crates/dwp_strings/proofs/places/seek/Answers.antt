@@ -1,5 +1,5 @@
 use Rattle.dwp_strings.proofs.Terms.{arith, rules}
-use Rattle.dwp_strings.proofs.PlacesLemmas.{passed_more, found_of, none_of, free_past}
+use Rattle.dwp_strings.proofs.PlacesLemmas.{found_of, free_past, none_of, passed_more}
 use Rattle.dwp_strings.proofs.places.seek.Goals as goal
 
 pub loop-number-preserved : goal.loop-number-preserved
@@ -18,9 +18,3 @@ returns-then-slot-hash-clause-found c = search (rules, found_of)
 pub returns-clause-none : goal.returns-clause-none
 returns-clause-none c = none_of _ _ c.loop-number.number _ _ c.home-home.ensures.value (omega arith)
     c.loop-number.invariant (λ more. grind (arith, free_past, c.behind_last-last.ensures))
-
-pub returns-then-slot-hash-clause-next : goal.returns-then-slot-hash-clause-next
-returns-then-slot-hash-clause-next c = search rules
-
-pub returns-then-slot-hash-clause-none : goal.returns-then-slot-hash-clause-none
-returns-then-slot-hash-clause-none c = search rules

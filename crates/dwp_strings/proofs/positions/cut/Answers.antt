@@ -1,9 +1,8 @@
-use Rattle.std.proofs.lemmas.Grind.{common_steps}
-use Rattle.dwp_strings.proofs.Terms
-use Terms.{[], arith, get_or, get_or_read, length, pieces, ◌+◌, ◌/◌, ◌<◌, ◌≡◌}
+use Rattle.dwp_strings.proofs.Terms.{[], arith, get_or, get_or_read, length, pieces, ◌+◌, ◌/◌, ◌<◌}
+use Rattle.dwp_strings.proofs.Terms.{◌≡◌}
 use Rattle.dwp_strings.specs.Chunks.{IsHalved}
-use Rattle.dwp_strings.proofs.ChunkLemmas.{start_within, halves_same, halves_begun, halves_short}
-use Rattle.dwp_strings.proofs.ChunkLemmas.{counts, length-pieces, piece_read, piece_halved}
+use Rattle.dwp_strings.proofs.ChunkLemmas.{counts, halves_begun, halves_same, halves_short}
+use Rattle.dwp_strings.proofs.ChunkLemmas.{length-pieces, piece_halved, piece_read, start_within}
 use Rattle.dwp_strings.proofs.positions.cut.Goals.{After-index}
 use Rattle.dwp_strings.proofs.positions.cut.Goals as goal
 
@@ -45,12 +44,3 @@ returns c =
       short = halves_short _ _ c.args.at there halved c.requires.short;
       halved = halved;
     }
-
-pub returns-in_err-upper-clause-begun : goal.returns-in_err-upper-clause-begun
-returns-in_err-upper-clause-begun c = grind (arith, common_steps)
-
-pub returns-in_err-upper-clause-same : goal.returns-in_err-upper-clause-same
-returns-in_err-upper-clause-same c = grind (arith, common_steps)
-
-pub returns-in_err-upper-clause-short : goal.returns-in_err-upper-clause-short
-returns-in_err-upper-clause-short c = grind (arith, common_steps)

@@ -1,5 +1,5 @@
-use Rattle.dwp_strings.proofs.Terms.{arith, filter, nat_lt, rules}
 use Rattle.std.proofs.lemmas.Fn.{filter_same}
+use Rattle.dwp_strings.proofs.Terms.{arith, filter, nat_lt, rules}
 use Rattle.dwp_strings.proofs.ChunkLemmas.{piece_changed}
 use Rattle.dwp_strings.proofs.positions.keep.Goals as goal
 

@@ -1,7 +1,6 @@
-use Rattle.std.proofs.Common.{length-set}
-use Rattle.dwp_strings.proofs.Terms.{ap, arith, length, nat_lt, pieces, ◌+◌, ◌<◌}
-use Rattle.dwp_strings.proofs.ChunkLemmas.{kept_within, kept_more, kept_all, chunked_all}
-use Rattle.dwp_strings.proofs.ChunkLemmas.{short_filter, length-pieces, piece_read, counts}
+use Rattle.dwp_strings.proofs.Terms.{ap, arith, length, length-set, nat_lt, pieces, ◌+◌, ◌<◌}
+use Rattle.dwp_strings.proofs.ChunkLemmas.{chunked_all, counts, kept_all, kept_more, kept_within}
+use Rattle.dwp_strings.proofs.ChunkLemmas.{length-pieces, piece_read, short_filter}
 use Rattle.dwp_strings.proofs.positions.keep_all.Goals as goal
 
 pub keep-requires : goal.keep-requires

@@ -1,7 +1,8 @@
-use Rattle.dwp_strings.proofs.Terms.{arith}
-use Rattle.dwp_strings.proofs.ChunkLemmas.{raised_each}
+use Rattle.dwp_strings.proofs.Terms.{arith, drop, elements, ext_get_or, get_or-map, ◌+◌, ◌-◌}
 use Rattle.dwp_strings.proofs.positions.raise.Goals as goal
 
 pub returns : goal.returns
-returns c = raised_each _ _ _ c.loop-i.invariant.long c.loop-i.invariant.before
-    (λ k low less. c.loop-i.invariant.raised k low (omega arith))
+returns c =
+    let rest = drop c.args.from c.args.starts.now in
+    ext_get_or 0 _ _ (grind (arith, elements)) (λ k less.
+    grind (arith, elements, get_or-map (λ s. s + 1) rest (k - c.args.from) 0 0))

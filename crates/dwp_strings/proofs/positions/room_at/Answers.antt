@@ -1,6 +1,5 @@
-use Rattle.std.proofs.lemmas.Grind.{common_steps, elements}
-use Rattle.dwp_strings.proofs.Terms.{arith, get_or_read, length, pieces, rules, ◌<◌, ◌∙◌}
-use Rattle.dwp_strings.proofs.ChunkLemmas.{first_start, IsInHalf, halves_room, in_half, counts}
+use Rattle.dwp_strings.proofs.Terms.{arith, elements, get_or_read, length, pieces, rules, ◌<◌, ◌∙◌}
+use Rattle.dwp_strings.proofs.ChunkLemmas.{IsInHalf, counts, first_start, halves_room, in_half}
 use Rattle.dwp_strings.proofs.positions.room_at.Goals.{In_ok-cut}
 use Rattle.dwp_strings.proofs.positions.room_at.Goals as goal
 
@@ -35,20 +34,8 @@ returns-else-rank-index c =
     c.requires.short).1 in
     search rules
 
-pub returns-then-is_empty-clause-begun : goal.returns-then-is_empty-clause-begun
-returns-then-is_empty-clause-begun c = grind (arith, common_steps)
-
-pub returns-then-is_empty-clause-same : goal.returns-then-is_empty-clause-same
-returns-then-is_empty-clause-same c = grind (arith, common_steps)
-
-pub returns-then-is_empty-clause-short : goal.returns-then-is_empty-clause-short
-returns-then-is_empty-clause-short c = grind (arith, common_steps)
-
 pub returns-then-is_empty-clause-at : goal.returns-then-is_empty-clause-at
 returns-then-is_empty-clause-at c = grind (arith, counts)
 
 pub returns-then-is_empty-clause-room : goal.returns-then-is_empty-clause-room
 returns-then-is_empty-clause-room c = grind (arith, elements)
-
-pub returns-then-len-lt-CHUNK-clause-room : goal.returns-then-len-lt-CHUNK-clause-room
-returns-then-len-lt-CHUNK-clause-room c = grind (arith, common_steps)

@@ -1,5 +1,4 @@
-use Rattle.std.proofs.Common.{length-drop}
-use Rattle.dwp_strings.proofs.Terms.{arith, drop, get_or-drop, take_rest}
+use Rattle.dwp_strings.proofs.Terms.{arith, drop, get_or-drop, length-drop, take_rest}
 use Rattle.dwp_strings.proofs.CompareLemmas.{alike_front}
 use Rattle.dwp_strings.proofs.search.begins_alike.Goals as goal
 

@@ -1,4 +1,4 @@
-use Rattle.dwp_strings.proofs.Terms.{arith, leb-true, refl, ◌-◌}
+use Rattle.dwp_strings.proofs.Terms.{arith, leb-true}
 use Rattle.dwp_strings.proofs.LaneLemmas.{lanes_same_before, same_fronts}
 use Rattle.dwp_strings.proofs.search.begins_same.Goals as goal
 
@@ -10,9 +10,6 @@ returns-then-count-lt-LANES c = λ is.
     same_fronts bytes other c.args.count c.requires.first (omega arith)
     (λ k less. grind (arith, same k, leb-true))
 
-pub loop-at-preserved : goal.loop-at-preserved
-loop-at-preserved c = λ k less. grind (arith, c.if-not-are_same.ensures refl (k - c.loop-at.at))
-
 pub returns : goal.returns
-returns c = λ is. same_fronts c.args.bytes.now c.args.other.now c.args.count c.requires.first
-    c.requires.second (λ k less. grind (arith, c.are_same-2.ensures is (k - (c.args.count - 32))))
+returns c = λ is. same_fronts _ _ c.args.count c.requires.first c.requires.second
+    (λ k less. grind (arith, c.are_same-2.ensures is k, c.loop-at.invariant k))

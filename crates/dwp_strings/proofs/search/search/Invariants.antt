@@ -1,4 +1,4 @@
-use Rattle.dwp_strings.proofs.Terms.{◌-◌, ◌<◌, IsBefore, length, slice_index, string_from, ℕ, ◌≤◌}
+use Rattle.dwp_strings.proofs.Terms.{IsBefore, length, slice_index, string_from, ℕ, ◌-◌, ◌<◌, ◌≤◌}
 use Rattle.dwp_strings.proofs.CompareLemmas.{IsHalved}
 use Rattle.dwp_strings.proofs.search.search.Given as goal
 

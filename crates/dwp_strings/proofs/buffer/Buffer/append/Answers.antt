@@ -1,6 +1,4 @@
-use Rattle.dwp_strings.proofs.Terms.{arith, length, refl, ◌+◌, ◌++◌, ◌∙◌}
-use Rattle.std.proofs.Common.{ap₂}
-use Rattle.std.proofs.lemmas.Grind.{elements}
+use Rattle.dwp_strings.proofs.Terms.{ap₂, arith, elements, length, refl, ◌++◌, ◌+◌, ◌∙◌}
 use Rattle.dwp_strings.proofs.CopyLemmas.{in_room}
 use Rattle.dwp_strings.proofs.buffer.Buffer.append.Goals as goal
 

@@ -1,7 +1,6 @@
-use Rattle.dwp_strings.proofs.Terms.{arith, refl, ◌+◌, ◌++◌, ◌∙◌}
-use Rattle.std.proofs.Common.{ap₂}
-use Rattle.std.proofs.lemmas.Grind.{elements}
+use Rattle.dwp_strings.proofs.Terms.{ap₂, arith, elements, refl, ◌++◌, ◌+◌, ◌∙◌}
 use Rattle.dwp_strings.proofs.CopyLemmas.{in_room}
+use Rattle.dwp_strings.proofs.LaneLemmas.{same_fronts}
 use Rattle.dwp_strings.proofs.buffer.Buffer.append_guessed.Goals as goal
 
 pub returns-clause-appended : goal.returns-clause-appended
@@ -12,4 +11,5 @@ returns-clause-appended c = λ is.
     (c.args.end + 1) c.deref_mut.ensures.len (grind arith) (grind (arith, elements, copy.long)) refl
     (grind (arith, elements, copy.long))
     ∙ ap₂ (λ a b. a ++ b) (rw c.deref_mut.ensures.value (room.kept ∙ c.self.view_is))
-    (copy.copied refl)
+    (same_fronts _ _ (c.args.end + 1) (grind (arith, elements, copy.long)) (omega arith)
+    (λ k less. copy.copied refl k (omega arith)))

@@ -1,16 +1,7 @@
-use Rattle.dwp_strings.proofs.Terms.{arith, inl, IsFirstZero, refl, rules, take, ◌+◌}
+use Rattle.dwp_strings.proofs.Terms.{IsFirstZero, arith, inl, refl, rules, take, ◌+◌}
 use Rattle.dwp_strings.proofs.CompareLemmas.{ended_free, ended_front, ended_take}
-use Rattle.dwp_strings.proofs.HashedLemmas.{added, entries_few, unplaced, carried_kept}
-use Rattle.dwp_strings.proofs.TableLemmas.{indexed_push}
+use Rattle.dwp_strings.proofs.HashedLemmas.{added, carried_kept, indexed_push, unplaced}
 use Rattle.dwp_strings.proofs.entries.Entries.add_guessed.Goals as goal
-use Rattle.std.proofs.lemmas.Grind.{common_steps, elements}
-
-pub overflow_add-self : goal.overflow_add-self
-overflow_add-self c = omega (
-  arith,
-  (entries_few c.args.self.now c.requires.table
-      c.len-place.ensures.small).0,
-)
 
 pub returns : goal.returns
 returns c =
@@ -32,12 +23,3 @@ returns c =
     (inl (c.if-not-enter.ensures.entered refl, c.if-not-enter.ensures.fits refl)) in
     let placed = rw (← ended_front c.args.rest.now c.args.end first) at done.placed in
     search rules
-
-pub returns-then-not-enter-clause-kept : goal.returns-then-not-enter-clause-kept
-returns-then-not-enter-clause-kept c = grind (arith, common_steps)
-
-pub returns-then-not-enter-clause-none : goal.returns-then-not-enter-clause-none
-returns-then-not-enter-clause-none c = grind (arith, common_steps)
-
-pub returns-then-self-clause-kept : goal.returns-then-self-clause-kept
-returns-then-self-clause-kept c = grind (arith, elements)

@@ -1,17 +1,7 @@
-use Rattle.std.proofs.lemmas.Grind.{elements}
-use Rattle.dwp_strings.proofs.Terms
-use Terms.{arith, BeginsAt, false≢true, inl, refl, rules, sym, ◌+◌, ◌∙◌}
-use Rattle.dwp_strings.proofs.HashedLemmas.{added, entries_few, misplaced, carried_over}
-use Rattle.dwp_strings.proofs.HashedLemmas.{begins_at_offset, taken_back}
-use Rattle.dwp_strings.proofs.TableLemmas.{indexed_push}
+use Rattle.dwp_strings.proofs.Terms.{BeginsAt, false≢true, inl, refl, rules, sym, ◌+◌, ◌∙◌}
+use Rattle.dwp_strings.proofs.HashedLemmas.{added, begins_at_offset, carried_over, indexed_push}
+use Rattle.dwp_strings.proofs.HashedLemmas.{misplaced}
 use Rattle.dwp_strings.proofs.entries.Entries.add_over.Goals as goal
-
-pub overflow_add-self : goal.overflow_add-self
-overflow_add-self c = omega (
-  arith,
-  (entries_few c.args.self.now c.requires.table
-      c.len-last.ensures.small).0,
-)
 
 pub returns : goal.returns
 returns c =
@@ -35,15 +25,3 @@ returns c =
     c.give.ensures.others c.requires.own (λ begun. gone (begins_at_offset e table _ begun)))
     (inl (c.if-not-give.ensures.given refl _ c.requires.has, c.if-not-give.ensures.fits refl)) in
     search rules
-
-pub returns-then-begins_at-clause-kept : goal.returns-then-begins_at-clause-kept
-returns-then-begins_at-clause-kept c = grind (arith, elements)
-
-pub returns-in_err-append-clause-kept : goal.returns-in_err-append-clause-kept
-returns-in_err-append-clause-kept c = grind (arith, elements)
-
-pub returns-then-not-give-clause-kept : goal.returns-then-not-give-clause-kept
-returns-then-not-give-clause-kept c =
-    let back = taken_back c.args.self.now.bytes _ _ _ _ c.in_ok-append.ensures.ok
-    c.len-last.ensures.value c.truncate.ensures in
-    grind (arith, elements, back)

@@ -1,15 +1,8 @@
-use Rattle.std.proofs.Common.{arith}
-use Rattle.std.proofs.lemmas.Grind.{elements}
 use Rattle.dwp_strings.proofs.Terms.{refl, sym, ◌∙◌}
-use Rattle.dwp_strings.proofs.TableLemmas.{offset_there, known_place_in}
-use Rattle.dwp_strings.proofs.HashedLemmas.{hashed_kept, entries_few, carried_among, absent_there}
-use Rattle.dwp_strings.proofs.HashedLemmas.{inserted_or}
+use Rattle.dwp_strings.proofs.HashedLemmas.{absent_there, carried_among, hashed_kept, inserted_or}
+use Rattle.dwp_strings.proofs.HashedLemmas.{known_place_in, offset_there}
 use Rattle.dwp_strings.proofs.Named.{string_was}
 use Rattle.dwp_strings.proofs.entries.Entries.keep_ordered.Goals as goal
-
-pub insert-requires-clause-small : goal.insert-requires-clause-small
-insert-requires-clause-small c = (entries_few c.args.self.now c.requires.table
-    c.as_slice-bytes.ensures.small).1
 
 pub returns-in-Ok-place-clause-there : goal.returns-in-Ok-place-clause-there
 returns-in-Ok-place-clause-there c = λ begins.
@@ -37,6 +30,3 @@ returns-in-Err-clause-table c =
     c.insert.ensures.ok c.insert.ensures.err in
     let new = record e { ordered = c.insert.new.self } in
     hashed_kept e new table refl refl now.0 (carried_among e new refl now.1)
-
-pub returns-in-Err-clause-there : goal.returns-in-Err-clause-there
-returns-in-Err-clause-there c = grind (arith, elements)

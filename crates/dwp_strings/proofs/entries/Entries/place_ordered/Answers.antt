@@ -1,25 +1,11 @@
-use Rattle.std.proofs.lemmas.Grind.{elements}
-use Rattle.dwp_strings.proofs.Terms
-use Terms.{arith, held, inr, insert, refl, rules, ◌+◌, ◌≡◌}
-use Rattle.dwp_strings.proofs.TableLemmas.{used_found, indexed_both}
-use Rattle.dwp_strings.proofs.HashedLemmas.{added, entries_few, unordered, among_more}
-use Rattle.dwp_strings.proofs.HashedLemmas.{carried_among, among_one, absent_there, taken_back}
+use Rattle.dwp_strings.proofs.Terms.{arith, held, inr, insert, refl, rules, ◌+◌, ◌≡◌}
+use Rattle.dwp_strings.proofs.HashedLemmas.{absent_there, added, among_more, among_one}
+use Rattle.dwp_strings.proofs.HashedLemmas.{carried_among, indexed_both, unordered, used_found}
 use Rattle.dwp_strings.proofs.entries.Entries.place_ordered.Goals as goal
 
 pub returns-in-Ok-clause-placed : goal.returns-in-Ok-clause-placed
 returns-in-Ok-clause-placed c =
     grind (arith, used_found (held c.args.self.now) c.args.string.now, c.search.ensures.found)
-
-pub insert-requires-clause-small : goal.insert-requires-clause-small
-insert-requires-clause-small c = (entries_few c.args.self.now c.requires.table
-    c.as_slice.ensures.small).1
-
-pub overflow_add-self : goal.overflow_add-self
-overflow_add-self c = omega (
-  arith,
-  (entries_few c.args.self.now c.requires.table
-      c.as_slice.ensures.small).0,
-)
 
 pub returns : goal.returns
 returns c =
@@ -41,15 +27,3 @@ returns c =
     (carried_among e new refl (λ p there. rw inserted (among_more e.ordered _ _ p there)))
     (inr (rw inserted (among_one e.ordered _ c.len-place.result), c.requires.ordered)) in
     search rules
-
-pub returns-in-Ok-clause-kept : goal.returns-in-Ok-clause-kept
-returns-in-Ok-clause-kept c = grind (arith, elements)
-
-pub returns-in_err-append-clause-kept : goal.returns-in_err-append-clause-kept
-returns-in_err-append-clause-kept c = grind (arith, elements)
-
-pub returns-then-is_err-clause-kept : goal.returns-then-is_err-clause-kept
-returns-then-is_err-clause-kept c =
-    let back = taken_back c.args.self.now.bytes _ _ _ _ c.in_ok-append.ensures.ok
-    c.len-place.ensures.value c.truncate.ensures in
-    grind (arith, elements, back)

@@ -1,5 +1,5 @@
-use Rattle.dwp_strings.proofs.Terms.{arith, refl, Some, ◌≡◌}
-use Rattle.dwp_strings.proofs.HashedLemmas.{hashed_kept, carried_shared, begins_at_offset, place_in}
+use Rattle.dwp_strings.proofs.Terms.{Some, arith, refl, ◌≡◌}
+use Rattle.dwp_strings.proofs.HashedLemmas.{begins_at_offset, carried_shared, hashed_kept, place_in}
 use Rattle.dwp_strings.proofs.entries.Entries.share.Goals as goal
 
 pub returns-clause-table : goal.returns-clause-table

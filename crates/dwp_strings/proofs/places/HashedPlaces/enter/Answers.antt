@@ -1,4 +1,3 @@
-use Rattle.std.proofs.lemmas.Grind.{common_steps}
 use Rattle.dwp_strings.proofs.Terms.{arith, refl, sym, with_items_is}
 use Rattle.dwp_strings.proofs.places.HashedPlaces.enter.Goals as goal
 
@@ -14,12 +13,3 @@ returns-clause-entered c = λ is.
 pub returns-then-self-eq0-clause-entered : goal.returns-then-self-eq0-clause-entered
 returns-then-self-eq0-clause-entered c = λ is.
     c.enter_in_more.ensures.entered is c.args.place (sym c.in-Some.ensures.value)
-
-pub returns-then-put_next-clause-kept : goal.returns-then-put_next-clause-kept
-returns-then-put_next-clause-kept c = grind (arith, common_steps)
-
-pub returns-clause-kept : goal.returns-clause-kept
-returns-clause-kept c = grind (arith, common_steps)
-
-pub returns-clause-none : goal.returns-clause-none
-returns-clause-none c = grind (arith, common_steps)

@@ -1,12 +1,7 @@
-use Rattle.dwp_strings.proofs.Terms.{arith, refl, with_items_is}
-use Rattle.std.specs.Vec.{with_items}
+use Rattle.dwp_strings.proofs.Terms.{arith, refl, with_items, with_items_is}
 use Rattle.dwp_strings.proofs.places.HashedPlaces.grown.Goals as goal
-use Rattle.std.proofs.lemmas.Grind.{common_steps}
 
 pub returns-clause-entered : goal.returns-clause-entered
 returns-clause-entered c = λ n more.
     let slots = with_items c.in_ok-slots.slots c.put_again.new.slots in
     grind (arith, with_items_is slots c.put.new.slots, c.if-not-put.ensures.put refl n more)
-
-pub returns-clause-kept : goal.returns-clause-kept
-returns-clause-kept c = grind (arith, common_steps)

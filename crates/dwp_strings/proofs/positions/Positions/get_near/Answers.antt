@@ -1,8 +1,7 @@
-use Rattle.std.proofs.lemmas.Grind.{elements}
-use Rattle.dwp_strings.proofs.Terms
-use Terms.{arith, concat, get_or, get_or_read, length, pieces, sym, ◌-◌, ◌<◌, ◌∙◌, ◌≡◌}
-use Rattle.dwp_strings.proofs.ChunkLemmas.{length-starts_from, first_start, some_piece, placed}
-use Rattle.dwp_strings.proofs.ChunkLemmas.{piece_read, counts}
+use Rattle.dwp_strings.proofs.Terms.{arith, concat, elements, get_or, get_or_read, length, pieces}
+use Rattle.dwp_strings.proofs.Terms.{sym, ◌-◌, ◌<◌, ◌∙◌, ◌≡◌}
+use Rattle.dwp_strings.proofs.ChunkLemmas.{counts, first_start, length-starts_from, piece_read}
+use Rattle.dwp_strings.proofs.ChunkLemmas.{placed, some_piece}
 use Rattle.dwp_strings.proofs.positions.Positions.get_near.Goals.{After-index}
 use Rattle.dwp_strings.proofs.positions.Positions.get_near.Goals as goal
 

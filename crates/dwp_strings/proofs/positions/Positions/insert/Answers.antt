@@ -1,9 +1,8 @@
-use Rattle.dwp_strings.proofs.Terms
-use Terms.{ap, arith, concat, get_or_default, get_or_read, insert, IsChunked, length, pieces, sym}
-use Terms.{with_items_is, ◌+◌, ◌∙◌, ◌≡◌}
-use Rattle.std.proofs.lemmas.Grind.{common_steps, elements}
-use Rattle.dwp_strings.proofs.ChunkLemmas.{length-starts_from, start_within, placed, raised}
-use Rattle.dwp_strings.proofs.ChunkLemmas.{chunk_inserted}
+use Rattle.dwp_strings.proofs.Terms.{IsChunked, ap, arith, common_steps, concat, elements}
+use Rattle.dwp_strings.proofs.Terms.{get_or_default, get_or_read, insert, length, pieces, sym}
+use Rattle.dwp_strings.proofs.Terms.{with_items_is, ◌+◌, ◌∙◌, ◌≡◌}
+use Rattle.dwp_strings.proofs.ChunkLemmas.{chunk_inserted, length-starts_from, placed, raised}
+use Rattle.dwp_strings.proofs.ChunkLemmas.{start_within}
 use Rattle.dwp_strings.proofs.positions.Positions.insert.Goals.{After-raise}
 use Rattle.dwp_strings.proofs.positions.Positions.insert.Goals as goal
 

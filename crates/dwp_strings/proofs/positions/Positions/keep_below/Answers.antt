@@ -1,5 +1,4 @@
-use Rattle.std.proofs.lemmas.Grind.{elements}
-use Rattle.dwp_strings.proofs.Terms.{arith}
+use Rattle.dwp_strings.proofs.Terms.{arith, elements}
 use Rattle.dwp_strings.proofs.ChunkLemmas.{concat-filter}
 use Rattle.dwp_strings.proofs.positions.Positions.keep_below.Goals as goal
 

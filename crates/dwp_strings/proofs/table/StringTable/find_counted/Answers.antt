@@ -1,11 +1,9 @@
-use Rattle.dwp_strings.proofs.Terms
-use Terms.{All-contains, arith, Contains, false, false≢true, held, IsZeroFree, offset_of, refl, sym}
-use Terms.{true, ◌↔◌, ◌∙◌, ◌≡◌}
-use Rattle.dwp_strings.proofs.OffsetLemmas.{zero_within, zero_free-strings_in}
-use Rattle.dwp_strings.proofs.TableLemmas.{known_place_in, positions_few}
-use Rattle.dwp_strings.proofs.HashedLemmas.{misplaced, unplaced, unordered, absent_there}
+use Rattle.dwp_strings.proofs.Terms.{All-contains, Contains, IsZeroFree, arith, false, false≢true}
+use Rattle.dwp_strings.proofs.Terms.{held, offset_of, refl, sym, true, ◌↔◌, ◌∙◌, ◌≡◌}
+use Rattle.dwp_strings.proofs.HashedLemmas.{absent_there, known_place_in, misplaced, positions_few}
+use Rattle.dwp_strings.proofs.HashedLemmas.{unordered, unplaced}
+use Rattle.dwp_strings.proofs.Named.{zero_free-strings_in, zero_within}
 use Rattle.dwp_strings.proofs.table.StringTable.find_counted.Goals as goal
-use Rattle.std.proofs.Common.{rules}
 
 is_absent : {P : Type 0} → (P → ⊥) → (false ≡ true) ↔ P
 is_absent absent = (λ e. absurd (false≢true e), λ there. absurd (absent there))
@@ -55,12 +53,3 @@ returns-else-stands_at-clause-found c =
     rw (← c.self.view_is) (is_absent (misplaced c.self.inside.entries c.self.invariant
     c.args.string.now c.hash.result c.hash.ensures c.match-seek.place
     (grind (arith, c.match-seek.branch)) (grind arith) (grind (arith, c.stands_at.ensures))))
-
-pub returns-else-stands_at-clause-offset : goal.returns-else-stands_at-clause-offset
-returns-else-stands_at-clause-offset c = search rules
-
-pub search-found-requires-clause-zero_free : goal.search-found-requires-clause-zero_free
-search-found-requires-clause-zero_free c = search rules
-
-pub stands_at-requires : goal.stands_at-requires
-stands_at-requires c = search rules

@@ -4,6 +4,3 @@ use Rattle.dwp_strings.proofs.table.StringTable.finish.Goals as goal
 
 pub returns-clause-table : goal.returns-clause-table
 returns-clause-table c = search (rules, findable_table, ← c.self.view_is)
-
-pub returns-clause-whole : goal.returns-clause-whole
-returns-clause-whole c = search rules

@@ -1,11 +1,10 @@
-use Rattle.std.proofs.lemmas.Grind.{elements}
-use Rattle.dwp_strings.proofs.TableLemmas.{used_there}
-use Rattle.dwp_strings.proofs.table.StringTable.place.Goals as goal
-use Rattle.dwp_strings.proofs.table.StringTable.place.Goals.{in-Ok}
-use Rattle.dwp_strings.proofs.table.StringTable.place.Goals.{in-Ok-2+else-stands_at-2+in_ok-place-in-Ok-2+in_default+in_ok-share-in-Ok-2}
+use Rattle.dwp_strings.proofs.Terms.{arith, elements}
+use Rattle.dwp_strings.proofs.HashedLemmas.{used_there}
 use Rattle.dwp_strings.proofs.table.StringTable.place.Goals.{in-Err}
 use Rattle.dwp_strings.proofs.table.StringTable.place.Goals.{in-Err-2+in_ok-place-in-Err-2+in_default-2}
-use Rattle.std.proofs.Common.{rules, arith}
+use Rattle.dwp_strings.proofs.table.StringTable.place.Goals.{in-Ok}
+use Rattle.dwp_strings.proofs.table.StringTable.place.Goals.{in-Ok-2+else-stands_at-2+in_ok-place-in-Ok-2+in_default+in_ok-share-in-Ok-2}
+use Rattle.dwp_strings.proofs.table.StringTable.place.Goals as goal
 
 pub returns-then-stands_at-clause-placed : goal.returns-then-stands_at-clause-placed
 returns-then-stands_at-clause-placed c =
@@ -25,15 +24,6 @@ place_ordered-requires-clause-table c = elim c.match-seek.branch [
   | in-Err w ↦ rw w.self-inside-is c.self.invariant
   | in-Err-2+in_ok-place-in-Err-2+in_default-2 w ↦ rw w.self-inside-is w.add.ensures.table
 ]
-
-pub add-requires-clause-hashed : goal.add-requires-clause-hashed
-add-requires-clause-hashed c = search rules
-
-pub add_over-requires-clause-hashed : goal.add_over-requires-clause-hashed
-add_over-requires-clause-hashed c = search rules
-
-pub place_ordered-requires-clause-hashed : goal.place_ordered-requires-clause-hashed
-place_ordered-requires-clause-hashed c = search rules
 
 pub returns-then-stands_at-clause-kept : goal.returns-then-stands_at-clause-kept
 returns-then-stands_at-clause-kept c = grind (arith, elements)

@@ -1,7 +1,6 @@
-use Rattle.std.proofs.lemmas.Grind.{elements}
-use Rattle.dwp_strings.proofs.TableLemmas.{used_there}
+use Rattle.dwp_strings.proofs.Terms.{arith, elements}
+use Rattle.dwp_strings.proofs.HashedLemmas.{used_there}
 use Rattle.dwp_strings.proofs.table.StringTable.place_guessed.Goals as goal
-use Rattle.std.proofs.Common.{rules, arith}
 
 pub returns-then-begins_alike-clause-placed : goal.returns-then-begins_alike-clause-placed
 returns-then-begins_alike-clause-placed c =
@@ -12,9 +11,6 @@ pub returns-then-begins_alike-2-clause-placed : goal.returns-then-begins_alike-2
 returns-then-begins_alike-2-clause-placed c =
     rw (← c.self.view_is) (used_there _ _ _ _ c.self.invariant.findable.indexed
     (rw c.as_slice-in-Ok.ensures.value at (c.begins_alike-in-Ok.ensures c.if-begins_alike-2.true)))
-
-pub returns-then-begins_alike-2-clause-fits : goal.returns-then-begins_alike-2-clause-fits
-returns-then-begins_alike-2-clause-fits c = search rules
 
 pub returns-then-begins_alike-clause-kept : goal.returns-then-begins_alike-clause-kept
 returns-then-begins_alike-clause-kept c = grind (arith, elements)

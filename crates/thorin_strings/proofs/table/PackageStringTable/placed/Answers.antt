@@ -1,6 +1,6 @@
 use Rattle.std.proofs.lemmas.Grind.{elements}
 use Rattle.std.proofs.Common.{◌-◌, arith, drop, length, refl, take}
-use Rattle.dwp_strings.proofs.OffsetLemmas.{offset_within}
+use Rattle.dwp_strings.proofs.Named.{offset_within}
 use Rattle.thorin_strings.proofs.KnownLemmas.{ended_read, read_used}
 use Rattle.thorin_strings.proofs.table.PackageStringTable.placed.Goals.{then-is_near+in_ok-end}
 use Rattle.thorin_strings.proofs.table.PackageStringTable.placed.Goals.{else-is_near+in_ok-end-2}
