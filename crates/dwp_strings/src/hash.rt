@@ -40,7 +40,7 @@ fn word_at(bytes: &[u8], at: usize) -> u64
     half_at(rest, 0) | half_at(rest, 4) << 32
 }
 
-/// The state after a block of sixteen bytes. (Its second word isn't 0, so needn't be changed first.)
+/// The state after a block of 16 bytes. (Its second word isn't 0, so needn't be changed first.)
 #[inline(always)]
 fn mixed(bytes: &[u8], state: u64, at: usize) -> u64
     requires { at + 16 ≤ length bytes.now }

@@ -62,6 +62,7 @@ impl Model for StringTable {
     ghost invariant = { λ t. IsHashed t.entries };
 }
 
+#[tactic(auto, using(std::proofs::lemmas::List::take_all))]
 impl StringTable {
     /// A table without strings, which takes no memory.
     pub fn new(alloc: Global) -> Self

@@ -1,8 +1,6 @@
-use Rattle.dwp_strings.proofs.Terms.{arith, elements}
 use Rattle.dwp_strings.proofs.HashedLemmas.{used_there}
-use Rattle.dwp_strings.proofs.table.StringTable.place.Goals.{in-Err}
+use Rattle.dwp_strings.proofs.table.StringTable.place.Goals.{in-Err, in-Ok}
 use Rattle.dwp_strings.proofs.table.StringTable.place.Goals.{in-Err-2+in_ok-place-in-Err-2+in_default-2}
-use Rattle.dwp_strings.proofs.table.StringTable.place.Goals.{in-Ok}
 use Rattle.dwp_strings.proofs.table.StringTable.place.Goals.{in-Ok-2+else-stands_at-2+in_ok-place-in-Ok-2+in_default+in_ok-share-in-Ok-2}
 use Rattle.dwp_strings.proofs.table.StringTable.place.Goals as goal
 
@@ -24,9 +22,3 @@ place_ordered-requires-clause-table c = elim c.match-seek.branch [
   | in-Err w ↦ rw w.self-inside-is c.self.invariant
   | in-Err-2+in_ok-place-in-Err-2+in_default-2 w ↦ rw w.self-inside-is w.add.ensures.table
 ]
-
-pub returns-then-stands_at-clause-kept : goal.returns-then-stands_at-clause-kept
-returns-then-stands_at-clause-kept c = grind (arith, elements)
-
-pub returns-then-stands_at-2-clause-kept : goal.returns-then-stands_at-2-clause-kept
-returns-then-stands_at-2-clause-kept c = grind (arith, elements)

@@ -1,4 +1,3 @@
-use Rattle.dwp_strings.proofs.Terms.{arith, elements}
 use Rattle.dwp_strings.proofs.HashedLemmas.{used_there}
 use Rattle.dwp_strings.proofs.table.StringTable.place_guessed.Goals as goal
 
@@ -11,12 +10,3 @@ pub returns-then-begins_alike-2-clause-placed : goal.returns-then-begins_alike-2
 returns-then-begins_alike-2-clause-placed c =
     rw (← c.self.view_is) (used_there _ _ _ _ c.self.invariant.findable.indexed
     (rw c.as_slice-in-Ok.ensures.value at (c.begins_alike-in-Ok.ensures c.if-begins_alike-2.true)))
-
-pub returns-then-begins_alike-clause-kept : goal.returns-then-begins_alike-clause-kept
-returns-then-begins_alike-clause-kept c = grind (arith, elements)
-
-pub returns-then-begins_alike-2-clause-kept : goal.returns-then-begins_alike-2-clause-kept
-returns-then-begins_alike-2-clause-kept c = grind (arith, elements)
-
-pub returns-in-Ok-clause-kept : goal.returns-in-Ok-clause-kept
-returns-in-Ok-clause-kept c = grind (arith, elements)
