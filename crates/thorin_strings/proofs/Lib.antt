@@ -1,4 +1,3 @@
+pub mod Terms
 pub mod RemapLemmas
 pub mod NamedEntries
-pub mod NamedBytes
-pub mod KnownLemmas

@@ -1,27 +1,69 @@
--- What rewritten entries name, and a range of them.
-use Rattle.std.proofs.Common.{◌≡◌, ℕ, zero, suc, ◌<◌, ◌≤◌, true, ltb, List, [], ◌∷◌, length, take}
-use Rattle.std.proofs.Common.{get_or, Result, Ok, sym, ◌∙◌, ⊎_elim, arith, length-append, take_all}
-use Rattle.std.proofs.Common.{ltb-false, drop-drop, drop_at, eqb-true, eqb, ◌+◌, ◌*◌, ◌++◌}
+-- The header of a range of string offsets, and the bytes of its entries, as they are read; what
+-- rewritten entries name, and a range of them.
+use Rattle.std.proofs.Common.{Result, drop-drop, drop_at, eqb-true, ltb, ltb-false, suc-mul, true}
+use Rattle.std.proofs.Common.{zero-mul, ⊎_elim}
+use Rattle.std.proofs.lemmas.Bool.Decides.{nat_tests}
 use Rattle.std.proofs.lemmas.List.{get_or_append_left, get_or_push}
-use Rattle.std.proofs.lemmas.Bool.{cases_eq, eqb-false}
+use Rattle.std.proofs.lemmas.Nat.{from_be_bytes-to_be_bytes_4, from_be_bytes-to_be_bytes_8}
+use Rattle.std.proofs.lemmas.Nat.{from_le_bytes-to_le_bytes_4, from_le_bytes-to_le_bytes_8}
 use Rattle.std.proofs.lemmas.Nat.{row_fits}
-use Rattle.dwp_base.specs.declared.endian.Endianness.{Endianness}
-use Rattle.dwp_base.proofs.Steps.{bind-was, guard-ok, same-ok, by-choice}
+use Rattle.thorin_strings.proofs.Terms
+use Terms.{Big, Encoding, Endianness, ErrorValue, IsZeroFree, List, Little, Ok, [], arith, bind-was}
+use Terms.{cases_eq, drop, entry_at, entry_bytes, entry_count, eqb, eqb-false, fitting_offset}
+use Terms.{get_or, header_of, header_size, length, length-append, named_at, number, number_bytes}
+use Terms.{offset_at, offset_limit, offset_size, refl, remapped, remapped_entries, remapped_entry}
+use Terms.{suc, sym, take, take_all, there_later, zero, ℕ, ◌*◌, ◌++◌, ◌+◌, ◌<◌, ◌∙◌, ◌∷◌, ◌≡◌, ◌≤◌}
 use Rattle.dwp_base.proofs.Bools.{by-bool}
-use Rattle.dwp_bytes.specs.declared.encoding.Encoding.{Encoding}
-use Rattle.dwp_bytes.specs.StringOffsets.{entry_count, header_size}
-use Rattle.dwp_bytes.specs.Encoding.{offset_size}
-use Rattle.thorin_errors.specs.Errors.{ErrorValue}
+use Rattle.dwp_base.proofs.Steps.{by-choice, guard-ok, same-ok}
+use Rattle.dwp_bytes.specs.declared.encoding.Format.{Format}
+use Rattle.dwp_bytes.specs.declared.encoding.Format.TheVariants.{Dwarf32, Dwarf64}
+use Rattle.dwp_strings.proofs.Named.{has, has_Decides, read_free, read_later, string_was, used}
+use Rattle.dwp_strings.specs.Strings.{IsTable, offset_of}
 use Rattle.thorin_errors.specs.Answers.{as_error}
-use Rattle.dwp_strings.specs.Strings.{offset_of, IsZeroFree, IsTable}
-use Rattle.thorin_strings.specs.StringOffsets.{offset_limit, named_at, fitting_offset}
-use Rattle.thorin_strings.specs.StringOffsets.{remapped_entry, remapped_entries, entry_at, remapped}
-use Rattle.thorin_strings.specs.StringOffsets.{entry_bytes, header_of, offset_at}
-use Rattle.thorin_strings.specs.Rewritten.{NamesTheSame, NamesOneString}
-use Rattle.dwp_strings.proofs.Named.{has, there_later, string_was, read_free, used, read_later}
+use Rattle.thorin_strings.specs.Rewritten.{NamesOneString, NamesTheSame}
 use Rattle.thorin_strings.proofs.RemapLemmas.{kept_more}
-use Rattle.dwp_strings.proofs.Named.{has_Decides}
-use Rattle.thorin_strings.proofs.NamedBytes.{entry_read, entries_long, header_long}
+
+-- a number that fits is written in so many bytes, and read from them
+kept : (order : Endianness) (format : Format) (x : ℕ) (rest : List ℕ)
+    → (length (number_bytes order (offset_size format) x) ≡ offset_size format)
+    × (x ≤ offset_limit format
+    → number order (offset_size format) (number_bytes order (offset_size format) x ++ rest) ≡ x)
+kept Little Dwarf32 x rest = (refl, λ h. omega (arith, from_le_bytes-to_le_bytes_4 x (omega arith)))
+kept Little Dwarf64 x rest = (refl, λ h. omega (arith, from_le_bytes-to_le_bytes_8 x (omega arith)))
+kept Big Dwarf32 x rest = (refl, λ h. omega (arith, from_be_bytes-to_be_bytes_4 x (omega arith)))
+kept Big Dwarf64 x rest = (refl, λ h. omega (arith, from_be_bytes-to_be_bytes_8 x (omega arith)))
+
+-- the entries
+pub entries_long : (order : Endianness) (format : Format) (offsets : List ℕ)
+    → length (entry_bytes order format offsets) ≡ length offsets * offset_size format
+entries_long order format [] = sym (zero-mul (offset_size format))
+entries_long order format (x ∷ xs) = grind (
+  arith,
+  length-append,
+  (kept order format x []).0,
+  entries_long order format xs,
+  suc-mul (length xs) (offset_size format),
+)
+
+pub entry_read : (order : Endianness) (format : Format) (offsets : List ℕ) (i : ℕ)
+    → i < length offsets → get_or offsets i 0 ≤ offset_limit format
+    → number order (offset_size format) (drop (i * offset_size format) (entry_bytes order format
+    offsets)) ≡ get_or offsets i 0
+entry_read order format [] i less fits = absurd (omega arith)
+entry_read order format (x ∷ xs) zero less fits =
+    grind (arith, zero-mul (offset_size format), kept order format x (entry_bytes order format xs))
+entry_read order format (x ∷ xs) (suc i) less fits =
+    let width = offset_size format in
+    let bytes = entry_bytes order format (x ∷ xs) in
+    let long = (kept order format x []).0 in
+    let read = entry_read order format xs i in
+    grind (arith, suc-mul i width, drop_at, drop-drop (i * width) width bytes, long, read)
+
+-- the header
+pub header_long : (order : Endianness) (encoding : Encoding) (size : ℕ) (header : List ℕ)
+    → header_of order encoding size ≡ Ok header → length header ≡ header_size encoding
+unfolding header_of
+header_long order encoding size header h = grind (arith, nat_tests)
 
 pub as_error_ok : {A E : Type 0} (f : E → ErrorValue) (r : Result A E) (x : A)
     → as_error f r ≡ Ok x → r ≡ Ok x

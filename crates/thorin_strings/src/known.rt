@@ -13,10 +13,10 @@ use dwp_base::Endianness;
 use dwp_bytes::Encoding;
 use dwp_strings::{ROUNDS, end_of, short_end};
 
+#[tactic(auto, using(std::proofs::lemmas::List::take_all))]
 impl PackageStringTable {
-    /// The offset of the string at an offset of its section, where no table's offset is past the
-    /// limit, and the string's length. None else, where it can't be read or its end isn't near, if
-    /// it has to be, and for want of memory; the table is then as it was.
+    /// The offset of a string, where no table's offset is past the limit, and its length, where its
+    /// end is near, if it has to be.
     #[inline(always)]
     fn placed(
         &mut self,
@@ -50,9 +50,8 @@ impl PackageStringTable {
         Some((offset as u64, end))
     }
 
-    /// As `offset_told`, where short strings aren't remembered. (There are two for speed alone:
-    /// this one stays a call, which takes a short string with nothing to remember, and only what is
-    /// left goes through the other, which stands in the loop over all other ranges.)
+    /// As `offset_told`, where short strings aren't remembered. (Two for speed alone: this stays a
+    /// call, and the other stands in the loop over all other ranges.)
     #[inline(never)]
     pub(crate) fn other_offset(
         &mut self,
@@ -78,9 +77,7 @@ impl PackageStringTable {
         }
     }
 
-    /// The offset of the string at an offset of its section, which may be remembered, where no
-    /// table's offset is past the limit. None else, where it can't be read and for want of memory;
-    /// the table is then as it was.
+    /// The offset of a string that may be remembered, where no table's offset is past the limit.
     #[inline(always)]
     fn offset_told(
         &mut self,
@@ -105,8 +102,7 @@ impl PackageStringTable {
         Some(offset)
     }
 
-    /// The offset of the string that the entry of a number names. None as `offset_told`, of the
-    /// largest offset of the format, and also where the entry can't be read.
+    /// The offset of the string that an entry names, where that can be read.
     #[inline(always)]
     pub(crate) fn entry_told(
         &mut self,

@@ -94,7 +94,7 @@ pub(crate) fn header(
 
 /// The offset that the entry of a number has.
 #[inline(always)]
-#[tactic(auto, unfolding(crate::specs::StringOffsets::offset_at))]
+#[tactic(auto, unfolding(crate::specs::StringOffsets::offset_at), using(std::proofs::lemmas::Grind::elements))]
 pub(crate) fn entry_at(
     debug_str_offsets: &[u8],
     endian: Endianness,
@@ -142,6 +142,7 @@ pub(crate) fn dwarf32(encoding: Encoding) -> Encoding
     }
 }
 
+#[tactic(auto, using(std::proofs::lemmas::List::take_all))]
 impl PackageStringTable {
     /// A range of string offsets, rewritten so that each entry names the same string in this table,
     /// under the same encoding. New strings are appended. A refusal leaves the table as it was.
@@ -209,7 +210,7 @@ impl PackageStringTable {
     /// As `remap_repeating`, but that a refusal leaves what was added before it. (What nearly all
     /// ranges have is known to the compiler in a loop of its own.)
     #[inline(never)]
-    #[tactic(auto, unfolding(crate::specs::StringOffsets::remapped))]
+    #[tactic(auto, unfolding(crate::specs::StringOffsets::remapped), using(std::proofs::lemmas::List::take_all))]
     fn remapped_by_form(
         &mut self,
         repeats: &mut Repeats,
@@ -248,11 +249,10 @@ impl PackageStringTable {
         }
     }
 
-    /// As `remapped_by_form`, for one form: the order and the encoding, which stand apart from the
-    /// range, so that the compiler knows them where they are constants. The range isn't shorter
-    /// than its header.
+    /// As `remapped_by_form`, of one order and encoding, which the compiler knows where they are
+    /// constants.
     #[inline(always)]
-    #[tactic(auto, unfolding(crate::specs::StringOffsets::remapped))]
+    #[tactic(auto, unfolding(crate::specs::StringOffsets::remapped), using(std::proofs::lemmas::List::take_all))]
     fn remapped(
         &mut self,
         repeats: &mut Repeats,
@@ -327,9 +327,8 @@ impl PackageStringTable {
         Ok(offset)
     }
 
-    /// The offset of the string at an offset of its section, which is read where it isn't
-    /// remembered, and added where it is new.
-    #[tactic(auto, unfolding(crate::specs::Known::offset_read))]
+    /// The offset of a string, which is read where it isn't remembered.
+    #[tactic(auto, unfolding(crate::specs::Known::offset_read), using(std::proofs::lemmas::List::take_all))]
     fn offset_read(
         &mut self,
         repeats: &mut Repeats,

@@ -42,8 +42,7 @@ impl Model for Repeats {
     ghost view = { λ r. r.pairs.items };
 }
 
-/// The offset in the table of the string at an offset, where a pair has it, or else the link by
-/// which it would be found.
+/// What a pair has for an offset, or else the link by which that would be found.
 fn walk(links: &[usize], pairs: &[(u64, u64)], offset: u64) -> Result<u64, usize>
     ensures { IfOk result (λ known. Contains pairs.now (offset, known)) }
 {
@@ -154,8 +153,7 @@ impl Repeats {
         walk(&self.links, &self.pairs, offset).ok()
     }
 
-    /// Remembers the offset in the table of the string at an offset, where that string is long or
-    /// its cell is free.
+    /// Remembers where a string is in the table, if it is long or its cell is free.
     #[inline(always)]
     pub(crate) fn enter(&mut self, length: usize, offset: u64, known: u64) -> Result<(), AllocError>
         ensures { (section : List ℕ) (strings : List (List ℕ)) → AreKnown section strings self.old

@@ -78,9 +78,6 @@ impl PackageStringTable {
     }
 
     /// The offset of a string, which goes last where it is new.
-    ///
-    /// # Errors
-    /// Want of memory, and then nothing changed.
     #[inline(always)]
     pub(crate) fn place(&mut self, string: &[u8]) -> Result<usize, AllocError>
         requires { IsZeroFree string.now }
@@ -91,8 +88,7 @@ impl PackageStringTable {
         self.strings.place(string)
     }
 
-    /// The offset of the string that some bytes begin with, as `StringTable::place_guessed` tells
-    /// it.
+    /// The offset of a string, as `StringTable::place_guessed` tells it.
     #[inline(always)]
     pub(crate) fn place_guessed(&mut self, bytes: &[u8], end: usize) -> Option<usize>
         requires within { end < length bytes.now }

@@ -33,6 +33,7 @@ fn word_at(debug_str_offsets: &[u8], encoding: Encoding, index: usize) -> u64
 
 /// Writes an offset of four bytes, the lowest first.
 #[inline(always)]
+#[tactic(auto, using(std::proofs::lemmas::Grind::elements))]
 fn write_word(out: &mut [u8], at: usize, offset: u64)
     requires within { at + 4 ≤ length out.old }
     requires fits { offset < 2 ^ 32 }
@@ -71,8 +72,7 @@ fn append_by_pieces(out: &mut Vec<u8>, bytes: &[u8]) -> Result<(), AllocError>
 /// How many entries are rewritten one by one where the first of them isn't told by a hash.
 const APART: usize = 16;
 
-/// The number of the entry from which on it is tried again to tell entries by hashes, once that
-/// came from one to another.
+/// From which entry on it is tried again to tell entries by hashes.
 fn next_try(again: usize, from: usize, to: usize) -> usize {
     if from >= again && to == from {
         to.saturating_add(APART)
@@ -85,11 +85,10 @@ fn next_try(again: usize, from: usize, to: usize) -> usize {
 /// are looked for among those that are remembered.
 const SHORT: u64 = 512;
 
+#[tactic(auto, using(std::proofs::lemmas::List::take_all))]
 impl PackageStringTable {
-    /// The offset of the string at an offset of its section, which is short and ends before the
-    /// next one. None where it isn't that, where fewer bytes are left than a short string may have,
-    /// which `last` tells, where its hash doesn't tell its place or four bytes don't hold it, and
-    /// for want of memory; nothing changed then.
+    /// The offset of a short string that ends before the next one, where its hash tells its place;
+    /// behind `last` fewer bytes are left than a short string may have.
     #[inline(always)]
     fn guessed_offset(&mut self, debug_str: &[u8], last: u64, named: u64, after: u64) -> Option<u64>
         requires { last + 512 ≤ length debug_str.now }
@@ -112,10 +111,9 @@ impl PackageStringTable {
         Some(offset as u64)
     }
 
-    /// Rewrites the entries of a range, of four bytes each, from a number on, as far as each is
-    /// told so and isn't the last, in the room that they have behind its header; the number of the
-    /// next. `after` is where the next string begins, if the offsets are in order, as those that
-    /// compilers make are. Where `from` is less than `tried_from` none is rewritten.
+    /// Rewrites entries in their places from a number on, as far as each is told so and isn't the
+    /// last; the number of the next. (Offsets that compilers make are in order, so `after` is where
+    /// the next string begins.)
     #[inline(never)]
     fn write_told(
         &mut self,
@@ -163,8 +161,7 @@ impl PackageStringTable {
         index
     }
 
-    /// The offset of the string that an entry names by this offset of its section, which is added
-    /// where it is new.
+    /// The offset of the string that an entry names, which is added where it is new.
     #[inline(always)]
     fn other_word(
         &mut self,
@@ -192,10 +189,9 @@ impl PackageStringTable {
         }
     }
 
-    /// `remapped` of a range that is whole, with offsets of four bytes, the lowest first, which
-    /// isn't shorter than its header.
+    /// `remapped` of a whole range, with offsets of four bytes, the lowest first.
     #[inline(always)]
-    #[tactic(auto, unfolding(crate::specs::StringOffsets::remapped))]
+    #[tactic(auto, unfolding(crate::specs::StringOffsets::remapped), using(std::proofs::lemmas::List::take_all))]
     pub(crate) fn remapped_words(
         &mut self,
         repeats: &mut Repeats,

@@ -20,7 +20,7 @@ use Rattle.std.proofs.lemmas.List.Sums.{sum_by-append, sum_by-cons, sum_by_push}
 use Rattle.thorin_strings.specs.StringOffsets.{fitting_offset, named_at, offset_at}
 use Rattle.thorin_strings.specs.StringOffsets.{remapped_entries, remapped_entry}
 use Rattle.dwp_strings.proofs.Named.{read_free, string_was, used}
-use Rattle.thorin_strings.proofs.NamedBytes.{entries_long, header_long}
+use Rattle.thorin_strings.proofs.NamedEntries.{entries_long, header_long}
 use Rattle.thorin_package_input.specs.PackagedOffsets.{ranges_test, rewritten_from}
 use Rattle.thorin_package_input.proofs.RewriteSteps.{next_passed}
 use Rattle.thorin_join.specs.FirstUse.{named_by_ranges, named_by_section, named_in, with_strings}

@@ -1,5 +1,4 @@
-use Rattle.std.proofs.lemmas.Grind.{elements}
-use Rattle.std.proofs.Common.{◌-◌, arith, append_assoc, take-add}
+use Rattle.thorin_strings.proofs.Terms.{append_assoc, arith, elements, take-add, ◌-◌}
 use Rattle.thorin_strings.proofs.words.append_by_pieces.Goals as goal
 
 pub loop-at-preserved : goal.loop-at-preserved

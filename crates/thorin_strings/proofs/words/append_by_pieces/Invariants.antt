@@ -1,4 +1,4 @@
-use Rattle.std.proofs.Common.{◌≡◌, ◌≤◌, ◌-◌, ◌++◌, take, length}
+use Rattle.thorin_strings.proofs.Terms.{length, take, ◌++◌, ◌-◌, ◌≡◌, ◌≤◌}
 use Rattle.thorin_strings.proofs.words.append_by_pieces.Given as goal
 
 abbrev pub invariant-loop-at : goal.invariant-loop-at

@@ -1,6 +1,4 @@
-use Rattle.std.proofs.Common.{◌+◌, ◌*◌, arith}
-use Rattle.std.proofs.lemmas.List.{take_rest}
-use Rattle.thorin_strings.specs.StringOffsets.{offset_at}
+use Rattle.thorin_strings.proofs.Terms.{arith, offset_at, take_rest, ◌*◌, ◌+◌}
 use Rattle.thorin_strings.proofs.words.word_at.Goals as goal
 
 pub returns : goal.returns

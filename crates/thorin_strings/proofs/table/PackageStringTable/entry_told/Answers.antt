@@ -1,4 +1,4 @@
-use Rattle.thorin_strings.proofs.KnownLemmas.{entry_some, entry_was}
+use Rattle.thorin_strings.proofs.RemapLemmas.{entry_some, entry_was}
 use Rattle.thorin_strings.proofs.table.PackageStringTable.entry_told.Goals as goal
 
 pub returns-clause-meaning : goal.returns-clause-meaning

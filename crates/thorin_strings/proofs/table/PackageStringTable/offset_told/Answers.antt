@@ -1,6 +1,4 @@
-use Rattle.std.proofs.lemmas.Grind.{elements}
-use Rattle.std.proofs.Common.{arith}
-use Rattle.thorin_strings.proofs.KnownLemmas.{are_known_later, known_used, was_read}
+use Rattle.thorin_strings.proofs.RemapLemmas.{are_known_later, known_used, was_read}
 use Rattle.thorin_strings.proofs.table.PackageStringTable.offset_told.Goals as goal
 
 pub returns-clause-known : goal.returns-clause-known
@@ -10,9 +8,3 @@ returns-clause-known c =
     c.enter-remembered.ensures _ _
     (are_known_later _ _ _ _ c.placed.ensures.kept c.requires.known)
     (known_used _ _ _ _ _ _ read.1 read.2)
-
-pub returns-then-known-limit-clause-kept : goal.returns-then-known-limit-clause-kept
-returns-then-known-limit-clause-kept c = grind (arith, elements)
-
-pub returns-else-known-limit-clause-kept : goal.returns-else-known-limit-clause-kept
-returns-else-known-limit-clause-kept c = grind (arith, elements)

@@ -1,9 +1,7 @@
-use Rattle.std.proofs.lemmas.Grind.{elements}
-use Rattle.std.proofs.Common.{◌-◌, arith, drop, length, refl, take}
-use Rattle.dwp_strings.proofs.Named.{offset_within}
-use Rattle.thorin_strings.proofs.KnownLemmas.{ended_read, read_used}
-use Rattle.thorin_strings.proofs.table.PackageStringTable.placed.Goals.{then-is_near+in_ok-end}
+use Rattle.thorin_strings.proofs.Terms.{arith, drop, length, offset_within, refl, take, ◌-◌}
+use Rattle.thorin_strings.proofs.RemapLemmas.{ended_read, read_used}
 use Rattle.thorin_strings.proofs.table.PackageStringTable.placed.Goals.{else-is_near+in_ok-end-2}
+use Rattle.thorin_strings.proofs.table.PackageStringTable.placed.Goals.{then-is_near+in_ok-end}
 use Rattle.thorin_strings.proofs.table.PackageStringTable.placed.Goals as goal
 
 pub place-requires : goal.place-requires
@@ -29,6 +27,3 @@ returns-clause-meaning c =
 
 pub returns-clause-fits : goal.returns-clause-fits
 returns-clause-fits c = grind (arith, offset_within, c.in-Ok.ensures.placed)
-
-pub returns-then-limit-data-clause-kept : goal.returns-then-limit-data-clause-kept
-returns-then-limit-data-clause-kept c = grind (arith, elements)

@@ -1,10 +1,7 @@
-use Rattle.std.proofs.lemmas.Grind.{elements}
-use Rattle.std.proofs.Common.{◌≡◌, [], Ok, sym, take, length, arith, append-nil, take_all, refl}
-use Rattle.std.proofs.lemmas.Result.{err_from_is_err_and}
-use Rattle.thorin_strings.specs.StringOffsets.{remapped_entry, remapped_entries}
-use Rattle.thorin_strings.specs.Known.{AreKnown}
-use Rattle.thorin_strings.proofs.KnownLemmas.{remapped_refuses, rewritten_more}
-use Rattle.thorin_strings.proofs.RemapLemmas.{kept_more}
+use Rattle.thorin_strings.proofs.Terms
+use Terms.{AreKnown, Ok, [], append-nil, arith, elements, err_from_is_err_and, length, refl}
+use Terms.{remapped_entries, remapped_entry, sym, take, take_all, ◌≡◌}
+use Rattle.thorin_strings.proofs.RemapLemmas.{kept_more, remapped_refuses, rewritten_more}
 use Rattle.thorin_strings.proofs.table.PackageStringTable.remapped.Goals as goal
 
 pub loop-index-init : goal.loop-index-init

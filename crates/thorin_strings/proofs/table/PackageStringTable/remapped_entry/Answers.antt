@@ -1,9 +1,6 @@
-use Rattle.std.proofs.lemmas.Grind.{elements}
-use Rattle.std.proofs.Common.{arith}
-use Rattle.std.proofs.lemmas.Result.{err_from_is_err_and}
-use Rattle.thorin_strings.specs.StringOffsets.{named_at, remapped_entry}
+use Rattle.thorin_strings.proofs.Terms.{arith, err_from_is_err_and, named_at, remapped_entry}
+use Rattle.thorin_strings.proofs.RemapLemmas.{entry_large, entry_read, entry_unread, entry_was}
 use Rattle.thorin_strings.proofs.table.PackageStringTable.remapped_entry.Goals as goal
-use Rattle.thorin_strings.proofs.KnownLemmas.{entry_large, entry_read, entry_unread, entry_was}
 
 pub returns-in-Err-clause-meaning : goal.returns-in-Err-clause-meaning
 unfolding named_at remapped_entry
@@ -31,6 +28,3 @@ returns-then-offset_limit-offset-clause-meaning c =
     let entry = entry_was range.order range.encoding range.offsets.now c.args.index c.in-Ok.named
     c.in-Ok.ensures in
     grind (arith, entry, entry_large)
-
-pub returns-in-Err-clause-kept : goal.returns-in-Err-clause-kept
-returns-in-Err-clause-kept c = grind (arith, elements)

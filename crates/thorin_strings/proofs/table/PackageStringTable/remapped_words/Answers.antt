@@ -1,21 +1,13 @@
-use Rattle.std.proofs.lemmas.Grind.{elements}
-use Rattle.std.proofs.Common.{◌≡◌, ◌≤◌, ◌+◌, ◌*◌, ◌∙◌, sym, ap, take, length, arith, take_all}
-use Rattle.std.proofs.Common.{append-nil, refl, [], ◌<◌, length-append, length-take, length-drop}
-use Rattle.std.proofs.Common.{rules}
-use Rattle.std.specs.Vec.{with_items}
-use Rattle.std.proofs.lemmas.List.{with_items_is}
-use Rattle.std.proofs.lemmas.Result.{err_from_is_err_and}
-use Rattle.dwp_base.specs.declared.endian.Endianness.TheVariants.{Little}
-use Rattle.dwp_bytes.specs.Encoding.{offset_size}
-use Rattle.dwp_bytes.specs.StringOffsets.{header_size}
-use Rattle.thorin_strings.specs.StringOffsets.{remapped_entries}
-use Rattle.thorin_strings.specs.Written.{AreWritten}
-use Rattle.thorin_strings.proofs.KnownLemmas.{are_known_later, remapped_refuses, one_written}
-use Rattle.thorin_strings.proofs.NamedBytes.{header_long}
-use Rattle.thorin_strings.proofs.RemapLemmas.{kept_more}
-use Rattle.thorin_strings.proofs.table.PackageStringTable.remapped_words.Goals as goal
+use Rattle.thorin_strings.proofs.Terms
+use Terms.{AreWritten, Little, [], ap, append-nil, arith, elements, err_from_is_err_and, header_size}
+use Terms.{length, length-append, length-drop, length-take, offset_size, refl, remapped_entries}
+use Terms.{rules, sym, take, take_all, with_items, with_items_is, ◌*◌, ◌+◌, ◌<◌, ◌∙◌, ◌≡◌, ◌≤◌}
+use Rattle.thorin_strings.proofs.NamedEntries.{header_long}
+use Rattle.thorin_strings.proofs.RemapLemmas.{are_known_later, kept_more, one_written}
+use Rattle.thorin_strings.proofs.RemapLemmas.{remapped_refuses}
 use Rattle.thorin_strings.proofs.table.PackageStringTable.remapped_words.Goals.{After-len-first}
 use Rattle.thorin_strings.proofs.table.PackageStringTable.remapped_words.Goals.{After-write_told-index}
+use Rattle.thorin_strings.proofs.table.PackageStringTable.remapped_words.Goals as goal
 
 is_first : (c : goal.After-len-first) → c.len-first.result ≡ header_size c.args.range.now.encoding
 is_first c = grind (arith, c.len-first.ensures, header_long Little c.args.range.now.encoding)

@@ -1,7 +1,5 @@
-use Rattle.std.proofs.Common.{◌≡◌, ◌≤◌, ◌+◌, ◌-◌, ◌*◌, length, take}
-use Rattle.dwp_bytes.specs.StringOffsets.{header_size}
-use Rattle.thorin_strings.specs.Known.{AreKnown}
-use Rattle.thorin_strings.specs.Written.{AreWritten}
+use Rattle.thorin_strings.proofs.Terms.{AreKnown, AreWritten, header_size, length, take, ◌*◌, ◌+◌}
+use Rattle.thorin_strings.proofs.Terms.{◌-◌, ◌≡◌, ◌≤◌}
 use Rattle.thorin_strings.proofs.table.PackageStringTable.remapped_words.Given as goal
 
 abbrev pub invariant-loop-index : goal.invariant-loop-index

@@ -1,8 +1,5 @@
-use Rattle.std.proofs.lemmas.Grind.{elements}
-use Rattle.std.proofs.Common.{◌∙◌, arith}
-use Rattle.dwp_base.specs.declared.endian.Endianness.TheVariants.{Little}
-use Rattle.thorin_strings.proofs.KnownLemmas.{entry_read, fits_word, one_written}
-use Rattle.thorin_strings.proofs.RemapLemmas.{kept_more}
+use Rattle.thorin_strings.proofs.Terms.{Little, arith, elements, ◌∙◌}
+use Rattle.thorin_strings.proofs.RemapLemmas.{entry_read, fits_word, kept_more, one_written}
 use Rattle.thorin_strings.proofs.table.PackageStringTable.write_told.Goals as goal
 
 pub loop-index-preserved : goal.loop-index-preserved
@@ -21,9 +18,6 @@ loop-index-preserved c = record {
       c.write_word.ensures.written (c.loop-index.invariant.told old front so_far);
   kept = kept_more _ _ _ c.loop-index.invariant.kept c.guessed_offset.ensures.kept;
 }
-
-pub returns-then-from-tried_from-clause-kept : goal.returns-then-from-tried_from-clause-kept
-returns-then-from-tried_from-clause-kept c = grind (arith, elements)
 
 pub loop-index-init : goal.loop-index-init
 loop-index-init c = grind (arith, elements)

@@ -1,7 +1,5 @@
-use Rattle.std.proofs.Common.{◌≡◌, ◌≤◌, ℕ, ◌-◌, List, length, take, Ok}
-use Rattle.dwp_base.specs.declared.endian.Endianness.TheVariants.{Little}
-use Rattle.thorin_strings.specs.StringOffsets.{entry_at}
-use Rattle.thorin_strings.specs.Written.{AreWritten}
+use Rattle.thorin_strings.proofs.Terms.{AreWritten, List, Little, Ok, entry_at, length, take, ℕ}
+use Rattle.thorin_strings.proofs.Terms.{◌-◌, ◌≡◌, ◌≤◌}
 use Rattle.thorin_strings.proofs.table.PackageStringTable.write_told.Given as goal
 
 abbrev pub invariant-loop-index : goal.invariant-loop-index
