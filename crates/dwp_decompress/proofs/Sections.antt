@@ -10,8 +10,8 @@ use Rattle.std.proofs.lemmas.Option.{get_or_from_slice_get}
 use Rattle.dwp_elf_read.specs.Elf.{SectionMeaning}
 use Rattle.dwp_decompress.specs.Agreement.{AgreesAt}
 use Rattle.dwp_decompress.specs.declared.asked.Asked.{Asked}
-use Rattle.dwp_decompress.specs.Names.{plain_name, added_name, added_name_of, added_names}
-use Rattle.dwp_decompress.specs.Compressed.{is_older, is_compressed}
+use Rattle.dwp_decompress.specs.Names.{plain_name, added_name_of, added_names}
+use Rattle.dwp_decompress.specs.Compressed.{is_older}
 use Rattle.dwp_decompress.specs.Result.{result_sections, plain_contents, contents_of}
 use Rattle.dwp_base.specs.Reading.{◌>>=◌}
 use Rattle.dwp_base.specs.declared.class.Class.{Class}
@@ -85,23 +85,6 @@ pub plain_more : (contents old : List (Option (Vec ℕ))) (content : Option (Vec
     ≡ plain_contents old ++ option_map (λ (plain : Vec ℕ). plain.items) content ∷ []
 plain_more contents old content e =
     rw e (map-append (option_map (λ (plain : Vec ℕ). plain.items)) old (content ∷ []))
-
--- the name that a section adds
-pub added_older : (name old a b c : List ℕ) → is_older name ≡ true → a ≡ old ++ codes ".debug_"
-    → b ≡ a ++ drop 8 name → c ≡ b ++ 0 ∷ [] → c ≡ old ++ added_name (Some name)
-unfolding plain_name
-added_older name old a b c h p q r = rw (r, q, p, h) (simp append_assoc)
-
-pub adds_name : (asked : Asked) (section : SectionMeaning) (name : Option (List ℕ))
-    → is_compressed asked section ≡ true → section.name ≡ name
-    → added_name name ≡ added_name_of asked section
-unfolding added_name_of
-adds_name asked section name h n = rw (h, n) refl
-
-pub adds_none : (asked : Asked) (section : SectionMeaning) → is_compressed asked section ≡ false
-    → [] ≡ added_name_of asked section
-unfolding added_name_of
-adds_none asked section h = rw h refl
 
 -- an item of plain contents
 pub get_content : (contents : List (Option (Vec ℕ))) (i : ℕ) (x : Option (Vec ℕ))

@@ -97,7 +97,7 @@ module _ (asked : Asked) (sections : List SectionMeaning) (i : ℕ) where
   added_end h = rw (drop_all i sections h) refl
 
 -- an older name has at least as many bytes as it begins with
-older_long : (name : List ℕ) → is_older name ≡ true → 8 ≤ length name
+pub older_long : (name : List ℕ) → is_older name ≡ true → 8 ≤ length name
 unfolding is_older
 older_long [] h = absurd cc
 older_long (a ∷ []) h = absurd (grind arith)

@@ -6,8 +6,6 @@ use Rattle.dwp_inflate.specs.declared.error.InflateError.TheVariants as inflatin
 use Rattle.dwp_zstd.specs.declared.error.ZstdError.{ZstdError}
 use Rattle.dwp_zstd.specs.declared.error.ZstdError.TheVariants as decoding
 use Rattle.dwp_decompress.specs.declared.error.DecompressError.{DecompressError}
-use Rattle.dwp_decompress.specs.declared.error.NotConverted.{NotConverted}
-use Rattle.dwp_decompress.specs.declared.error.NotConverted.TheVariants as refusing
 use Rattle.dwp_decompress.specs.declared.error.DecompressError.TheVariants.{Read, Zlib, Zstd}
 use Rattle.dwp_decompress.specs.declared.error.DecompressError.TheVariants.{Unrepresentable}
 use Rattle.dwp_decompress.specs.declared.error.DecompressError.TheVariants.{Memory}
@@ -48,8 +46,3 @@ zstd_error e = Zstd e
 abbrev pub decoded_as : {X : Type 0} → Result X ZstdError → Result X DecompressError
 decoded_as (Ok x) = Ok x
 decoded_as (Err e) = Err (zstd_error e)
-
--- a file that can't be written
-abbrev pub refusal : NotConverted → DecompressError
-refusal refusing.TooLarge = Unrepresentable
-refusal refusing.Memory = Memory

@@ -1,15 +1,14 @@
 //! Whether a file means what the decompressed one is to mean.
 
-ghost use Rattle.std.specs.Prelude.{◌≡◌, ◌++◌, ◌<◌, codes, take, drop, slice_get, Some};
-ghost use Rattle.std.specs.Prelude.{IsTrue, option_map, length};
+ghost use Rattle.std.specs.Prelude.{◌≡◌, ◌++◌, ◌<◌, codes, take, drop, IsTrue, option_map, length};
 ghost use Rattle.dwp_elf_read.specs.View as view;
 ghost use Rattle.dwp_elf_read.specs.View.{elf};
 ghost use Rattle.dwp_decompress.specs.Names.{plain_name};
-ghost use Rattle.dwp_decompress.specs.Result.{with_plain, with_names, result_section, result_sections};
+ghost use Rattle.dwp_decompress.specs.Result.{with_plain, with_names, result_section};
 ghost use Rattle.dwp_decompress.specs.Result.{plain_contents};
 ghost use Rattle.dwp_decompress.specs.Agreement.{AgreesAt, expected_file};
 
-use crate::compressed::is_older;
+use crate::asked::is_older;
 use dwp_elf_read::{ElfFile, Section};
 
 /// What the decompressed file is to have.
@@ -60,20 +59,17 @@ fn plain_name(old: &Section<'_>, new: &Section<'_>) -> bool
     }
 }
 
-/// Whether bytes are others with some added.
-fn is_longer_by(old: &[u8], added: &[u8], new: &[u8]) -> bool
-    ensures { IsTrue result → new.now ≡ old.now ++ added.now }
-{
-    new.len() >= old.len() && new.split_at(old.len()).0 == old && new.split_at(old.len()).1 == added
-}
-
 /// Whether the content has grown by these bytes, or lies outside of the file in both.
 fn grown_content(old: &Section<'_>, new: &Section<'_>, added: &[u8]) -> bool
     ensures { IsTrue result → (view.section new.now).content
         ≡ option_map (λ names. names ++ added.now) (view.section old.now).content }
 {
     match (old.data(), new.data()) {
-        (Ok(content), Ok(own)) => is_longer_by(content, added, own),
+        (Ok(content), Ok(own)) => {
+            own.len() >= content.len()
+                && own.split_at(content.len()).0 == content
+                && own.split_at(content.len()).1 == added
+        }
         (Err(_), Err(_)) => true,
         _ => false,
     }
@@ -106,25 +102,7 @@ fn has_names(old: &Section<'_>, new: &Section<'_>, added: &[u8]) -> bool
         && grown_content(old, new, added)
 }
 
-/// The plain content of the i-th section, if it is compressed.
-#[tactic(auto, using(crate::proofs::Sections::get_content))]
-fn content_at(contents: &Vec<Option<Vec<u8>>>, i: usize) -> &Option<Vec<u8>>
-    requires { i < length contents.now.items }
-    ensures { slice_get (plain_contents contents.now.items) i
-        ≡ Some (option_map (λ plain. plain.items) result.now) }
-{
-    &contents[i]
-}
-
 impl<'a> Expected<'a> {
-    /// The size of the i-th section's plain content, if it is compressed.
-    pub fn plain_size(&self, i: usize) -> Option<u64> {
-        match self.contents.get(i) {
-            Some(content) => content.as_ref().map(|plain| plain.len() as u64),
-            None => None,
-        }
-    }
-
     /// Whether a section is what another is to become.
     #[tactic(auto, unfolding(crate::specs::Result::result_section))]
     fn is_result(&self, old: &Section<'_>, new: &Section<'_>, plain: &Option<Vec<u8>>) -> bool
@@ -151,23 +129,18 @@ impl<'a> Expected<'a> {
             (elf new.now).sections (plain_contents self.now.contents.now.items) i }
     {
         match (old.section(i), new.section(i)) {
-            (Some(before), Some(after)) => {
-                self.is_result(&before, &after, content_at(self.contents, i))
-            }
+            (Some(before), Some(after)) => { self.is_result(&before, &after, &self.contents[i]) }
             _ => false,
         }
     }
 
-    /// Whether all sections are what they are to become.
-    fn sections_agree(&self, old: &ElfFile<'_>, new: &ElfFile<'_>) -> bool
-        ensures { IsTrue result → (elf new.now).sections ≡ result_sections self.now.names
-            self.now.added.now (elf old.now).sections (plain_contents self.now.contents.now.items) }
+    /// Whether a file is what another is to become.
+    #[tactic(auto, unfolding(crate::specs::Result::result_file), using(dwp_elf_read::proofs::Compared::same_file))]
+    pub fn agrees(&self, old: &ElfFile<'_>, new: &ElfFile<'_>) -> bool
+        ensures { IsTrue result → elf new.now ≡ expected_file self.now (elf old.now) }
     {
         let count = old.section_count();
-        if new.section_count() != count {
-            return false;
-        }
-        if self.contents.len() != count {
+        if !new.is_like(old) || new.section_count() != count || self.contents.len() != count {
             return false;
         }
         for i in 0..count {
@@ -176,13 +149,5 @@ impl<'a> Expected<'a> {
             }
         }
         true
-    }
-
-    /// Whether a file is what another is to become.
-    #[tactic(auto, unfolding(crate::specs::Result::result_file), using(dwp_elf_read::proofs::Compared::same_file))]
-    pub fn agrees(&self, old: &ElfFile<'_>, new: &ElfFile<'_>) -> bool
-        ensures { IsTrue result → elf new.now ≡ expected_file self.now (elf old.now) }
-    {
-        new.is_like(old) && self.sections_agree(old, new)
     }
 }

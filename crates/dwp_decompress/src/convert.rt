@@ -1,6 +1,6 @@
 //! From a file with compressed sections to one with plain ones.
 
-ghost use Rattle.std.specs.Prelude.{◌≡◌, option_map, Ok, Err, IsTrue, IfOk};
+ghost use Rattle.std.specs.Prelude.{◌≡◌, option_map, Ok, Err, ◌≢◌, IsTrue, IfOk, IfErr};
 ghost use Rattle.std.specs.Prelude.{length as length_of_list};
 ghost use Rattle.dwp_elf_read.specs.Elf.{elf_of};
 ghost use Rattle.dwp_elf_read.specs.View.{elf};
@@ -11,45 +11,43 @@ ghost use Rattle.dwp_decompress.specs.Result.{plain_file, decompressed_of, plain
 ghost use Rattle.dwp_decompress.specs.Headers.{told_sizes};
 ghost use Rattle.dwp_decompress.specs.Sizes.{length_of, sum_tells_more, tells_too_much};
 ghost use Rattle.dwp_decompress.specs.declared.error.DecompressError.TheVariants.{Unrepresentable};
+ghost use Rattle.dwp_decompress.specs.declared.error.DecompressError.TheVariants.{Memory};
 
 use crate::agree::Expected;
-use crate::asked::Asked;
-use crate::compressed::has_compressed;
-use crate::contents::contents;
-use crate::error::{DecompressError, NotConverted};
+use crate::asked::{Asked, has_compressed};
+use crate::error::DecompressError;
 use crate::file::Change;
-use crate::header::NumberForm;
-use crate::names::{added_names, names_number};
-use crate::sizes::length;
+use crate::sizes::{added_names, length, names_number};
+use crate::stream::contents;
 use dwp_elf_read::ElfFile;
 use std::alloc::Global;
 
-/// The file with these contents, read again. It is to have so many bytes.
+/// The file with these contents, which is to have so many bytes. It is read again, and refused
+/// where it means anything else.
 fn written(
     alloc: Global,
     length: u64,
     bytes: &[u8],
     file: &ElfFile<'_>,
     expected: &Expected<'_>,
-) -> Result<Vec<u8>, NotConverted>
+) -> Result<Vec<u8>, DecompressError>
     ensures meant { IfOk result (λ out. elf_of out.items
         ≡ Ok (expected_file expected.now (elf file.now))) }
     ensures long { IfOk result (λ out. length_of_list out.items ≡ length) }
+    ensures refused { IfErr result (λ e. e ≢ Memory → e ≡ Unrepresentable) }
 {
     let mut out = Vec::with_capacity(alloc, length as usize)?;
     let change = Change {
         bytes,
         file: *file,
+        class: file.class(),
+        order: file.endianness(),
         expected: *expected,
-        form: NumberForm {
-            class: file.class(),
-            order: file.endianness(),
-        },
     };
     change.write(&mut out)?;
     match ElfFile::parse(&out) {
         Ok(new) if out.len() as u64 == length && expected.agrees(file, &new) => Ok(out),
-        _ => Err(NotConverted::TooLarge),
+        _ => Err(DecompressError::Unrepresentable),
     }
 }
 

@@ -3,7 +3,6 @@
 ghost use Rattle.std.specs.Prelude.{◌≡◌};
 ghost use Rattle.dwp_decompress.specs.Answers as spec;
 ghost use Rattle.dwp_decompress.specs.declared.error.DecompressError.TheVariants.{Memory, Read};
-ghost use Rattle.dwp_decompress.specs.declared.error.NotConverted.TheVariants as refusing;
 
 use dwp_elf_read::ReadError;
 use dwp_inflate::InflateError;
@@ -46,34 +45,6 @@ impl fmt::Display for DecompressError {
 }
 
 impl std::error::Error for DecompressError {}
-
-/// Why a file that was read can't be written.
-#[derive(Clone, Copy)]
-pub enum NotConverted {
-    /// A number is too large for the file's class, or the file would mean something else.
-    TooLarge,
-    /// Memory ran out.
-    Memory,
-}
-
-impl From<AllocError> for NotConverted {
-    ghost from_gives = { λ _ refusal. refusal ≡ refusing.Memory };
-
-    fn from(_e: AllocError) -> NotConverted {
-        NotConverted::Memory
-    }
-}
-
-impl From<NotConverted> for DecompressError {
-    ghost from_gives = { λ e error. error ≡ spec.refusal e };
-
-    fn from(e: NotConverted) -> DecompressError {
-        match e {
-            NotConverted::TooLarge => DecompressError::Unrepresentable,
-            NotConverted::Memory => DecompressError::Memory,
-        }
-    }
-}
 
 impl From<AllocError> for DecompressError {
     ghost from_gives = { λ _ error. error ≡ Memory };

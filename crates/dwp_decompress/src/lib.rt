@@ -3,13 +3,9 @@
 
 mod agree;
 mod asked;
-mod compressed;
-mod contents;
 mod convert;
 mod error;
 mod file;
-mod header;
-mod names;
 mod sizes;
 mod stream;
 

@@ -1,28 +1,27 @@
-//! How many bytes a file has once its sections are plain, and its compressed sections before.
+//! How many bytes a file has once its sections are plain, which names its table gets, and how many
+//! bytes its compressed sections have before.
 
-ghost use Rattle.std.specs.Prelude.{◌≡◌, ◌+◌, ℕ, Ok, Err, false, length, slice_get, nat_lt};
-ghost use Rattle.std.specs.Prelude.{IfSome, IfOk, IfErr, IsTrue};
-ghost use Rattle.dwp_base.specs.Reading.{Answers};
+ghost use Rattle.std.specs.Prelude.{◌≡◌, ◌+◌, ◌++◌, ℕ, Ok, Err, false, length, slice_get, nat_lt};
+ghost use Rattle.std.specs.Prelude.{IfSome, IfOk, OnOk, IfErr, IsTrue};
 ghost use Rattle.dwp_elf_read.specs.Elf.{elf_of};
 ghost use Rattle.dwp_elf_read.specs.View as view;
 ghost use Rattle.dwp_elf_read.specs.View.{elf};
 ghost use Rattle.dwp_decompress.specs.Answers.{GivesFile};
 ghost use Rattle.dwp_decompress.specs.Compressed.{HasCompressed};
-ghost use Rattle.dwp_decompress.specs.Headers.{told_size, told_sizes};
+ghost use Rattle.dwp_decompress.specs.Headers.{told_sizes};
 ghost use Rattle.dwp_decompress.specs.Names.{added_name_of, added_names, names_number};
 ghost use Rattle.dwp_decompress.specs.Result.{plain_length_of};
 ghost use Rattle.dwp_decompress.specs.declared.error.DecompressError.TheVariants.{Unrepresentable};
-ghost use Rattle.dwp_decompress.specs.Sizes.{size_of, names_size, length_with, length_of};
-ghost use Rattle.dwp_decompress.specs.Sizes.{compressed_size, size_in, overlaps, tells_more};
-ghost use Rattle.dwp_decompress.specs.Sizes.{sum_tells_more, tells_too_much};
+ghost use Rattle.dwp_decompress.specs.Sizes.{size_of, length_with, length_of, size_in};
+ghost use Rattle.dwp_decompress.specs.Sizes.{compressed_size, overlaps, tells_more, sum_tells_more};
+ghost use Rattle.dwp_decompress.specs.Sizes.{tells_too_much};
 
-use crate::asked::Asked;
-use crate::compressed::{has_compressed, is_compressed, is_older};
+use crate::asked::{Asked, has_compressed, is_compressed, is_older};
 use crate::error::DecompressError;
-use crate::names::names_number;
-use crate::stream::{packed_in, word_size_of};
+use crate::stream::{told_size, word_size_of};
 use dwp_base::{Class, Endianness};
 use dwp_elf_read::{ElfFile, Section};
+use std::alloc::{AllocError, Global};
 
 /// How many times as many bytes as their file its sections and their names may have together: each
 /// is read, and compared with what is written.
@@ -32,50 +31,74 @@ const MOST_TIMES: u64 = 16;
 /// writes at most.
 const MOST_WRITTEN: u64 = 1032;
 
-/// How many bytes a section and its name have. A name that can't be read has as many as the table
-/// of names.
-fn read_size(section: &Section<'_>, table: u64) -> u64 {
-    let name = match section.name() {
-        Ok(name) => name.len() as u64,
-        Err(_) => table,
-    };
-    match section.data() {
-        Ok(content) => name.saturating_add(content.len() as u64),
-        Err(_) => name,
+/// The number of the section that has the names.
+#[tactic(auto, unfolding(crate::specs::Names::names_number))]
+pub fn names_number(bytes: &[u8], file: &ElfFile<'_>) -> Option<usize>
+    ensures { IfSome result (λ names. names ≡ names_number bytes.now (elf file.now)) }
+{
+    let place = 38 + 3 * word_size_of(file.class());
+    if bytes.len() < place + 2 {
+        return None;
+    }
+    let stored = file.endianness().read_u16(bytes.split_at(place).1);
+    if stored != 0xffff {
+        return Some(usize::from(stored));
+    }
+    match file.section(0) {
+        Some(section) => Some(section.link() as usize),
+        None => Some(0),
     }
 }
 
-/// Whether they have more than these.
+/// Adds the plain name of a section, if that is asked for, compressed, and has an older name.
+#[tactic(auto, unfolding(crate::specs::Names::added_name_of, crate::specs::Names::plain_name))]
+fn add_name_of(asked: Asked, section: &Section<'_>, added: &mut Vec<u8>) -> Result<(), AllocError>
+    ensures { OnOk result (added.new.items
+        ≡ added.old.items ++ added_name_of asked (view.section section.now)) }
+{
+    if !is_compressed(asked, section) {
+        return Ok(());
+    }
+    let Ok(name) = section.name() else {
+        return Ok(());
+    };
+    if !is_older(name) {
+        return Ok(());
+    }
+    added.extend_from_slice(b".debug_")?;
+    added.extend_from_slice(name.as_bytes().split_at(8).1)?;
+    added.extend_from_slice(&[0])?;
+    Ok(())
+}
+
+/// The names that the table gets.
+pub fn added_names(alloc: Global, asked: Asked, file: &ElfFile<'_>) -> Result<Vec<u8>, AllocError>
+    ensures { IfOk result (λ added. added.items ≡ added_names asked (elf file.now).sections) }
+{
+    let mut added = Vec::new(alloc);
+    for i in 0..file.section_count() {
+        if let Some(section) = file.section(i) {
+            add_name_of(asked, &section, &mut added)?;
+        }
+    }
+    Ok(added)
+}
+
+/// Whether sections and their names have more bytes than these. A name that can't be read has as
+/// many as the table of names.
 fn reads_more(file: &ElfFile<'_>, table: u64, most: u64) -> bool {
     let mut read = 0u64;
     for i in 0..file.section_count() {
         if let Some(section) = file.section(i) {
-            read = read.saturating_add(read_size(&section, table));
+            let name = section.name().map_or(table, |name| name.len() as u64);
+            let content = section.data().map_or(0, |content| content.len() as u64);
+            read = read.saturating_add(name).saturating_add(content);
             if read > most {
                 return true;
             }
         }
     }
     false
-}
-
-/// How many bytes the plain content of a section is said to have; 0 where it isn't compressed.
-#[tactic(auto, unfolding(crate::specs::Headers::told_size))]
-fn told_size(
-    asked: Asked,
-    class: Class,
-    order: Endianness,
-    section: &Section<'_>,
-) -> Result<u64, DecompressError>
-    ensures { Answers (λ size. size) result
-        (told_size asked class order (view.section section.now)) }
-{
-    if is_compressed(asked, section) {
-        let content = section.data()?;
-        let packed = packed_in(class, order, section, content)?;
-        return packed.told();
-    }
-    Ok(0)
 }
 
 /// A sum, which is to be a `u64`.
@@ -86,7 +109,8 @@ fn plus(a: u64, b: u64) -> Result<u64, DecompressError>
     a.checked_add(b).ok_or(DecompressError::Unrepresentable)
 }
 
-/// What those of all sections have together, of a file of that class and byte order.
+/// How many bytes the plain contents of all sections are said to have together, of a file of that
+/// class and byte order.
 fn told_sizes(
     asked: Asked,
     class: Class,
@@ -146,16 +170,6 @@ fn size_of(file: &ElfFile<'_>, number: usize) -> u64
     }
 }
 
-/// How many bytes the table of names is written again with, where it gets so many more.
-fn names_size(table: u64, added: u64) -> Option<u64>
-    ensures { IfSome result (λ size. size ≡ names_size table added) }
-{
-    if added == 0 {
-        return Some(0);
-    }
-    table.checked_add(added)
-}
-
 /// Whether the plain contents are said to have more bytes than zlib could write of as many bytes as
 /// the file has, or its compressed sections.
 #[tactic(auto, unfolding(crate::specs::Sizes::tells_more), using(crate::proofs::Sums::more_told, crate::proofs::Sums::few_told))]
@@ -183,7 +197,10 @@ fn length_with(asked: Asked, bytes: &[u8], file: &ElfFile<'_>, told: u64) -> Opt
     if tells_more(asked, bytes, file, told) {
         return None;
     }
-    let names = names_size(table, added_sizes(asked, file)?)?;
+    let names = match added_sizes(asked, file)? {
+        0 => 0,
+        added => table.checked_add(added)?,
+    };
     let end = (bytes.len() as u64)
         .checked_add(told)?
         .checked_add(names)?
@@ -243,7 +260,7 @@ fn size_in(asked: Asked, section: &Section<'_>) -> u64
     }
 }
 
-/// Whether those of a file have more than these.
+/// Whether the compressed sections that are asked for have more bytes than these.
 #[tactic(auto, using(crate::proofs::Sums::size_step, crate::proofs::Sums::size_past, crate::proofs::Sums::size_end))]
 fn have_more(asked: Asked, file: &ElfFile<'_>, room: u64) -> bool
     ensures { result ≡ nat_lt room (compressed_size asked (elf file.now).sections) }

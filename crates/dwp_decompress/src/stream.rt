@@ -1,21 +1,25 @@
-//! The streams of compressed sections (ELF gABI, "Section Compression").
+//! The streams of compressed sections, and what they write (ELF gABI, "Section Compression").
 
-ghost use Rattle.std.specs.Prelude.{◌≡◌, ◌+◌, ◌≤◌, length};
+ghost use Rattle.std.specs.Prelude.{◌≡◌, ◌+◌, ◌≤◌, length, option_map};
 ghost use Rattle.dwp_base.specs.Reading.{Answers};
 ghost use Rattle.dwp_elf_read.specs.Layout.{word_size, number_at};
 ghost use Rattle.dwp_elf_read.specs.View as view;
-ghost use Rattle.dwp_decompress.specs.Headers.{packed, headed, older, packed_in};
-ghost use Rattle.dwp_decompress.specs.Headers.{told_by};
+ghost use Rattle.dwp_elf_read.specs.View.{elf};
+ghost use Rattle.dwp_decompress.specs.Answers.{Gives};
+ghost use Rattle.dwp_decompress.specs.Headers.{packed, packed_in, told_size, content_of};
+ghost use Rattle.dwp_decompress.specs.Result.{contents_of, plain_contents};
 
+use crate::asked::{Asked, is_compressed};
 use crate::error::DecompressError;
 use dwp_base::{Class, Endianness};
-use dwp_elf_read::Section;
-use dwp_inflate::InflateError;
-use dwp_zstd::ZstdError;
+use dwp_elf_read::{ElfFile, Section};
+use dwp_inflate::{InflateError, inflate};
+use dwp_zstd::{ZstdError, decompress};
+use std::alloc::Global;
 
 /// What wrote a stream.
 #[derive(Clone, Copy)]
-pub enum Kind {
+enum Kind {
     /// zlib (ELFCOMPRESS_ZLIB, and by the older convention).
     Zlib,
     /// zstd (ELFCOMPRESS_ZSTD).
@@ -24,10 +28,10 @@ pub enum Kind {
 
 /// A stream of a kind, and the size of what it writes.
 #[derive(Clone, Copy)]
-pub struct CompressedStream<'a> {
-    pub kind: Kind,
-    pub size: u64,
-    pub bytes: &'a [u8],
+struct CompressedStream<'a> {
+    kind: Kind,
+    size: u64,
+    bytes: &'a [u8],
 }
 
 /// The bytes of an address, an offset or a size.
@@ -52,52 +56,9 @@ pub fn word_at(class: Class, order: Endianness, bytes: &[u8], place: usize) -> u
     }
 }
 
-/// The stream behind a header of three words.
-#[tactic(auto, unfolding(crate::specs::Headers::headed, crate::specs::Headers::kind_of))]
-fn headed(
-    class: Class,
-    order: Endianness,
-    content: &[u8],
-) -> Result<CompressedStream<'_>, DecompressError>
-    ensures { Answers packed result (headed class order content.now) }
-{
-    let word = word_size_of(class);
-    if content.len() < 3 * word {
-        return Err(DecompressError::Header);
-    }
-    let kind = match order.read_u32(content.split_at(0).1) {
-        1 => Kind::Zlib,
-        2 => Kind::Zstd,
-        number => return Err(DecompressError::UnknownType(number)),
-    };
-    let size = word_at(class, order, content, word);
-    let bytes = content.split_at(3 * word).1;
-    Ok(CompressedStream { kind, size, bytes })
-}
-
-/// The stream behind the older header.
-#[tactic(auto, unfolding(crate::specs::Headers::older))]
-fn older(content: &[u8]) -> Result<CompressedStream<'_>, DecompressError>
-    ensures { Answers packed result (older content.now) }
-{
-    if content.len() < 12 {
-        return Err(DecompressError::Header);
-    }
-    if content.starts_with(b"ZLIB") {
-        let size = Endianness::Big.read_u64(content.split_at(4).1);
-        let bytes = content.split_at(12).1;
-        return Ok(CompressedStream {
-            kind: Kind::Zlib,
-            size,
-            bytes,
-        });
-    }
-    Err(DecompressError::Header)
-}
-
-/// The stream of a section with that content.
-#[tactic(auto, unfolding(crate::specs::Headers::packed_in))]
-pub fn packed_in<'a>(
+/// The stream of a section with that content, behind a header of three words or the older one.
+#[tactic(auto, unfolding(crate::specs::Headers::packed_in, crate::specs::Headers::headed, crate::specs::Headers::kind_of, crate::specs::Headers::older))]
+fn packed_in<'a>(
     class: Class,
     order: Endianness,
     section: &Section<'_>,
@@ -107,28 +68,96 @@ pub fn packed_in<'a>(
         (packed_in class order (view.section section.now) content.now) }
 {
     if section.is_compressed() {
-        headed(class, order, content)
-    } else {
-        older(content)
+        let word = word_size_of(class);
+        if content.len() < 3 * word {
+            return Err(DecompressError::Header);
+        }
+        let kind = match order.read_u32(content.split_at(0).1) {
+            1 => Kind::Zlib,
+            2 => Kind::Zstd,
+            number => return Err(DecompressError::UnknownType(number)),
+        };
+        let size = word_at(class, order, content, word);
+        let bytes = content.split_at(3 * word).1;
+        return Ok(CompressedStream { kind, size, bytes });
     }
+    if content.len() < 12 || !content.starts_with(b"ZLIB") {
+        return Err(DecompressError::Header);
+    }
+    Ok(CompressedStream {
+        kind: Kind::Zlib,
+        size: Endianness::Big.read_u64(content.split_at(4).1),
+        bytes: content.split_at(12).1,
+    })
 }
 
-impl CompressedStream<'_> {
-    /// How many bytes the stream is said to write.
-    ///
-    /// # Errors
-    /// `Zlib` or `Zstd` where so few bytes cannot write so many.
-    #[tactic(auto, unfolding(crate::specs::Headers::told_by))]
-    pub fn told(&self) -> Result<u64, DecompressError>
-        ensures { Answers (λ size. size) result (told_by (packed self.now)) }
-    {
-        let (most, error) = match self.kind {
-            Kind::Zlib => (1032, DecompressError::Zlib(InflateError::Unreachable)),
-            Kind::Zstd => (32768, DecompressError::Zstd(ZstdError::Unreachable)),
-        };
-        if self.size > (self.bytes.len() as u64).saturating_mul(most) {
-            return Err(error);
-        }
-        Ok(self.size)
+/// How many bytes the plain content of a section is said to have; 0 where it isn't compressed. An
+/// error where so few bytes cannot write so many.
+#[tactic(auto, unfolding(crate::specs::Headers::told_size, crate::specs::Headers::told_by))]
+pub fn told_size(
+    asked: Asked,
+    class: Class,
+    order: Endianness,
+    section: &Section<'_>,
+) -> Result<u64, DecompressError>
+    ensures { Answers (λ size. size) result
+        (told_size asked class order (view.section section.now)) }
+{
+    if !is_compressed(asked, section) {
+        return Ok(0);
     }
+    let packed = packed_in(class, order, section, section.data()?)?;
+    let (most, error) = match packed.kind {
+        Kind::Zlib => (1032, DecompressError::Zlib(InflateError::Unreachable)),
+        Kind::Zstd => (32768, DecompressError::Zstd(ZstdError::Unreachable)),
+    };
+    if packed.size > (packed.bytes.len() as u64).saturating_mul(most) {
+        return Err(error);
+    }
+    Ok(packed.size)
+}
+
+/// The plain content of a section, if that is asked for and compressed.
+#[tactic(auto, unfolding(crate::specs::Headers::content_of, crate::specs::Headers::plain_of, crate::specs::Headers::written_by))]
+fn content(
+    alloc: Global,
+    asked: Asked,
+    class: Class,
+    order: Endianness,
+    section: &Section<'_>,
+) -> Result<Option<Vec<u8>>, DecompressError>
+    ensures { Gives (option_map (λ plain. plain.items)) result
+        (content_of asked class order (view.section section.now)) }
+{
+    if !is_compressed(asked, section) {
+        return Ok(None);
+    }
+    let content = section.data()?;
+    let packed = packed_in(class, order, section, content)?;
+    let plain = match packed.kind {
+        Kind::Zlib => inflate(alloc, packed.bytes, packed.size as usize)?,
+        Kind::Zstd => decompress(alloc, packed.bytes, packed.size as usize)?,
+    };
+    Ok(Some(plain))
+}
+
+/// The plain contents of all sections, in order, of a file of that class and byte order.
+pub fn contents(
+    alloc: Global,
+    asked: Asked,
+    class: Class,
+    order: Endianness,
+    file: &ElfFile<'_>,
+) -> Result<Vec<Option<Vec<u8>>>, DecompressError>
+    ensures { Gives (λ contents. plain_contents contents.items) result
+        (contents_of asked class order (elf file.now).sections) }
+{
+    let mut contents = Vec::new(alloc);
+    for i in 0..file.section_count() {
+        if let Some(section) = file.section(i) {
+            let content = content(alloc, asked, class, order, &section)?;
+            contents.push(content)?;
+        }
+    }
+    Ok(contents)
 }

@@ -1,7 +1,7 @@
 use Rattle.std.proofs.Common.{◌≡◌, ◌++◌, drop}
 use Rattle.dwp_elf_read.specs.View.{elf}
 use Rattle.dwp_decompress.specs.Names.{added_names}
-use Rattle.dwp_decompress.proofs.names.added_names.Given as goal
+use Rattle.dwp_decompress.proofs.sizes.added_names.Given as goal
 
 -- those so far and those that are left are all
 abbrev pub invariant-loop-i : goal.invariant-loop-i

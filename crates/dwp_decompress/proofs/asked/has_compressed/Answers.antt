@@ -2,9 +2,9 @@ use Rattle.std.proofs.Common.{◌≤◌, length, sym, ap, ◌∙◌, arith, opti
 use Rattle.std.proofs.lemmas.List.{drop_all}
 use Rattle.dwp_elf_read.specs.View.{elf, section}
 use Rattle.dwp_decompress.proofs.Sections.{drop_step}
-use Rattle.dwp_decompress.proofs.compressed.has_compressed.Goals as goal
-use Rattle.dwp_decompress.proofs.compressed.has_compressed.Goals.{in-Some+else-is_compressed}
-use Rattle.dwp_decompress.proofs.compressed.has_compressed.Goals.{in_default}
+use Rattle.dwp_decompress.proofs.asked.has_compressed.Goals as goal
+use Rattle.dwp_decompress.proofs.asked.has_compressed.Goals.{in-Some+else-is_compressed}
+use Rattle.dwp_decompress.proofs.asked.has_compressed.Goals.{in_default}
 use Rattle.dwp_base.proofs.Finds.{slice_get_none}
 
 pub returns-then-is_compressed : goal.returns-then-is_compressed

@@ -2,7 +2,7 @@ use Rattle.std.proofs.Common.{◌≡◌, drop}
 use Rattle.std.specs.List.{list_any}
 use Rattle.dwp_elf_read.specs.View.{elf}
 use Rattle.dwp_decompress.specs.Compressed.{is_compressed}
-use Rattle.dwp_decompress.proofs.compressed.has_compressed.Given as goal
+use Rattle.dwp_decompress.proofs.asked.has_compressed.Given as goal
 
 abbrev pub invariant-loop-i : goal.invariant-loop-i
 invariant-loop-i l = list_any (is_compressed l.asked) (drop l.i (elf l.file).sections) ≡ list_any

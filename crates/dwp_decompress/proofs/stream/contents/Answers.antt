@@ -5,9 +5,9 @@ use Rattle.dwp_elf_read.specs.View.{elf, section}
 use Rattle.dwp_decompress.specs.Result.{contents_of, plain_contents}
 use Rattle.dwp_decompress.proofs.Sections.{behind_none, contents_step, contents_fail, contents_end}
 use Rattle.dwp_decompress.proofs.Sections.{plain_more}
-use Rattle.dwp_decompress.proofs.contents.contents.Goals as goal
-use Rattle.dwp_decompress.proofs.contents.contents.Goals.{in-Some+in_ok-content+in_ok-push}
-use Rattle.dwp_decompress.proofs.contents.contents.Goals.{in_default}
+use Rattle.dwp_decompress.proofs.stream.contents.Goals as goal
+use Rattle.dwp_decompress.proofs.stream.contents.Goals.{in-Some+in_ok-content+in_ok-push}
+use Rattle.dwp_decompress.proofs.stream.contents.Goals.{in_default}
 use Rattle.dwp_base.proofs.Finds.{slice_get_none}
 
 pub loop-i-init : goal.loop-i-init

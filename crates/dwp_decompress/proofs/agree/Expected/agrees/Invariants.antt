@@ -1,7 +1,7 @@
 use Rattle.std.proofs.Common.{◌≡◌, drop}
 use Rattle.dwp_elf_read.specs.View.{elf}
 use Rattle.dwp_decompress.specs.Result.{result_sections, plain_contents}
-use Rattle.dwp_decompress.proofs.agree.Expected.sections_agree.Given as goal
+use Rattle.dwp_decompress.proofs.agree.Expected.agrees.Given as goal
 
 -- if those that are left agree, all do
 abbrev pub invariant-loop-i : goal.invariant-loop-i

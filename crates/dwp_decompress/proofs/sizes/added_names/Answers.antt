@@ -2,8 +2,8 @@ use Rattle.std.proofs.Common.{◌∙◌, ℕ, sym, ap, arith, option_map}
 use Rattle.std.specs.Global.{Vec}
 use Rattle.dwp_elf_read.specs.View.{elf, section}
 use Rattle.dwp_decompress.proofs.Sections.{names_step, names_end}
-use Rattle.dwp_decompress.proofs.names.added_names.Goals as goal
-use Rattle.dwp_decompress.proofs.names.added_names.Goals.{in-Some+in_ok-add_name_of, in_default}
+use Rattle.dwp_decompress.proofs.sizes.added_names.Goals as goal
+use Rattle.dwp_decompress.proofs.sizes.added_names.Goals.{in-Some+in_ok-add_name_of, in_default}
 use Rattle.dwp_base.proofs.Finds.{slice_get_none}
 
 pub loop-i-preserved : goal.loop-i-preserved
