@@ -1,12 +1,16 @@
-//! Which of an object's macros count, and whether some go.
+//! Which of an object's macros count, and the object in which the others don't.
 
-ghost use Rattle.std.specs.Prelude.{◌≡◌};
+ghost use Rattle.std.specs.Prelude.{◌≡◌, ◌&&◌, option_map, is_some, if◌then◌else◌, Ok, IfOk};
+ghost use Rattle.std.specs.Prelude.{OnErr, IsSome, IsTrue};
+ghost use Rattle.dwp_elf_read.specs.Elf.{elf_of};
 ghost use Rattle.dwp_elf_read.specs.View as view;
 ghost use Rattle.dwp_elf_read.specs.View.{elf};
 ghost use Rattle.dwp_macros.specs.Kept as spec;
 
-use dwp_base::SectionKind;
+use crate::error::MacrosError;
+use dwp_base::{Class, SectionKind};
 use dwp_elf_read::{ElfFile, Section};
+use std::alloc::Global;
 
 /// Which of an object's sections `.debug_macro.dwo` count.
 #[derive(Clone, Copy, Debug, PartialEq, Eq, Hash)]
@@ -21,7 +25,7 @@ pub enum KeptMacros {
 
 impl KeptMacros {
     /// Whether macros go, where there are or aren't more behind them.
-    pub(crate) fn go(self, has_more: bool) -> bool
+    fn go(self, has_more: bool) -> bool
         ensures { result ≡ spec.go self has_more }
     {
         match self {
@@ -34,7 +38,7 @@ impl KeptMacros {
 
 /// Whether a section has macros.
 #[tactic(auto, unfolding(crate::specs::Kept::has_macros))]
-pub fn has_macros(section: &Section<'_>) -> bool
+fn has_macros(section: &Section<'_>) -> bool
     ensures { result ≡ spec.has_macros (view.section section.now) }
 {
     section.holds(SectionKind::Macro)
@@ -50,7 +54,7 @@ fn is_index(section: &Section<'_>) -> bool
 
 /// Whether macros of an object go; of a package none do.
 #[tactic(auto, unfolding(crate::specs::Kept::is_changed), using(crate::proofs::Walks::none_lose))]
-pub fn is_changed(file: &ElfFile<'_>, kept: KeptMacros) -> bool
+fn is_changed(file: &ElfFile<'_>, kept: KeptMacros) -> bool
     ensures { result ≡ spec.is_changed kept (elf file.now).sections }
 {
     if kept == KeptMacros::All {
@@ -70,4 +74,121 @@ pub fn is_changed(file: &ElfFile<'_>, kept: KeptMacros) -> bool
         indexed = is_index(&section) | indexed;
     }
     lose && !indexed
+}
+
+/// Whether a section is another, without its bytes where it has macros and these go.
+#[tactic(auto, unfolding(crate::specs::Kept::emptied), using(dwp_elf_read::proofs::Compared::is_own))]
+fn is_kept(old: &Section<'_>, new: &Section<'_>, go: bool) -> bool
+    ensures { IsTrue result → view.section new.now ≡ (if spec.has_macros (view.section old.now)
+        && go then spec.emptied (view.section old.now) else view.section old.now) }
+{
+    if has_macros(old) && go {
+        new.has_numbers_of(old)
+            && new.has_name_of(old)
+            && new.flags() == old.flags()
+            && new.size() == 0
+            && new.has_content(&[])
+    } else {
+        new.is_same(old)
+    }
+}
+
+/// Whether a file is what another is to become.
+#[tactic(auto, unfolding(crate::specs::Kept::kept_file), using(dwp_elf_read::proofs::Compared::same_file))]
+fn agrees(old: &ElfFile<'_>, new: &ElfFile<'_>, kept: KeptMacros) -> bool
+    ensures { IsTrue result → elf new.now ≡ spec.kept_file kept (elf old.now) }
+{
+    let mut left = old.section_count();
+    if !new.is_like(old) || new.section_count() != left {
+        return false;
+    }
+    let mut has_more = false;
+    while left > 0 {
+        left -= 1;
+        let Some(before) = old.section(left) else {
+            return false;
+        };
+        let Some(after) = new.section(left) else {
+            return false;
+        };
+        if !is_kept(&before, &after, kept.go(has_more)) {
+            return false;
+        }
+        has_more = has_macros(&before) | has_more;
+    }
+    true
+}
+
+/// Sets the sizes of the sections whose macros go to 0, in headers that lie in the file (ELF gABI,
+/// "ELF Header" and "Section Header").
+fn empty_all(file: &ElfFile<'_>, kept: KeptMacros, bytes: &mut [u8]) -> Option<()> {
+    let order = file.endianness();
+    let (table, entry, size, word) = match file.class() {
+        Class::Elf32 => (order.read_u32(bytes.get(32..36)?) as usize, 40usize, 20, 4),
+        Class::Elf64 => (order.read_u64(bytes.get(40..48)?) as usize, 64, 32, 8),
+    };
+    let mut has_more = false;
+    let mut left = file.section_count();
+    while left > 0 {
+        left -= 1;
+        if has_macros(&file.section(left)?) {
+            if kept.go(has_more) {
+                let place = table
+                    .checked_add(entry.checked_mul(left)?)?
+                    .checked_add(size)?;
+                for byte in bytes.iter_mut().skip(place).take(word) {
+                    *byte = 0;
+                }
+            }
+            has_more = true;
+        }
+    }
+    Some(())
+}
+
+/// Whether an object has macros that go: then `with_macros` changes it. Of a package, or of what
+/// isn't ELF, the answer is no.
+#[tactic(auto, unfolding(crate::specs::Kept::kept_macros_of))]
+pub fn loses_macros(bytes: &[u8], kept: KeptMacros) -> bool
+    ensures { result ≡ is_some (spec.kept_macros_of kept bytes.now) }
+{
+    match ElfFile::parse(bytes) {
+        Ok(file) => is_changed(&file, kept),
+        Err(_) => false,
+    }
+}
+
+/// The object in which of its sections `.debug_macro.dwo` that aren't empty only those that are
+/// kept have bytes; `None` where that is so already, or it is a package or no ELF file.
+///
+/// gcc's `-g3` puts macros into COMDAT groups (ELF gABI, "Section Groups"), so an object has
+/// several sections of that name. Those that aren't kept get the size 0; all else stays as the ELF
+/// reader tells it.
+///
+/// # Errors
+/// `Unrepresentable` where one of the others lies outside of the file, or the section headers lie
+/// in what another section holds; `Memory`. The result is read again and compared before it is
+/// given: where it were to mean anything else, the answer would be `Unrepresentable` too.
+#[tactic(auto, unfolding(crate::specs::Kept::kept_macros_of))]
+pub fn with_macros(
+    alloc: Global,
+    bytes: &[u8],
+    kept: KeptMacros,
+) -> Result<Option<Vec<u8>>, MacrosError>
+    ensures value { IfOk result (λ out.
+        option_map (λ out. elf_of out.items) out ≡ spec.kept_macros_of kept bytes.now) }
+    ensures needed { OnErr result (IsSome (spec.kept_macros_of kept bytes.now)) }
+{
+    let Ok(file) = ElfFile::parse(bytes) else {
+        return Ok(None);
+    };
+    if !is_changed(&file, kept) {
+        return Ok(None);
+    }
+    let mut out = bytes.to_vec(alloc)?;
+    empty_all(&file, kept, &mut out);
+    match ElfFile::parse(&out) {
+        Ok(new) if agrees(&file, &new, kept) => Ok(Some(out)),
+        _ => Err(MacrosError::Unrepresentable),
+    }
 }

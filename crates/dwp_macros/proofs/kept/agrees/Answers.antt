@@ -2,7 +2,7 @@ use Rattle.std.proofs.Common.{◌≡◌, ◌+◌, ◌-◌, sym, ap, ◌∙◌, a
 use Rattle.dwp_elf_read.specs.View.{elf, section}
 use Rattle.dwp_macros.specs.Kept.{has_macros}
 use Rattle.dwp_macros.proofs.Walks.{any_step, any_end, kept_step, kept_end}
-use Rattle.dwp_macros.proofs.changed.sections_agree.Goals as goal
+use Rattle.dwp_macros.proofs.kept.agrees.Goals as goal
 
 pub loop-left-init : goal.loop-left-init
 loop-left-init c =

@@ -2,7 +2,7 @@ use Rattle.std.proofs.Common.{◌≡◌, ◌≤◌, drop, length}
 use Rattle.std.specs.List.{list_any}
 use Rattle.dwp_elf_read.specs.View.{elf}
 use Rattle.dwp_macros.specs.Kept.{has_macros, kept_sections}
-use Rattle.dwp_macros.proofs.changed.sections_agree.Given as goal
+use Rattle.dwp_macros.proofs.kept.agrees.Given as goal
 
 -- those behind agree
 abbrev pub invariant-loop-left : goal.invariant-loop-left
