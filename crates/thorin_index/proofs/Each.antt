@@ -1,19 +1,15 @@
 -- What tests that all passed say.
-use Rattle.thorin_index.proofs.Terms
-use Terms.{◌*◌, ◌+◌, ◌++◌, ◌<◌, [], ◌^◌, All, ap, arith, at_drop_more, Bool, codes, cond}
-use Terms.{column_of, Contribution, contribution_kinds, contribution_to, contributions_test, drop}
-use Terms.{each}
-use Terms.{Encoding, encoding_test, Err, false, get_or, HoldsAll, index_version_of, IndexEntry}
-use Terms.{is_some, is_used, length, List, ltb-true, None, offset_or_0, Ok, Option, refl, Result}
-use Terms.{SectionKind, size_or_0, Some, suc, sym, tests_under, true, unwrap_or, zero, ℕ, ◌∙◌, ◌∷◌}
-use Terms.{◌≡◌}
 use Rattle.std.proofs.lemmas.List.Folds.{Any-from_list_any}
+use Rattle.thorin_index.proofs.Terms
+use Terms.{All, Bool, Contribution, Encoding, Err, ErrorValue, FitsRow, HoldsAll, IndexEntry, List}
+use Terms.{None, Ok, Option, Result, SectionKind, Some, [], ap, arith, at_drop_more, codes}
+use Terms.{column_of, cond, contribution_kinds, contribution_to, drop, each, encoding_test, false}
+use Terms.{get_or, index_version_of, is_some, is_used, length, ltb-true, offset_or_0, refl}
+use Terms.{size_or_0, suc, sym, true, unwrap_or, zero, ℕ, ◌*◌, ◌++◌, ◌+◌, ◌<◌, ◌^◌, ◌∙◌, ◌∷◌, ◌≡◌}
 use Rattle.dwp_base.proofs.Steps.{bind-was}
-use Rattle.dwp_base.specs.declared.section.SectionKind.TheVariants.{Str, CuIndex, TuIndex}
-use Rattle.thorin_errors.specs.Errors.{ErrorValue}
-use Rattle.thorin_index.specs.EntryTests.{number_test, format_test, count_test, offset_test}
-use Rattle.thorin_index.specs.EntryTests.{size_test}
-use Rattle.thorin_index.specs.IndexText.{FitsRow}
+use Rattle.dwp_base.specs.declared.section.SectionKind.TheVariants.{CuIndex, Str, TuIndex}
+use Rattle.thorin_index.specs.EntryTests.{contributions_test, count_test, format_test, number_test}
+use Rattle.thorin_index.specs.EntryTests.{offset_test, size_test, tests_under}
 use Rattle.dwp_base.proofs.EveryKind as kinds
 
 -- the number of a section's column, and whether it has one

@@ -2,4 +2,3 @@ pub mod Terms
 pub mod Each
 pub mod ReadAgain
 pub mod RowLemmas
-pub mod RowsAgain

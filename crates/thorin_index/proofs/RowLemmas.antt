@@ -1,25 +1,23 @@
 -- The rows of an index as they are held: what they stand for where more is shared. One more row in
 -- its hash table, and bytes that a loop adds.
-use Rattle.thorin_index.proofs.Terms
-use Terms.{◌+◌, ◌++◌, ◌<◌, [], All, All-push, ap, arith, below_more, blank, contribution_kinds}
-use Terms.{contribution_to, entry_by, entry_ids, Err, get_or, get_or-take, get_or_default}
-use Terms.{identifier_of, IndexEntry, length, length-take, List, map, map_push, Ok, OnErr, refl}
-use Terms.{Result, row_of, SectionKind, slice_get, Some, suc, sym, take, with_own, ℕ, ◌∙◌, ◌∷◌, ◌≡◌}
-use Terms.{◌≤◌, Encoding, Endianness, index_version_of, IsHashTable, length-map, ltb, tests_under}
-use Terms.{true, used_sections, ◌*◌, ◌^◌, ◌-◌, cases_lt, get_or_append_left, get_or_push, inl, inr}
-use Terms.{IsLooked, IsPlacedAfter, length_push, flat_map, map_more}
-use Rattle.std.proofs.lemmas.Bool.{lt-ltb}
-use Rattle.dwp_table.specs.Table.{HasSlots}
-use Rattle.thorin_errors.specs.Errors.{ErrorValue}
-use Rattle.thorin_index.specs.EntryTests.{count_test, index_tests}
-use Rattle.thorin_index.specs.IndexText.{IsIndexOf, index_bytes}
+use Rattle.std.proofs.lemmas.Bool.{cases_lt, lt-ltb}
 use Rattle.std.proofs.lemmas.Option.{get_or_from_slice_get, slice_get_within}
+use Rattle.thorin_index.proofs.Terms
+use Terms.{All, All-push, Encoding, Endianness, Err, ErrorValue, IndexEntry, IsHashTable, IsLooked}
+use Terms.{IsPlacedAfter, List, Ok, OnErr, Result, SectionKind, Some, [], ap, arith, below_more}
+use Terms.{blank, contribution_kinds, contribution_to, entry_by, entry_ids, flat_map, flat_map_more}
+use Terms.{get_or, get_or-take, get_or_append_left, get_or_default, get_or_push, identifier_of}
+use Terms.{index_version_of, inl, inr, length, length-map, length-take, length_push, ltb, map}
+use Terms.{map_more, map_push, refl, row_of, slice_get, suc, sym, take, take_more, true}
+use Terms.{used_sections, with_own, ℕ, ◌*◌, ◌++◌, ◌+◌, ◌-◌, ◌<◌, ◌^◌, ◌∙◌, ◌∷◌, ◌≡◌, ◌≤◌}
+use Rattle.dwp_table.specs.Table.{HasSlots}
 use Rattle.dwp_table.specs.declared.object.DwarfObject.{DwarfObject}
+use Rattle.thorin_index.specs.EntryTests.{count_test, index_tests, tests_under}
+use Rattle.thorin_index.specs.IndexText.{IsIndexOf, index_bytes}
 use Rattle.thorin_index.specs.declared.rows.Own.{Own}
-use Rattle.thorin_index.specs.declared.rows.Own.TheVariants.{Nothing, Info, Types}
+use Rattle.thorin_index.specs.declared.rows.Own.TheVariants.{Info, Nothing, Types}
 use Rattle.thorin_index.specs.declared.rows.Row.{Row}
 use Rattle.thorin_index.proofs.Each.{by_contribution}
-use Rattle.std.proofs.lemmas.List.{flat_map_more, take_more}
 
 -- a list that begins with another isn't shorter
 pub at_least : {A : Type 0} (front all : List A) → take (length front) all ≡ front

@@ -7,29 +7,11 @@ ghost use Rattle.dwp_table.specs.Table.{HasSlots, IsHashTable};
 ghost use Rattle.thorin_errors.specs.Answers.{Gives};
 ghost use Rattle.thorin_index.specs.Buckets.{IsLooked};
 ghost use Rattle.thorin_index.specs.Entries.{offset_or_0, size_or_0};
-ghost use Rattle.thorin_index.specs.EntryTests.{
-  contributions_test,
-  count_test,
-  each,
-  encoding_test,
-  index_tests,
-  number_test,
-  test_of,
-  tests_under,
-};
-ghost use Rattle.thorin_index.specs.IndexText.{
-  FitsRow,
-  IsIndexOf,
-  column_numbers,
-  entry_ids,
-  index_bytes,
-  is_used,
-  measure_of,
-  numbers_bytes,
-  rows_bytes,
-  signatures_bytes,
-  version_bytes,
-};
+ghost use Rattle.thorin_index.specs.EntryTests.{contributions_test, count_test, each, index_tests};
+ghost use Rattle.thorin_index.specs.EntryTests.{encoding_test, number_test, test_of, tests_under};
+ghost use Rattle.thorin_index.specs.IndexText.{FitsRow, IsIndexOf, column_numbers, entry_ids};
+ghost use Rattle.thorin_index.specs.IndexText.{index_bytes, is_used, measure_of, numbers_bytes};
+ghost use Rattle.thorin_index.specs.IndexText.{rows_bytes, signatures_bytes, version_bytes};
 
 use crate::entry::IndexEntry;
 use crate::rows::IndexRows;
@@ -83,8 +65,7 @@ pub fn write_rows(alloc: Global, endianness: Endianness, rows: &IndexRows) -> Re
     Ok(index_text(alloc, endianness, version, &columns, rows, &slots)?)
 }
 
-/// The greatest number of units that an index can name: with it, three times the number still fits
-/// 32 bits, and so does the number of slots.
+/// The most units that an index can name: three times as many still fit 32 bits.
 const UNIT_LIMIT: usize = 1_431_655_765;
 
 /// What is tested of an entry's contribution to a section.
@@ -99,9 +80,6 @@ enum ContributionTest {
 }
 
 /// That an index can name so many units.
-///
-/// # Errors
-/// `NumberTooLarge` of more units.
 fn test_count(units: usize) -> Result<(), Error>
     ensures exact { Gives (λ x. x) result (count_test units) }
     ensures few { OnOk result (units ≤ 1431655765) }
@@ -163,11 +141,7 @@ impl ContributionTest {
     }
 }
 
-/// Whether an index of this encoding can be written of the rows.
-///
-/// # Errors
-/// The first error, in the order of the tests: `NumberTooLarge`, `MixedInputEncodings`,
-/// `SectionOutsideFormat`, `NumberTooLarge`.
+/// That an index of this encoding can be written of the rows.
 #[tactic(auto, unfolding(crate::specs::EntryTests::tests_under))]
 fn test_entries(encoding: Encoding, rows: &IndexRows) -> Result<(), Error>
     ensures exact { Gives (λ x. x) result (tests_under encoding rows.now) }

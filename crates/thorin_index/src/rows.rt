@@ -207,9 +207,6 @@ impl IndexRows {
     }
 
     /// The slots of a hash table of the rows' units.
-    ///
-    /// # Errors
-    /// Those of `bucket`.
     pub(crate) fn slots(&self, alloc: Global) -> Result<Vec<u32>, Error>
         ensures refusal { Gives (λ _. tt) result (count_test (length self.now)) }
         ensures table { IfOk result (λ slots. IsHashTable (entry_ids self.now) slots.items) }

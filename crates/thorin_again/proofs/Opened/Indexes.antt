@@ -20,7 +20,7 @@ use Rattle.thorin_join.proofs.Files.Contents.{chosen-fit, no-bytes}
 use Rattle.dwp_bytes.specs.Encoding.{index_version_of}
 use Rattle.thorin_index.proofs.Each.{have_passed, used_known}
 use Rattle.thorin_index.proofs.ReadAgain.{index_is_read}
-use Rattle.thorin_index.proofs.RowsAgain.{written_rows}
+use Rattle.thorin_index.proofs.ReadAgain.{written_rows}
 use Rattle.thorin_again.proofs.Opened.Sections.{first-written, info-written, object-written}
 use Rattle.thorin_again.proofs.Opened.Sections.{opened-elf}
 use Rattle.thorin_join.proofs.Files.Finished.{finished-compilations, finished-content}

@@ -17,7 +17,7 @@ use Rattle.dwp_elf.proofs.ReadingBack.{elf_of-file_text}
 use Rattle.thorin_join.specs.WrittenPackage.{IsIndexIn, package_with}
 use Rattle.dwp_index.specs.IndexBytes.{index_of, version_of}
 use Rattle.thorin_index.proofs.ReadAgain.{index_is_read}
-use Rattle.thorin_index.proofs.RowsAgain.{written_rows}
+use Rattle.thorin_index.proofs.ReadAgain.{written_rows}
 use Rattle.dwp_base.specs.declared.class.Class.{Class}
 use Rattle.dwp_bytes.specs.declared.error.ReadError.TheVariants.{UnexpectedEof}
 use Rattle.dwp_index.specs.Package.{index_in_section, package_of}

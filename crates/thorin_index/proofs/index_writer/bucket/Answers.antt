@@ -1,8 +1,6 @@
-use Rattle.std.proofs.Common.{rules, take_all, take_at}
-use Rattle.std.proofs.lemmas.Grind.{common_steps}
-use Rattle.thorin_index.proofs.Terms
-use Terms.{◌+◌, ◌++◌, [], arith, length, length-map, length-take-le, map, map_more, refl, replicate}
-use Terms.{drop, take, ◌∙◌, ◌∷◌, ◌≡◌}
+use Rattle.thorin_index.proofs.Terms.{[], arith, common_steps, drop, length, length-map}
+use Rattle.thorin_index.proofs.Terms.{length-take-le, map, map_more, refl, replicate, rules, take}
+use Rattle.thorin_index.proofs.Terms.{take_all, take_at, ◌++◌, ◌+◌, ◌∙◌, ◌∷◌, ◌≡◌}
 use Rattle.thorin_index.proofs.RowLemmas.{looked_more, none_looked}
 use Rattle.thorin_index.proofs.index_writer.bucket.Goals as goal
 

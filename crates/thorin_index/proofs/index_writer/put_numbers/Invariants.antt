@@ -1,4 +1,4 @@
-use Rattle.thorin_index.proofs.Terms.{◌++◌, numbers_bytes, take, ◌≡◌}
+use Rattle.thorin_index.proofs.Terms.{numbers_bytes, take, ◌++◌, ◌≡◌}
 use Rattle.thorin_index.proofs.index_writer.put_numbers.Given as goal
 
 abbrev pub invariant-loop-number : goal.invariant-loop-number

@@ -1,7 +1,5 @@
-use Rattle.thorin_index.proofs.Terms
-use Terms.{arith, blank, contribution_to, get_or, measure_of, number_bytes, numbers_bytes}
-use Terms.{row_numbers}
-use Rattle.std.proofs.lemmas.List.{take_all}
+use Rattle.thorin_index.proofs.Terms.{arith, blank, contribution_to, get_or, measure_of}
+use Rattle.thorin_index.proofs.Terms.{number_bytes, numbers_bytes, row_numbers, take_all}
 use Rattle.thorin_index.proofs.RowLemmas.{one_mapped, one_piece}
 use Rattle.thorin_index.proofs.index_writer.put_rows.Goals as goal
 

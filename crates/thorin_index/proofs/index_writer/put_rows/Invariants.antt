@@ -1,5 +1,5 @@
-use Rattle.thorin_index.proofs.Terms
-use Terms.{◌++◌, blank, get_or, measure_of, numbers_bytes, row_numbers, rows_bytes, take, ◌≡◌}
+use Rattle.thorin_index.proofs.Terms.{blank, get_or, measure_of, numbers_bytes, row_numbers}
+use Rattle.thorin_index.proofs.Terms.{rows_bytes, take, ◌++◌, ◌≡◌}
 use Rattle.thorin_index.proofs.index_writer.put_rows.Given as goal
 
 abbrev pub invariant-loop-position : goal.invariant-loop-position

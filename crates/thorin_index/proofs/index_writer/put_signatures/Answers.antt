@@ -1,8 +1,8 @@
-use Rattle.thorin_index.proofs.Terms
-use Terms.{◌-◌, ◌<◌, ap, arith, blank, entry_ids, get_or, get_or-map, identifier_of, IndexEntry}
-use Terms.{length, List, number_bytes, refl, signature_of, suc, ℕ, ◌∙◌, ◌≡◌}
+use Rattle.thorin_index.proofs.Terms.{IndexEntry, List, ap, arith, blank, entry_ids, get_or}
+use Rattle.thorin_index.proofs.Terms.{get_or-map, identifier_of, length, number_bytes, refl}
+use Rattle.thorin_index.proofs.Terms.{signature_of, suc, ℕ, ◌-◌, ◌<◌, ◌∙◌, ◌≡◌}
 use Rattle.thorin_index.proofs.RowLemmas.{one_piece}
-use Rattle.thorin_index.proofs.index_writer.put_signatures.Goals.{then-row-eq0, else-row-eq0}
+use Rattle.thorin_index.proofs.index_writer.put_signatures.Goals.{else-row-eq0, then-row-eq0}
 use Rattle.thorin_index.proofs.index_writer.put_signatures.Goals as goal
 
 signature_at : (entries : List IndexEntry) (r row : ℕ) (d : IndexEntry) → row ≡ suc r

@@ -1,4 +1,4 @@
-use Rattle.thorin_index.proofs.Terms.{◌++◌, entry_ids, signatures_bytes, take, ◌≡◌}
+use Rattle.thorin_index.proofs.Terms.{entry_ids, signatures_bytes, take, ◌++◌, ◌≡◌}
 use Rattle.thorin_index.proofs.index_writer.put_signatures.Given as goal
 
 abbrev pub invariant-loop-row : goal.invariant-loop-row

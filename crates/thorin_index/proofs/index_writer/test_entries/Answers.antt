@@ -1,5 +1,4 @@
-use Rattle.thorin_index.proofs.Terms.{codes, offset_or_0, refl, size_or_0}
-use Rattle.std.proofs.lemmas.Result.{on_ok_weaker}
+use Rattle.thorin_index.proofs.Terms.{codes, offset_or_0, on_ok_weaker, refl, size_or_0}
 use Rattle.thorin_index.proofs.Each.{rows_fit}
 use Rattle.thorin_index.proofs.index_writer.test_entries.Goals as goal
 

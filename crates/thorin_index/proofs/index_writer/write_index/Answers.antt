@@ -1,5 +1,4 @@
-use Rattle.thorin_index.proofs.Terms.{arith, sym, ◌∙◌, ◌≡◌}
-use Rattle.std.proofs.lemmas.List.{take_all, take_more}
+use Rattle.thorin_index.proofs.Terms.{arith, sym, take_all, take_more, ◌∙◌, ◌≡◌}
 use Rattle.thorin_index.proofs.index_writer.write_index.Goals as goal
 
 pub loop-entry-preserved : goal.loop-entry-preserved

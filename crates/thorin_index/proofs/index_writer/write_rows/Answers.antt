@@ -1,5 +1,4 @@
-use Rattle.thorin_index.proofs.Terms.{arith, ◌∙◌}
-use Rattle.std.proofs.lemmas.Result.{err_from_is_err_and}
+use Rattle.thorin_index.proofs.Terms.{arith, err_from_is_err_and, ◌∙◌}
 use Rattle.thorin_index.proofs.RowLemmas.{index_is, not_refused, rows_within, tests_of_some}
 use Rattle.thorin_index.proofs.index_writer.write_rows.Goals as goal
 

@@ -1,4 +1,4 @@
-use Rattle.thorin_index.proofs.RowsAgain.{written_rows}
+use Rattle.thorin_index.proofs.ReadAgain.{written_rows}
 use Rattle.thorin_index.proofs.laws.written_index_has_the_entries.Goals as goal
 
 pub returns : goal.returns

@@ -1,9 +1,7 @@
-use Rattle.thorin_index.proofs.Terms
-use Terms.{◌++◌, ◌-◌, [], ap, arith, get_or_push, length_push, refl, Some, sym, ◌∙◌, ◌∷◌}
 use Rattle.std.proofs.lemmas.Option.{slice_get-get_or, slice_get_read}
+use Rattle.thorin_index.proofs.Terms.{Some, [], ap, arith, get_or_push, length_push, refl, sym}
+use Rattle.thorin_index.proofs.Terms.{◌++◌, ◌-◌, ◌∙◌, ◌∷◌}
 use Rattle.thorin_index.proofs.rows.share.Goals as goal
-use Rattle.std.proofs.Common.{rules}
-use Rattle.std.proofs.lemmas.Grind.{common_steps}
 
 pub returns-then-same_entry-clause-there : goal.returns-then-same_entry-clause-there
 returns-then-same_entry-clause-there c =
@@ -18,12 +16,3 @@ returns-clause-there c =
     rw c.in_ok-push.ensures.items (slice_get_read (items ++ entry ∷ []) _ c.len-count.result entry
     refl (omega (arith, length_push items entry, c.len-count.ensures))
     (sym (get_or_push items entry entry c.len-count.result (omega (arith, c.len-count.ensures)))))
-
-pub returns-clause-kept : goal.returns-clause-kept
-returns-clause-kept c = grind (arith, common_steps)
-
-pub returns-clause-last : goal.returns-clause-last
-returns-clause-last c = search rules
-
-pub returns-then-same_entry-clause-last : goal.returns-then-same_entry-clause-last
-returns-then-same_entry-clause-last c = search rules

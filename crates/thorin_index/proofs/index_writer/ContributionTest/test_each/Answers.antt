@@ -1,8 +1,6 @@
-use Rattle.thorin_index.proofs.Terms
-use Terms.{[], arith, blank, contribution_kinds, contribution_to, contributions_test, drop}
-use Terms.{drop_all}
-use Terms.{get_or, sym, test_of, ◌∙◌, ◌≡◌}
-use Rattle.std.proofs.lemmas.Result.{err_from_is_err_and}
+use Rattle.thorin_index.proofs.Terms.{[], arith, blank, contribution_kinds, contribution_to, drop}
+use Rattle.thorin_index.proofs.Terms.{drop_all, err_from_is_err_and, get_or, sym, test_of, ◌∙◌, ◌≡◌}
+use Rattle.thorin_index.specs.EntryTests.{contributions_test}
 use Rattle.thorin_index.proofs.Each.{each_passed, next_fails, next_passes}
 use Rattle.thorin_index.proofs.index_writer.ContributionTest.test_each.Goals as goal
 

@@ -1,6 +1,5 @@
-use Rattle.thorin_index.proofs.Terms
-use Terms.{blank, contribution_kinds, contributions_test, drop, each, get_or, test_of, ◌≡◌}
-use Rattle.thorin_index.specs.EntryTests.{each_contribution}
+use Rattle.thorin_index.proofs.Terms.{blank, contribution_kinds, drop, each, get_or, test_of, ◌≡◌}
+use Rattle.thorin_index.specs.EntryTests.{contributions_test, each_contribution}
 use Rattle.thorin_index.proofs.index_writer.ContributionTest.test_each.Given as goal
 
 -- what is left has the first error of all
