@@ -9,5 +9,5 @@ pub use Rattle.std.proofs.lemmas.Grind.{common_steps}
 pub use Rattle.std.proofs.lemmas.List.{drop_all, get_or_read}
 pub use Rattle.std.proofs.lemmas.Nat.{mod_below, pow_below}
 pub use Rattle.dwp_zstd.specs.Bits.{Bits, above_bytes, number_of}
-unfoldable pub use Rattle.dwp_zstd.specs.Bits.{after, bits_of, left, low_at, below, unread}
-unfoldable pub use Rattle.dwp_zstd.specs.Bits.{high_at, peeked}
+unfoldable pub use Rattle.dwp_zstd.specs.Bits.{after, below, bits_of, high_at, low_at, peeked}
+unfoldable pub use Rattle.dwp_zstd.specs.Readers.{left, unread}

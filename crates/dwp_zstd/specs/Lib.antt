@@ -11,6 +11,7 @@ pub mod Headers
 pub mod Kinds
 pub mod Literals
 pub mod Ranks
+pub mod Readers
 pub mod Sequences
 pub mod Spread
 pub mod Streams

@@ -2,7 +2,7 @@
 
 ghost use Rattle.std.specs.Prelude.{◌≡◌, ◌≤◌, ◌<◌, ◌*◌, ◌/◌, ◌^◌, length, drop};
 ghost use Rattle.byteorder.specs.Endian.{little_number};
-ghost use Rattle.dwp_zstd.specs.Checksum.{round, behind_stripe, behind_stripes, merged, joined};
+ghost use Rattle.dwp_zstd.specs.Checksum.{round, behind_stripe, behind_stripes, merged};
 ghost use Rattle.dwp_zstd.specs.Checksum.{with_lanes, with_bytes, with_rest, of_stripes, xxh64};
 ghost use Rattle.dwp_zstd.specs.Checksum.{accumulators_of};
 
@@ -77,25 +77,8 @@ fn merged(h: u64, acc: u64) -> u64
         .wrapping_add(PRIME_4)
 }
 
-/// One number of the four accumulators.
-#[tactic(auto, unfolding(crate::specs::Checksum::joined, crate::specs::Checksum::accumulators_of, crate::specs::Checksum::plus, crate::specs::Checksum::turn))]
-fn joined(four: Accumulators) -> u64
-    ensures { result ≡ joined (accumulators_of four) }
-{
-    let h = four
-        .first
-        .rotate_left(1)
-        .wrapping_add(four.second.rotate_left(7))
-        .wrapping_add(four.third.rotate_left(12))
-        .wrapping_add(four.fourth.rotate_left(18));
-    let h = merged(h, four.first);
-    let h = merged(h, four.second);
-    let h = merged(h, four.third);
-    merged(h, four.fourth)
-}
-
 /// What stands for the stripes.
-#[tactic(auto, unfolding(crate::specs::Checksum::of_stripes, crate::specs::Checksum::start, crate::specs::Checksum::accumulators_of, crate::specs::Checksum::plus, crate::specs::Checksum::prime1, crate::specs::Checksum::prime2, crate::specs::Checksum::prime5))]
+#[tactic(auto, unfolding(crate::specs::Checksum::of_stripes, crate::specs::Checksum::joined, crate::specs::Checksum::turn, crate::specs::Checksum::start, crate::specs::Checksum::accumulators_of, crate::specs::Checksum::plus, crate::specs::Checksum::prime1, crate::specs::Checksum::prime2, crate::specs::Checksum::prime5))]
 fn of_stripes(bytes: &[u8]) -> u64
     ensures { result ≡ of_stripes bytes.now }
 {
@@ -108,7 +91,17 @@ fn of_stripes(bytes: &[u8]) -> u64
         third: 0,
         fourth: 0u64.wrapping_sub(PRIME_1),
     };
-    joined(behind_stripes(start, bytes))
+    let four = behind_stripes(start, bytes);
+    let h = four
+        .first
+        .rotate_left(1)
+        .wrapping_add(four.second.rotate_left(7))
+        .wrapping_add(four.third.rotate_left(12))
+        .wrapping_add(four.fourth.rotate_left(18));
+    let h = merged(h, four.first);
+    let h = merged(h, four.second);
+    let h = merged(h, four.third);
+    merged(h, four.fourth)
 }
 
 /// The lanes behind the last stripe.
