@@ -1,9 +1,11 @@
 -- One walk over the sections of an input: what is known of those so far, with those that are left.
 use Rattle.std.proofs.Common.{◌≡◌, ◌∙◌, ℕ, Bool, true, false, not, eqb, ◌||◌, ◌&&◌, List, [], ◌∷◌}
 use Rattle.std.proofs.Common.{map, Option, Some, None, Result, Ok, Err, refl, sym, ap, find}
-use Rattle.std.proofs.Common.{arith, is_some, option_and_then, ok_or, MatchResult}
+use Rattle.std.proofs.Common.{arith, is_some, option_and_then, ok_or}
+use Rattle.std.specs.Result.{result_err}
 use Rattle.std.specs.List.{list_any}
 use Rattle.std.proofs.Math.Bool.{or_assoc, or-false}
+use Rattle.std.proofs.lemmas.Bool.{false≢true}
 use Rattle.dwp_base.specs.declared.endian.Endianness.{Endianness}
 use Rattle.dwp_base.specs.declared.section.SectionKind.{SectionKind}
 use Rattle.dwp_base.specs.declared.section.SectionKind.TheVariants as kinds
@@ -102,45 +104,63 @@ any-end test b l all e h = sym (or-false b) ∙ (rw e at h)
 abbrev pub taken : Taken → List Used
 taken t = map view.used t.sections.items
 
-abbrev pub GoesOn : Result Taken Error → List SectionMeaning → Result (List Used) ErrorValue
-    → Type 0
-GoesOn (Ok t) rest all = used_from (taken t) rest ≡ all
-GoesOn (Err e) rest all = MemoryAside e (all ≡ Err (error_of e))
+abbrev pub GoesOn : Option Error → Taken → List SectionMeaning
+    → Result (List Used) ErrorValue → Type 0
+GoesOn None t rest all = used_from (taken t) rest ≡ all
+GoesOn (Some e) t rest all = MemoryAside e (all ≡ Err (error_of e))
 
-pub taken-step : (t n : Result Taken Error) (l rest : List Placed) (p : Placed)
-    (all : Result (List Used) ErrorValue) → l ≡ p ∷ rest
-    → MatchResult t (λ before. Gives taken n (with_used (taken before) p.section
-    (used_kind p.section))) (λ e. n ≡ Err e)
-    → GoesOn t (those l) all → GoesOn n (those rest) all
+pub taken-step : (t n : Taken) (answer : Result (Unit {0}) Error) (l rest : List Placed)
+    (p : Placed) (all : Result (List Used) ErrorValue) → l ≡ p ∷ rest
+    → Gives (λ _. taken n) answer (with_used (taken t) p.section (used_kind p.section))
+    → GoesOn None t (those l) all → GoesOn (result_err answer) n (those rest) all
 unfolding used_from
-taken-step (Ok t) (Ok n) l rest p all h next goes = rw (h, next) at goes
-taken-step (Ok t) (Err e) l rest p all h next goes = λ aside.
+taken-step t n (Ok _) l rest p all h next goes = rw (h, next) at goes
+taken-step t n (Err e) l rest p all h next goes = λ aside.
     let fails = next aside in sym (rw (h, fails) at goes)
-taken-step (Err e) n l rest p all h next goes = rw next goes
 
-pub taken-end : (t : Result Taken Error) (l : List Placed) (all : Result (List Used) ErrorValue)
-    → l ≡ [] → GoesOn t (those l) all → Gives taken t all
-unfolding used_from
-taken-end (Ok t) l all h goes = sym (rw h at goes)
-taken-end (Err e) l all h goes = goes
+-- one more section, where none so far has an error
+pub taken-next : (fault : Option Error) (t n : Taken) (answer : Result (Unit {0}) Error)
+    (l rest : List Placed) (p : Placed) (all : Result (List Used) ErrorValue)
+    → is_some fault ≡ false → l ≡ p ∷ rest
+    → Gives (λ _. taken n) answer (with_used (taken t) p.section (used_kind p.section))
+    → GoesOn fault t (those l) all → GoesOn (result_err answer) n (those rest) all
+taken-next None t n answer l rest p all none h next goes =
+    taken-step t n answer l rest p all h next goes
+taken-next (Some e) t n answer l rest p all none h next goes = absurd (false≢true (sym none))
+
+-- an error stays
+pub taken-kept : (fault : Option Error) (t : Taken) (rest left : List SectionMeaning)
+    (all : Result (List Used) ErrorValue) → is_some fault ≡ true → GoesOn fault t rest all
+    → GoesOn fault t left all
+taken-kept None t rest left all some goes = absurd (false≢true some)
+taken-kept (Some e) t rest left all some goes = goes
 
 -- what the whole walk gives
-pub walk-gives : (t : Result Taken Error) (r : Result InputObject Error) (order : Endianness)
-    (strings abbreviations : Bool) (file : Elf)
-    → order ≡ file.order → strings ≡ list_any (is_named (name_of kinds.Str)) file.sections
-    → abbreviations ≡ list_any (is_named (name_of kinds.Abbrev)) file.sections
-    → Gives taken t (used_from [] file.sections)
-    → MatchResult t (λ used. Gives view.object r (Ok (record {
+pub walk-gives : (t : Taken) (order : Endianness) (strings abbreviations : Bool) (l : List Placed)
+    (file : Elf) → order ≡ file.order
+    → strings ≡ list_any (is_named (name_of kinds.Str)) file.sections
+    → abbreviations ≡ list_any (is_named (name_of kinds.Abbrev)) file.sections → l ≡ []
+    → GoesOn None t (those l) (used_from [] file.sections)
+    → input_file_of file ≡ Ok (record {
       order = order;
-      sections = taken used;
+      sections = taken t;
       has_strings = strings;
       has_abbreviations = abbreviations;
-    }))) (λ e. r ≡ Err e)
-    → Gives view.object r (input_file_of file)
+    })
+unfolding input_file_of used_from
+walk-gives t order strings abbreviations l file ho hs ha h goes =
+    let used : used_from [] file.sections ≡ Ok (taken t) = sym (rw h at goes) in
+    rw (
+      used,
+      ho,
+      hs,
+      ha,
+      found-any (is_named (name_of kinds.Str)) file.sections,
+      found-any (is_named (name_of kinds.Abbrev)) file.sections,
+    ) refl
+
+pub walk-fails : (e : Error) (file : Elf)
+    → MemoryAside e (used_from [] file.sections ≡ Err (error_of e))
+    → Gives view.object (Err e) (input_file_of file)
 unfolding input_file_of
-walk-gives (Ok t) (Ok o) order strings abbreviations file ho hs ha used made =
-    rw (used, ← ho) (simp (found-any, sym hs, sym ha) made)
-walk-gives (Ok t) (Err e) order strings abbreviations file ho hs ha used made = λ aside.
-    rw (used, ← ho) (simp (found-any, sym hs, sym ha) (made aside))
-walk-gives (Err e) r order strings abbreviations file ho hs ha used made =
-    rw made (λ aside. let fails = used aside in rw fails refl)
+walk-fails e file used = λ aside. rw (used aside) refl

@@ -1,8 +1,8 @@
 -- What the units that an input adds, and what they depend on, stand for.
 use Rattle.std.specs.Prelude.{◌≡◌, ℕ, List, map, get_or}
 use Rattle.dwp_base.specs.declared.section.SectionKind.{SectionKind}
-use Rattle.thorin_input.specs.declared.new_units.NewUnit.{NewUnit}
-use Rattle.thorin_input.specs.declared.new_units.NewUnits.{NewUnits}
+use Rattle.thorin_input.specs.declared.held.NewUnit.{NewUnit}
+use Rattle.thorin_input.specs.declared.held.NewUnits.{NewUnits}
 use Rattle.thorin_input.specs.declared.units.Adding.{Adding}
 use Rattle.thorin_input.specs.declared.units.SeenSections.{SeenSections}
 use Rattle.dwp_bytes.specs.Input.{Input}

@@ -1,15 +1,16 @@
-//! The units that a package has, each found by its name with its bytes.
+//! What a package has, each unit found by its name with its bytes, and what an input adds to it.
 
-ghost use Rattle.std.specs.Prelude.{◌≡◌, map, option_map};
+ghost use Rattle.std.specs.Prelude.{◌≡◌, ◌<◌, All, length, map, option_map};
 ghost use Rattle.std.specs.Map.{lookup};
 ghost use Rattle.thorin_input.specs.Held as spec;
 ghost use Rattle.thorin_input.specs.Names.{same_name};
 
 use dwp_base::SectionKind;
+use dwp_dwarf::UnitSection;
 use dwp_elf::WritableObject;
 use dwp_index::part_of;
-use dwp_table::DwarfObject;
-use indexmap::IndexSet;
+use dwp_table::{DebugTypeSignature, DwarfObject};
+use indexmap::{IndexMap, IndexSet};
 use thorin_index::{IndexEntry, IndexRows};
 
 /// What a package has: its sections, and the name and row of each unit, in one order. A row whose
@@ -53,4 +54,30 @@ impl<'p> Held<'p> {
         };
         Some(unit_bytes(self.object, &self.rows.entry(position)))
     }
+}
+
+/// A unit that is added: whether it goes to info or to types, its bytes, and the number of its row
+/// without the range of these bytes.
+#[derive(Clone, Copy)]
+pub struct NewUnit<'a> {
+    /// Whether it goes to info or to types.
+    pub place: UnitSection,
+    /// Its bytes.
+    pub bytes: &'a [u8],
+    /// The number of its row among those of what is added.
+    pub row_number: usize,
+}
+
+/// What an input adds to the package: its units that aren't contained yet, in file order.
+#[derive(Drop)]
+pub struct NewUnits<'a> {
+    /// The units by their names.
+    pub units: IndexMap<DwarfObject, NewUnit<'a>>,
+    /// The rows of these units, but for their names: neighbouring units share one, where they can.
+    pub rows: Vec<IndexEntry>,
+    /// The signatures of type units that were passed over and differ from those that are kept.
+    pub differing: Vec<DebugTypeSignature>,
+    /// Whether each unit of the input, one that was passed over too, has the input's encoding.
+    pub alike: bool,
+    ghost numbered: { All (λ e. e.1.row_number < length rows.items) units.entries },
 }

@@ -1,6 +1,6 @@
 //! The units that an input adds to a package, each with its row.
 
-ghost use Rattle.std.specs.Prelude.{◌≡◌, ◌&&◌, option_map, Ok, Some, None, IfOk, OnOk};
+ghost use Rattle.std.specs.Prelude.{◌≡◌, ◌&&◌, option_map, Some, None, IfOk, OnOk};
 ghost use Rattle.dwp_units.specs.Units.{unit_of, unit_seen};
 ghost use Rattle.thorin_errors.specs.Answers.{Gives};
 ghost use Rattle.thorin_input.specs.Encodings.{has_encoding, all_have, section_has, are_alike};
@@ -9,18 +9,17 @@ ghost use Rattle.thorin_input.specs.UnitView.{ArePlacedIn, adding_of, held_in, m
 ghost use Rattle.thorin_input.specs.View.{tables_in};
 ghost use Rattle.thorin_input.specs.View as view;
 
-use crate::held::Held;
-use crate::new_units::{NewUnit, NewUnits};
+use crate::held::{Held, NewUnit, NewUnits};
 use crate::object::UsedSection;
 use crate::rows::{PlacedRows, Whole, abbreviations_for, test_row, unit_row};
 use crate::source::Source;
-use crate::tables::Tables;
 use dwp_base::SectionKind;
-use dwp_dwarf::{Encoding, ReadError, Reader, SliceReader, UnitHeader, UnitHeaders, UnitSection};
+use dwp_dwarf::{ReadError, Reader, SliceReader, UnitHeader, UnitHeaders, UnitSection};
 use dwp_table::{Bucketable, DebugTypeSignature, DwarfObject};
 use indexmap::IndexMap;
 use std::alloc::Global;
 use thorin_errors::Error;
+use thorin_identity::RangeTables;
 use thorin_index::share;
 
 /// What the units that an input adds depend on: the input, where the whole of each of its sections
@@ -40,7 +39,7 @@ pub struct Adding<'i, 'a, 'p> {
 struct SeenSections<'a> {
     info: bool,
     types: bool,
-    tables: Tables<'a>,
+    tables: RangeTables<'a>,
 }
 
 /// Type units go where they stand, every other unit to info.
@@ -85,20 +84,12 @@ fn test_once(
     }
 }
 
-/// Whether the units so far have an encoding, and this one has it too.
-fn stay_alike<'a>(alike: bool, encoding: Encoding, header: &UnitHeader<SliceReader<'a>>) -> bool
-    ensures { result ≡ (alike
-        && has_encoding encoding (Ok (unit_of ⟦<SliceReader<'a> as Reader>⟧.input header.now))) }
-{
-    alike && header.encoding() == encoding
-}
-
 /// The name of a unit that was read in a section.
 #[tactic(auto, unfolding(crate::specs::NewUnits::name_for))]
 fn name_for<'a>(
     source: &Source<'a>,
     placed: &PlacedRows<'_, '_>,
-    tables: &mut Tables<'a>,
+    tables: &mut RangeTables<'a>,
     kind: SectionKind,
     header: &UnitHeader<SliceReader<'a>>,
 ) -> Result<DwarfObject, Error>
@@ -108,8 +99,10 @@ fn name_for<'a>(
         (unit_of ⟦<SliceReader<'a> as Reader>⟧.input header.now)) }
     ensures tables { tables.new ≡ tables.old }
 {
-    let range = abbreviations_for(source, tables.bytes(), placed, kind, header)?;
-    tables.identifier(range, header)?.ok_or(Error::NotSplitUnit)
+    let (start, end) = abbreviations_for(source, tables.bytes(), placed, kind, header)?;
+    tables
+        .identifier(start, end, header)?
+        .ok_or(Error::NotSplitUnit)
 }
 
 impl<'a> NewUnits<'a> {
@@ -130,12 +123,13 @@ impl<'a> NewUnits<'a> {
             differing: Vec::new(alloc),
             alike: true,
         };
+        let object = &adding.source.object;
         let mut met = SeenSections {
             info: false,
             types: false,
-            tables: Tables::new(alloc, &adding.source.object),
+            tables: RangeTables::new(alloc, object.first(SectionKind::Abbrev), object.order),
         };
-        for section in &adding.source.object.sections {
+        for section in &object.sections {
             new.add_section(alloc, adding, &mut met, *section)?;
         }
         Ok(new)
@@ -202,7 +196,7 @@ impl<'a> NewUnits<'a> {
         &mut self,
         adding: &Adding<'_, 'a, '_>,
         placed: &PlacedRows<'_, '_>,
-        tables: &mut Tables<'a>,
+        tables: &mut RangeTables<'a>,
         section: UsedSection<'a>,
         read: Result<UnitHeader<SliceReader<'a>>, ReadError>,
     ) -> Result<(), Error>
@@ -217,7 +211,7 @@ impl<'a> NewUnits<'a> {
             (unit_seen ⟦<SliceReader<'a> as Reader>⟧.input read.entry))) }
     {
         let header = read.map_err(Error::ParseUnitHeader)?;
-        let alike = stay_alike(self.alike, adding.source.encoding, &header);
+        let alike = self.alike & (header.encoding() == adding.source.encoding);
         let name = name_for(adding.source, placed, tables, section.kind, &header)?;
         self.add_unit(adding, placed, section, name, &header)?;
         self.alike = alike;

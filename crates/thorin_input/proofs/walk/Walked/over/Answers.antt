@@ -1,11 +1,11 @@
-use Rattle.std.proofs.Common.{refl, ◌≡◌, ◌∙◌, ap, rules, [], ◌∷◌}
+use Rattle.std.proofs.Common.{refl, not, ◌≡◌, ◌∙◌, ap, rules, [], ◌∷◌}
 use Rattle.std.specs.List.{list_any}
 use Rattle.dwp_base.specs.declared.section.SectionKind.TheVariants.{Info, Abbrev, Str}
 use Rattle.dwp_base.specs.Sections.{name_of}
 use Rattle.dwp_elf_read.specs.Elf.{is_named, is_of}
 use Rattle.dwp_elf_read.specs.View.{placed, sections_left, elf}
-use Rattle.thorin_input.proofs.Walking.{those, any-step, any-end, taken-step, taken-end, walk-gives}
-use Rattle.thorin_input.proofs.Walking.{map-placed}
+use Rattle.thorin_input.proofs.Walking.{those, any-step, any-end, either-index, map-placed}
+use Rattle.thorin_input.proofs.Walking.{taken-next, taken-kept, walk-gives, walk-fails}
 use Rattle.thorin_input.proofs.walk.Walked.over.Goals as goal
 
 pub loop-section-init : goal.loop-section-init
@@ -19,7 +19,28 @@ loop-section-init c =
       info = ap (list_any (is_of Info)) left;
       strings = ap (list_any (is_named (name_of Str))) left;
       abbreviations = ap (list_any (is_named (name_of Abbrev))) left;
-      used = rw (c.new.ensures, left) refl;
+      used = rw (c.new.ensures.items, left) refl;
+    }
+
+-- the section is the next one; and what is there is known with it
+pub loop-section-preserved-then-is_none : goal.loop-section-preserved-then-is_none
+loop-section-preserved-then-is_none c =
+    let left : sections_left c.loop-section.section-iterator ≡ placed c.in-Some.section ∷
+    sections_left c.next.new.self = search (rules, c.in-Some.ensures.steps) in
+    let p = placed c.in-Some.section in
+    let before = c.loop-section in
+    let so_far = before.invariant in
+    record {
+      info = rw c.is_of-with_units.ensures.named
+          (any-step (is_of Info) before.with_units _ _ p left ∙ so_far.info);
+      strings = rw (c.is_called-has_strings.ensures, c.name.ensures)
+          (any-step (is_named (name_of Str)) before.has_strings _ _ p left ∙ so_far.strings);
+      abbreviations = rw (c.is_called-has_abbreviations.ensures, c.name-in-loop-section.ensures)
+          (any-step (is_named (name_of Abbrev)) before.has_abbreviations _ _ p left
+          ∙ so_far.abbreviations);
+      used = rw c.err-fault.ensures.value
+          (taken-next before.fault before.taken c.add.new.self c.add.result _ _ p _
+          (c.is_none.ensures ∙ ap not c.if-is_none.true) left c.add.ensures so_far.used);
     }
 
 pub loop-section-preserved : goal.loop-section-preserved
@@ -27,35 +48,46 @@ loop-section-preserved c =
     let left : sections_left c.loop-section.section-iterator ≡ placed c.in-Some.section ∷
     sections_left c.next.new.self = search (rules, c.in-Some.ensures.steps) in
     let p = placed c.in-Some.section in
-    let so_far = c.loop-section.invariant in
-    let present = c.loop-section.present in
-    let with = c.with-present.ensures in
+    let before = c.loop-section in
+    let so_far = before.invariant in
     record {
-      info = rw with.info (any-step (is_of Info) present.info _ _ p left ∙ so_far.info);
-      strings = rw with.strings (any-step (is_named (name_of Str)) present.strings _ _ p left
-          ∙ so_far.strings);
-      abbreviations = rw with.abbreviations (any-step (is_named (name_of Abbrev))
-          present.abbreviations _ _ p left ∙ so_far.abbreviations);
-      used = taken-step c.loop-section.taken c.with_next-taken.result _ _ p _ left
-          c.with_next-taken.ensures so_far.used;
+      info = rw c.is_of-with_units.ensures.named
+          (any-step (is_of Info) before.with_units _ _ p left ∙ so_far.info);
+      strings = rw (c.is_called-has_strings.ensures, c.name.ensures)
+          (any-step (is_named (name_of Str)) before.has_strings _ _ p left ∙ so_far.strings);
+      abbreviations = rw (c.is_called-has_abbreviations.ensures, c.name-in-loop-section.ensures)
+          (any-step (is_named (name_of Abbrev)) before.has_abbreviations _ _ p left
+          ∙ so_far.abbreviations);
+      used = taken-kept before.fault before.taken _ _ _
+          (c.is_none.ensures ∙ ap not c.if-is_none.false) so_far.used;
     }
+
+pub invariant_of-input : goal.invariant_of-input
+invariant_of-input c = let last = c.loop-section.taken in record {
+  no_index = rw (last.compilations_so_far, last.types_so_far)
+      (ap not (either-index last.sections.items));
+}
 
 pub returns-clause-units : goal.returns-clause-units
 returns-clause-units c =
     let left : sections_left c.loop-section.section-iterator ≡ [] =
     search (rules, c.in-None.ensures.steps) in
-    any-end (is_of Info) c.loop-section.present.info _ (elf c.args.file.now).sections left
+    any-end (is_of Info) c.loop-section.with_units _ (elf c.args.file.now).sections left
     c.loop-section.invariant.info
 
 pub returns-clause-input : goal.returns-clause-input
 returns-clause-input c =
     let left : sections_left c.loop-section.section-iterator ≡ [] =
     search (rules, c.in-None.ensures.steps) in
-    let so_far = c.loop-section.invariant in
-    let present = c.loop-section.present in
+    let last = c.loop-section in
+    let so_far = last.invariant in
     let file = elf c.args.file.now in
-    walk-gives c.loop-section.taken c.input_of.result _ _ _ file c.endianness.ensures
-    (any-end (is_named (name_of Str)) present.strings _ file.sections left so_far.strings)
-    (any-end (is_named (name_of Abbrev)) present.abbreviations _ file.sections left
-    so_far.abbreviations)
-    (taken-end c.loop-section.taken _ _ left so_far.used) c.input_of.ensures
+    elim c.match-fault-3.branch [
+      | goal.in-Some-fault w ↦ rw w.input-is
+          (walk-fails w.in-Some-fault.error file (rw w.in-Some-fault.is at so_far.used))
+      | goal.in-None-fault w ↦ rw w.input-is
+          (walk-gives last.taken _ _ _ _ file w.endianness.ensures
+          (any-end (is_named (name_of Str)) last.has_strings _ file.sections left so_far.strings)
+          (any-end (is_named (name_of Abbrev)) last.has_abbreviations _ file.sections left
+          so_far.abbreviations) left (rw w.in-None-fault.is at so_far.used))
+    ]

@@ -12,15 +12,14 @@ use Rattle.thorin_input.proofs.walk.Walked.over.Given as goal
 -- with what is used
 abbrev pub invariant-loop-section : goal.invariant-loop-section
 invariant-loop-section l = record {
-  info : (l.present.info || list_any (is_of Info)
-      (those (sections_left l.section-iterator))) ≡ list_any (is_of Info)
-      (elf l.file).sections;
-  strings : (l.present.strings || list_any (is_named (name_of Str))
+  info : (l.with_units || list_any (is_of Info) (those (sections_left l.section-iterator)))
+      ≡ list_any (is_of Info) (elf l.file).sections;
+  strings : (l.has_strings || list_any (is_named (name_of Str))
       (those (sections_left l.section-iterator))) ≡ list_any (is_named (name_of Str))
       (elf l.file).sections;
-  abbreviations : (l.present.abbreviations || list_any (is_named (name_of Abbrev))
-      (those (sections_left l.section-iterator))) ≡ list_any
-      (is_named (name_of Abbrev)) (elf l.file).sections;
-  used : GoesOn l.taken (those (sections_left l.section-iterator))
+  abbreviations : (l.has_abbreviations || list_any (is_named (name_of Abbrev))
+      (those (sections_left l.section-iterator))) ≡ list_any (is_named (name_of Abbrev))
+      (elf l.file).sections;
+  used : GoesOn l.fault l.taken (those (sections_left l.section-iterator))
       (used_from [] (elf l.file).sections);
 }

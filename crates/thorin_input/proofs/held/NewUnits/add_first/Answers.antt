@@ -5,7 +5,7 @@ use Rattle.indexmap.proofs.CallerLemmas.{insert_entry-new}
 use Rattle.thorin_input.specs.UnitView.{adding_of}
 use Rattle.thorin_input.proofs.NewUnitLemmas.{added_last, AreNumbered, either_way, not_added}
 use Rattle.thorin_input.proofs.NewUnitLemmas.{numbered_last, numbered_still}
-use Rattle.thorin_input.proofs.new_units.NewUnits.add_first.Goals as goal
+use Rattle.thorin_input.proofs.held.NewUnits.add_first.Goals as goal
 
 pub invariant_of-self-2 : goal.invariant_of-self-2
 invariant_of-self-2 c =

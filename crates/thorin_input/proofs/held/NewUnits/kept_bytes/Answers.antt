@@ -1,7 +1,7 @@
 use Rattle.std.proofs.Common.{None, Some, ◌∙◌}
 use Rattle.thorin_input.specs.UnitView.{held_in}
 use Rattle.thorin_input.proofs.NewUnitLemmas.{kept-are}
-use Rattle.thorin_input.proofs.new_units.NewUnits.kept_bytes.Goals as goal
+use Rattle.thorin_input.proofs.held.NewUnits.kept_bytes.Goals as goal
 
 pub returns-in-Some : goal.returns-in-Some
 returns-in-Some c = kept-are (held_in c.args.held) c.args.self.now.rows.items

@@ -4,7 +4,7 @@ use Rattle.thorin_input.specs.Encodings.{are_alike, section_has}
 use Rattle.thorin_input.specs.NewUnits.{none_met, with_each_section}
 use Rattle.thorin_input.specs.View.{source, tables_in, used}
 use Rattle.thorin_input.specs.UnitView.{adding_of, met_of, new_of}
-use Rattle.thorin_input.proofs.new_units.NewUnits.read.Given as goal
+use Rattle.thorin_input.proofs.held.NewUnits.read.Given as goal
 
 -- what the sections that are left add to the units so far is what all add; and all have the input's
 -- encoding where those so far have it, and those that are left

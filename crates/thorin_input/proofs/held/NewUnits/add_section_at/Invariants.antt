@@ -6,7 +6,7 @@ use Rattle.thorin_input.specs.Encodings.{all_have, has_encoding}
 use Rattle.thorin_input.specs.NewUnits.{with_each_read, with_met}
 use Rattle.thorin_input.specs.View.{used}
 use Rattle.thorin_input.specs.UnitView.{adding_of, left_in, met_of, new_of}
-use Rattle.thorin_input.proofs.new_units.NewUnits.add_section_at.Given as goal
+use Rattle.thorin_input.proofs.held.NewUnits.add_section_at.Given as goal
 
 -- what the units that are left add to those so far is what all add; and all have the input's
 -- encoding where those so far have it, and those that are left

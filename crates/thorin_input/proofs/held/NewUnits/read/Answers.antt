@@ -10,7 +10,7 @@ use Rattle.thorin_input.specs.View.{used}
 use Rattle.thorin_input.specs.declared.object.UsedSection.{UsedSection}
 use Rattle.thorin_input.specs.UnitView.{adding_of}
 use Rattle.thorin_input.specs.declared.units.Adding.{Adding}
-use Rattle.thorin_input.proofs.new_units.NewUnits.read.Goals as goal
+use Rattle.thorin_input.proofs.held.NewUnits.read.Goals as goal
 use Rattle.std.proofs.Common.{arith}
 use Rattle.std.proofs.lemmas.Grind.{common_steps}
 

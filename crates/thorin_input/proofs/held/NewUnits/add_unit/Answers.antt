@@ -1,7 +1,7 @@
 use Rattle.std.proofs.Common.{arith, rules}
 use Rattle.std.proofs.lemmas.Grind.{common_steps}
 use Rattle.thorin_input.specs.NewUnits.{with_unit}
-use Rattle.thorin_input.proofs.new_units.NewUnits.add_unit.Goals as goal
+use Rattle.thorin_input.proofs.held.NewUnits.add_unit.Goals as goal
 
 pub returns-after-ne : goal.returns-after-ne
 unfolding with_unit
