@@ -24,7 +24,8 @@ pub struct Expected<'a> {
 
 /// Whether a name begins as plain ones do, and goes on as an older one.
 fn goes_on(old: &[u8], new: &[u8]) -> bool
-    ensures { IsTrue result → (take 7 new.now ≡ codes ".debug_") × (drop 7 new.now ≡ drop 8 old.now) }
+    ensures { IsTrue result → (take 7 new.now ≡ codes ".debug_")
+        × (drop 7 new.now ≡ drop 8 old.now) }
 {
     if new.len() < 7 {
         return false;

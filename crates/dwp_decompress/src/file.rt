@@ -47,7 +47,8 @@ pub struct Change<'a> {
 impl<'a> Change<'a> {
     /// The bytes of the i-th section header, if they lie in the file, and what may change in them.
     fn header(&self, i: usize) -> Option<(&'a [u8], HeaderFields)>
-        ensures { IfSome result (λ header. length header.0.now ≡ 16 + 6 * word_size self.now.class) }
+        ensures { IfSome result (λ header.
+            length header.0.now ≡ 16 + 6 * word_size self.now.class) }
     {
         let word = word_size_of(self.class);
         let size = 16 + 6 * word;
