@@ -1,21 +1,21 @@
 -- Reading one column after the other, and where columns stand, by the numbers that say it.
-use Rattle.std.proofs.Common.{◌≡◌, ℕ, suc, ◌+◌, ◌-◌, ◌*◌, ◌<◌, ◌≤◌, true, false, eqb, ltb, List}
-use Rattle.std.proofs.Common.{length, drop, refl, arith, Bool, cond, [], ◌∷◌, ◌++◌, map, sym, ap}
-use Rattle.std.proofs.Common.{◌∙◌, eq-eqb, add-zero, zero-add}
-use Rattle.dwp_index.proofs.Terms
-use Terms.{all_kinds, ArePlaces, by-bool, column_place, columns_at, contribution_kinds, Endianness}
-use Terms.{is-same, kind_of_column, list_any, new_column, NO_COLUMN, number, numbers, position_from}
-use Terms.{ReadError, same-each, same-self, same_kind, same_Some, SectionKind, UnexpectedEof}
-use Rattle.std.specs.Prelude.{is_none, not, Result, Ok, Err, Option, Some, None, is_some, unwrap_or}
-use Rattle.std.specs.List.{find}
-use Rattle.std.proofs.lemmas.Bool.{lt-ltb, le-ltb, ne_eqb, eqb-true, false≢true}
+use Rattle.std.proofs.Common.{Bool, List, [], add-zero, ap, arith, cond, drop, eq-eqb, eqb, false}
+use Rattle.std.proofs.Common.{length, ltb, map, refl, suc, sym, true, zero-add, ℕ, ◌*◌, ◌++◌, ◌+◌}
+use Rattle.std.proofs.Common.{◌-◌, ◌<◌, ◌∙◌, ◌∷◌, ◌≡◌, ◌≤◌}
+use Rattle.std.proofs.lemmas.Bool.{eqb-true, false≢true, le-ltb, lt-ltb, ne_eqb}
 use Rattle.std.proofs.lemmas.List.{drop-drop, length-drop}
-use Rattle.dwp_bytes.specs.declared.error.ReadError.TheVariants.{UnknownColumn, RepeatedColumn}
-use Rattle.dwp_table.specs.Columns.{standard_column, gnu_column, column_of, is_number, kind_with}
-use Rattle.dwp_index.proofs.NumberLists.{numbers_more, is_some-position}
+use Rattle.std.specs.List.{find}
 use Rattle.std.specs.Option.{option_and_then, option_or}
-use Rattle.dwp_index.specs.Places.{IsPlace, place_held}
+use Rattle.std.specs.Prelude.{Err, None, Ok, Option, Result, Some, is_none, is_some, not, unwrap_or}
+use Rattle.dwp_index.proofs.Terms
+use Terms.{ArePlaces, Endianness, NO_COLUMN, ReadError, SectionKind, UnexpectedEof, all_kinds}
+use Terms.{by-bool, column_place, columns_at, contribution_kinds, is-same, kind_of_column, list_any}
+use Terms.{new_column, number, numbers, position_from, same-each, same-self, same_Some, same_kind}
 use Rattle.dwp_base.specs.declared.by_kind.ByKind.{ByKind}
+use Rattle.dwp_bytes.specs.declared.error.ReadError.TheVariants.{RepeatedColumn, UnknownColumn}
+use Rattle.dwp_index.specs.Places.{IsPlace, place_held}
+use Rattle.dwp_table.specs.Columns.{column_of, gnu_column, is_number, kind_with, standard_column}
+use Rattle.dwp_index.proofs.NumberLists.{is_some-position, numbers_more}
 
 -- what reading the columns gives behind the first i of them
 abbrev pub Behind : Endianness → ℕ → List ℕ → ℕ → ℕ → Result (List ℕ × List ℕ) ReadError

@@ -1,11 +1,17 @@
--- The first unit of a section.
-use Rattle.std.proofs.Common.{◌≡◌, ℕ, List, [], ◌∷◌, length, Result, Ok, Err, refl, sym, eqb, ap}
-use Rattle.std.proofs.Common.{◌∙◌, eqb-true}
-use Rattle.dwp_index.proofs.Terms
-use Terms.{◌>>=◌, by-bool, Encoding, encoding_in, Endianness, ReadError, UnexpectedEof, UnitSection}
-use Rattle.dwp_bytes.specs.Input.{Input, section, number_at}
-use Rattle.dwp_units.specs.Units.{Unit, unit_at, initial_length_at, listed, units}
+-- The first unit of a section, and the header of a split compilation unit of DWARF 5, in the 32-bit
+-- format.
+use Rattle.std.proofs.Common.{Err, List, Ok, Result, [], ap, arith, drop, eqb, eqb-true, get_or}
+use Rattle.std.proofs.Common.{length, refl, sym, take, ℕ, ◌+◌, ◌-◌, ◌<◌, ◌∙◌, ◌∷◌, ◌≡◌, ◌≤◌}
+use Rattle.std.proofs.lemmas.Bool.{le-ltb, lt-ltb}
+use Rattle.std.proofs.lemmas.Grind.{get_or_after_one}
+use Rattle.std.proofs.lemmas.List.{get_or-drop, length-drop, length-take-le}
+use Rattle.dwp_index.proofs.Terms.{Dwarf32, Encoding, Endianness, ReadError, UnexpectedEof}
+use Rattle.dwp_index.proofs.Terms.{UnitSection, by-bool, encoding_in, number, ◌>>=◌}
+use Rattle.dwp_bytes.specs.Input.{Input, byte_at, number_at, offset_at, relocated_at, section}
+use Rattle.dwp_bytes.specs.Input.{split_at}
 use Rattle.dwp_units.proofs.Units.{units-cases}
+use Rattle.dwp_units.specs.Units.{Unit, address_size_at, header_at, initial_length_at, listed}
+use Rattle.dwp_units.specs.Units.{newer_at, unit_at, unit_code_at, unit_type_at, units}
 
 -- the encoding of the first of these units
 abbrev first_encoding : List (Result Unit ReadError) → Result Encoding ReadError
@@ -35,3 +41,50 @@ encoding-first order place bytes all e =
     rw (no_unit place i (eqb-true _ _ none)) (ap first_encoding (sym empty ∙ e)))
     (λ some. let more = rw some at (units-cases place i) in
     sym (listed-first (unit_at place i) (units place)) ∙ ap first_encoding (sym more ∙ e))
+
+-- the encoding of such a header, whatever follows it
+header_goes : (place : UnitSection) (whole i rest : Input) → 16 ≤ length i.bytes
+    → number i.order 2 i.bytes ≡ 5 → get_or (drop 2 i.bytes) 0 0 ≡ 5
+    → get_or (drop 1 (drop 2 i.bytes)) 0 0 ≡ 8
+    → ((header_at place Dwarf32 whole i >>= λ (unit : Unit). Ok (unit, rest))
+    >>= λ (unit : Unit × Input). Ok unit.0.encoding)
+    ≡ Ok (record { version = 5; format = Dwarf32; address_size = 8 })
+unfolding header_at newer_at unit_code_at address_size_at unit_type_at
+    offset_at relocated_at number_at byte_at
+header_goes place whole i rest h version five eight =
+    let two = length-drop 2 i.bytes in
+    let three = length-drop 1 (drop 2 i.bytes) in
+    let four = length-drop 1 (drop 1 (drop 2 i.bytes)) in
+    let last = length-drop 4 (drop 1 (drop 1 (drop 2 i.bytes))) in
+    rw (
+      le-ltb (length i.bytes) 2 (omega arith),
+      version,
+      le-ltb (length (drop 2 i.bytes)) 1 (omega arith),
+      five,
+      le-ltb (length (drop 1 (drop 2 i.bytes))) 1 (omega arith),
+      eight,
+      le-ltb (length (drop 1 (drop 1 (drop 2 i.bytes)))) 4 (omega arith),
+      le-ltb (length (drop 4 (drop 1 (drop 1 (drop 2 i.bytes))))) 8 (omega arith),
+    ) refl
+
+-- the encoding of such a unit, wherever it stands
+pub split_encoding : (order : Endianness) (place : UnitSection) (bytes body : List ℕ) (n : ℕ)
+    → number order 4 bytes ≡ n → n < 0xfffffff0 → 16 ≤ n → n + 4 ≤ length bytes
+    → body ≡ take n (drop 4 bytes) → number order 2 body ≡ 5 → get_or body 2 0 ≡ 5
+    → get_or body 3 0 ≡ 8 → encoding_in order place bytes
+    ≡ Ok (record { version = 5; format = Dwarf32; address_size = 8 })
+unfolding encoding_in unit_at initial_length_at split_at number_at
+split_encoding order place bytes body n length_is narrow enough fits same version five eight =
+    let left = length-drop 4 bytes in
+    let long = ap length same ∙ length-take-le n (drop 4 bytes) (omega arith) in
+    rw (
+      le-ltb (length bytes) 4 (omega arith),
+      length_is,
+      lt-ltb n 0xfffffff0 narrow,
+      le-ltb (length (drop 4 bytes)) n (omega arith),
+      le-ltb (length bytes) (0 + 4 + n - 0) (omega arith),
+      ← same,
+    )
+    (header_goes place _ (record (section order bytes) { place = 0 + 4; bytes = body }) _
+    (omega arith) version (get_or-drop 2 body 0 0 ∙ five)
+    (get_or_after_one (drop 2 body) 0 0 ∙ get_or-drop 2 body 1 0 ∙ eight))

@@ -1,18 +1,144 @@
--- Reading the contents of a file whose sections hold them as they stand.
-use Rattle.std.proofs.Common.{◌≡◌, ℕ, ◌<◌, false, inl, inr, List, [], ◌∷◌, length, refl, sym, ap}
-use Rattle.std.proofs.Common.{subst, ◌∙◌, arith, Option, Some, None, Ok, ne_eqb}
-use Rattle.dwp_index.proofs.Terms
-use Terms.{all_kinds, by-bool, content, content_among, contents_of, each-read, Endianness, Index}
-use Terms.{index_of, is-same, is_of_kind, name_of, named-itself, not-older, same-self, same_kind}
-use Terms.{same_Some, SectionKind, used_bytes, value-of}
+-- The first section of a kind, met in file order, and the contents of a file whose sections hold
+-- them as they stand.
+use Rattle.std.proofs.Common.{Bool, List, None, Ok, Option, Some, [], ap, arith, cond, drop, eqb}
+use Rattle.std.proofs.Common.{false, find, inl, inr, is_some, length, ne_eqb, option_and_then}
+use Rattle.std.proofs.Common.{option_map, refl, rules, slice_get, subst, sym, true, ℕ, ◌+◌, ◌<◌}
+use Rattle.std.proofs.Common.{◌||◌, ◌∙◌, ◌∷◌, ◌≡◌}
 use Rattle.std.proofs.lemmas.Bool.{false≢true}
-use Rattle.dwp_base.proofs.EveryKind.{kind-named}
-use Rattle.dwp_base.specs.Sections.{kind_named}
+use Rattle.std.proofs.lemmas.Slice.Eq.{bytes_eq-Decides}
+use Rattle.std.specs.Option.{option_or}
+use Rattle.std.specs.Prelude.{IfSome, IsTrue}
+use Rattle.dwp_index.proofs.Terms.{Endianness, Index, SectionKind, all_kinds, by-bool, each-read}
+use Rattle.dwp_index.proofs.Terms.{found_with, index_of, is-same, kind-named, name_of, named-itself}
+use Rattle.dwp_index.proofs.Terms.{not-older, same-each, same-self, same_Some, same_kind, value-of}
+use Rattle.dwp_base.proofs.Bools.{both}
+use Rattle.dwp_base.proofs.Finds.{find_hit, find_miss}
+use Rattle.dwp_base.specs.Sections.{compressed_name_of, is_named, kind_named}
 use Rattle.dwp_base.specs.declared.section.SectionKind.TheVariants.{CuIndex, TuIndex}
-use Rattle.dwp_elf_read.specs.Elf.{Elf, SectionMeaning, SHT_NOBITS, elf_of}
+use Rattle.dwp_elf_read.specs.Elf.{Elf, SHT_NOBITS, SectionMeaning, elf_of, has_name}
+use Rattle.dwp_elf_read.specs.View.{section}
+use Rattle.dwp_elf_read.specs.declared.section.Section.{Section}
+use Rattle.dwp_index.specs.Contents.{content, content_among, contents_of, is_of_kind, used_bytes}
+use Rattle.dwp_index.specs.Holding.{HasContent, Holds, HoldsInOrder, held_of, sections_of}
 use Rattle.dwp_index.specs.Package.{index_in_section, package_of}
-use Rattle.dwp_index.proofs.FirstOfKind.{of-other}
-use Rattle.dwp_index.specs.Holding.{Holds, HasContent, HoldsInOrder, held_of, sections_of}
+
+-- ---- the kind that a section's name belongs to
+
+-- what is found passes
+pub found-passes : {X : Type 0} (p : X → Bool) (xs : List X) (x : X) → find p xs ≡ Some x
+    → p x ≡ true
+found-passes p [] x h = absurd cc
+found-passes p (y ∷ ys) x h = grind (rules, found-passes p ys x)
+
+-- a name is that of one kind alone
+pub named-of : (kind : SectionKind) (name : Option (List ℕ)) → has_name kind name ≡ true
+    → option_and_then kind_named name ≡ Some kind
+named-of kind None h = absurd cc
+named-of kind (Some name) h = grind (
+  rules,
+  bytes_eq-Decides name (name_of kind),
+  bytes_eq-Decides name (compressed_name_of kind),
+  kind-named kind,
+  same-each (λ k. kind_named (compressed_name_of k)) Some refl kind,
+)
+
+names : (kind : SectionKind) (name : Option (List ℕ))
+    → option_and_then kind_named name ≡ Some kind → has_name kind name ≡ true
+names kind None e = absurd cc
+names kind (Some name) e = found-passes (is_named name) all_kinds kind e
+
+-- a section is of no kind but the one that its name belongs to
+pub of-other : (kind : SectionKind) (s : SectionMeaning)
+    → (option_and_then kind_named s.name ≡ Some kind → ⊥) → is_of_kind kind s ≡ false
+unfolding is_of_kind
+of-other kind s other = by-bool (is_of_kind kind s ≡ false) (is_of_kind kind s)
+    (λ its. absurd (other (named-of kind s.name (both _ (has_name kind s.name) its).1)))
+    (λ not. not)
+
+-- ---- one more section is met
+passed : (kind : SectionKind) (met : Option (ℕ × Section)) (i : ℕ) (next : Section)
+    → is_of_kind kind (section next) ≡ false → found_with kind met i next ≡ met
+passed kind (Some first) i next other = refl
+passed kind None i next other = rw other refl
+
+-- one that has no bytes
+pub passed-empty : (kind : SectionKind) (met : Option (ℕ × Section)) (i : ℕ) (next : Section)
+    → (eqb (section next).size 0 || eqb (section next).kind SHT_NOBITS) ≡ true
+    → found_with kind met i next ≡ met
+unfolding is_of_kind
+passed-empty kind met i next empty = passed kind met i next (rw empty refl)
+
+-- one whose name isn't that of a kind
+pub passed-foreign : (kind : SectionKind) (met : Option (ℕ × Section)) (i : ℕ) (next : Section)
+    → option_and_then kind_named (section next).name ≡ None → found_with kind met i next ≡ met
+passed-foreign kind met i next foreign =
+    passed kind met i next (of-other kind (section next) (λ e. cc (sym foreign ∙ e)))
+
+-- one whose name is that of a kind
+module _ (met : SectionKind → Option (ℕ × Section)) (i : ℕ) (next : Section) (own : SectionKind)
+    (named : option_and_then kind_named (section next).name ≡ Some own) where
+  passed-by : (kind : SectionKind) → same_kind kind own ≡ false
+      → found_with kind (met kind) i next ≡ met kind
+  passed-by kind other = passed kind (met kind) i next (of-other kind (section next) (λ e.
+      let same : own ≡ kind = same_Some own kind (sym named ∙ e) in
+      false≢true (sym other ∙ ap (same_kind kind) same ∙ same-self kind)))
+
+  -- the first of that kind
+  pub met-first : (eqb (section next).size 0 || eqb (section next).kind SHT_NOBITS) ≡ false
+      → is_some (met own) ≡ false → (kind : SectionKind) → found_with kind (met kind) i next
+      ≡ cond (same_kind kind own) (Some (i, next)) (met kind)
+  unfolding is_of_kind
+  met-first full none kind = by-bool _ (same_kind kind own)
+      (λ same. rw (same, is-same kind own same)
+      (first (met own) none (rw (full, names own (section next).name named) refl)))
+      (λ other. rw other (passed-by kind other))
+    where
+      first : (before : Option (ℕ × Section)) → is_some before ≡ false
+          → is_of_kind own (section next) ≡ true → found_with own before i next ≡ Some (i, next)
+      first None none its = rw its refl
+      first (Some met) none its = absurd cc
+
+  -- one more of that kind
+  pub met-later : is_some (met own) ≡ true → (kind : SectionKind)
+      → found_with kind (met kind) i next ≡ met kind
+  met-later some kind = by-bool _ (same_kind kind own)
+      (λ same. rw (is-same kind own same) (later (met own) some))
+      (λ other. passed-by kind other)
+    where
+      later : (before : Option (ℕ × Section)) → is_some before ≡ true
+          → found_with own before i next ≡ before
+      later None some = absurd cc
+      later (Some met) some = refl
+
+-- ---- the walk
+
+-- what was met of a kind before the i-th section: with what comes later it is the first of all
+pub record IsMet (kind : SectionKind) (xs : List SectionMeaning) (i : ℕ)
+    (met : Option (ℕ × Section)) : Type 0 where
+  pub first : option_or (option_map (λ found. section found.1) met)
+      (find (is_of_kind kind) (drop i xs)) ≡ find (is_of_kind kind) xs
+  pub there : IfSome met (λ found. slice_get xs found.0 ≡ Some (section found.1))
+  pub filled : IfSome met (λ found. IsTrue (is_of_kind kind (section found.1)))
+
+pub met-next : (kind : SectionKind) (xs : List SectionMeaning) (i : ℕ) (next : Section)
+    (met : Option (ℕ × Section)) → slice_get xs i ≡ Some (section next) → IsMet kind xs i met
+    → IsMet kind xs (i + 1) (found_with kind met i next)
+met-next kind xs i next (Some found) at is = record {
+  first = is.first;
+  there = is.there;
+  filled = is.filled;
+}
+met-next kind xs i next None at is = by-bool _ (is_of_kind kind (section next))
+    (λ here. rw here (record {
+      first = sym (find_hit (is_of_kind kind) xs i (section next) at here) ∙ is.first;
+      there = at;
+      filled = here;
+    }))
+    (λ other. rw other (record {
+      first = sym (find_miss (is_of_kind kind) xs i (section next) at other) ∙ is.first;
+      there = tt;
+      filled = tt;
+    }))
 
 -- ---- which sections are of a kind
 pub another_kind : (section : SectionMeaning) (kind other : SectionKind) → section.name ≡ Some

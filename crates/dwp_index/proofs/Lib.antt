@@ -2,11 +2,8 @@ pub mod Terms
 pub mod Columns
 pub mod NumberLists
 pub mod Views
-pub mod FirstOfKind
 pub mod FirstUnit
-pub mod SplitHeaders
 pub mod PackageLookUp
-pub mod RowsOfUnits
 pub mod TwoPlaces
 pub mod UsedOnce
 pub mod HeldContents

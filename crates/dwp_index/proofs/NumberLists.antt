@@ -1,9 +1,8 @@
 -- Numbers one after the other.
-use Rattle.std.proofs.Common.{◌≡◌, ℕ, zero, suc, ◌+◌, ◌*◌, ◌<◌, Bool, List, [], ◌∷◌}
-use Rattle.std.proofs.Common.{◌++◌, length, get_or, drop, refl, ap, arith, add-one, is_some}
-use Rattle.std.proofs.Common.{drop-drop}
-use Rattle.dwp_index.proofs.Terms
-use Terms.{by-bool, Endianness, list_any, number, number_rows, numbers, position_from}
+use Rattle.std.proofs.Common.{Bool, List, [], add-one, ap, arith, drop, drop-drop, get_or, is_some}
+use Rattle.std.proofs.Common.{length, refl, suc, zero, ℕ, ◌*◌, ◌++◌, ◌+◌, ◌<◌, ◌∷◌, ◌≡◌}
+use Rattle.dwp_index.proofs.Terms.{Endianness, by-bool, list_any, number, number_rows, numbers}
+use Rattle.dwp_index.proofs.Terms.{position_from}
 
 pub length-numbers : (order : Endianness) (width n : ℕ) (bytes : List ℕ)
     → length (numbers order width n bytes) ≡ n

@@ -1,27 +1,25 @@
 -- What a reading gave of a section it gives again elsewhere, of the bytes alone that it took; so a
 -- unit is read again from its own bytes.
-use Rattle.std.proofs.Common.{◌≡◌, ℕ, ◌+◌, ◌-◌, ◌≤◌, Bool, true, false, cond, ltb, leb, eqb, ◌&&◌}
-use Rattle.std.proofs.Common.{List, length, take, drop, Result, Ok, Err, refl, subst, arith}
-use Rattle.std.proofs.Common.{add-zero, add_assoc, zero, suc, sym, ap, ◌∙◌}
-use Rattle.dwp_index.proofs.Terms
-use Terms.{◌>>=◌, bind-was, Encoding, encoding_in, Endianness, number, ReadError, UnexpectedEof}
-use Terms.{UnitSection}
-use Rattle.std.proofs.lemmas.Bool.{le-ltb, ltb-false, eqb-false}
-use Rattle.std.proofs.lemmas.List.{get_or-take, drop-take, drop-drop, length-take, length-drop}
+use Rattle.std.proofs.Common.{Bool, Err, List, Ok, Result, add-zero, add_assoc, ap, arith, cond}
+use Rattle.std.proofs.Common.{drop, eqb, false, leb, length, ltb, refl, subst, suc, sym, take, true}
+use Rattle.std.proofs.Common.{zero, ℕ, ◌&&◌, ◌+◌, ◌-◌, ◌∙◌, ◌≡◌, ◌≤◌}
+use Rattle.std.proofs.lemmas.Bool.{eqb-false, le-ltb, ltb-false}
+use Rattle.std.proofs.lemmas.List.{drop-drop, drop-take, get_or-take, length-drop, length-take}
 use Rattle.std.proofs.lemmas.List.{length-take-le, take-take}
-use Rattle.dwp_base.specs.declared.endian.Endianness.TheVariants.{Little, Big}
-use Rattle.dwp_bytes.specs.declared.encoding.Format.TheVariants.{Dwarf32, Dwarf64}
-use Rattle.dwp_units.proofs.Readings.{Gives, then_gives, then_split, test_gives, value_gives}
-use Rattle.dwp_units.proofs.Readings.{error_gives, more_gives, was}
-use Rattle.dwp_bytes.specs.Input.{Input, after, byte_at, number_at, relocated_at, offset_at}
-use Rattle.dwp_bytes.specs.Input.{is_address_size, section, split_at}
+use Rattle.std.specs.Prelude.{Some, [], slice_get}
+use Rattle.dwp_index.proofs.Terms.{Dwarf32, Dwarf64, Encoding, Endianness, ReadError, UnexpectedEof}
+use Rattle.dwp_index.proofs.Terms.{UnitSection, bind-was, encoding_in, number, ◌>>=◌}
+use Rattle.dwp_base.specs.declared.endian.Endianness.TheVariants.{Big, Little}
 use Rattle.dwp_bytes.specs.Encoding.{offset_size}
+use Rattle.dwp_bytes.specs.Input.{Input, after, byte_at, is_address_size, number_at, offset_at}
+use Rattle.dwp_bytes.specs.Input.{relocated_at, section, split_at}
 use Rattle.dwp_bytes.specs.declared.encoding.Format.{Format}
-use Rattle.dwp_units.specs.Units.{Unit, initial_length_at, address_size_at, type_at, older_type_at}
-use Rattle.dwp_units.specs.Units.{unit_code_at, unit_type_at, older_at, newer_at, header_at}
-use Rattle.dwp_units.specs.Units.{unit_at, listed, units_within, units, UnitsAreTaken}
+use Rattle.dwp_units.proofs.Readings.{Gives, error_gives, more_gives, test_gives, then_gives}
+use Rattle.dwp_units.proofs.Readings.{then_split, value_gives, was}
+use Rattle.dwp_units.specs.Units.{Unit, UnitsAreTaken, address_size_at, header_at}
+use Rattle.dwp_units.specs.Units.{initial_length_at, listed, newer_at, older_at, older_type_at}
+use Rattle.dwp_units.specs.Units.{type_at, unit_at, unit_code_at, unit_type_at, units, units_within}
 use Rattle.dwp_units.specs.declared.unit.UnitSection.TheVariants.{Info, Types}
-use Rattle.std.specs.Prelude.{[], Some, slice_get}
 
 -- bytes that nothing relocates, from a place on
 abbrev pub plain : Endianness → ℕ → List ℕ → Input

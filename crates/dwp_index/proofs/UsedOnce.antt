@@ -1,23 +1,24 @@
 -- The used slots of an index of distinct identifiers.
-use Rattle.std.proofs.Common.{◌≡◌, ℕ, zero, suc, ◌+◌, ◌-◌, ◌<◌, ◌≤◌, Bool, not, eqb, List, [], ◌∷◌}
-use Rattle.std.proofs.Common.{◌++◌, length, map, get_or, take, drop, set, refl, sym, ap, subst, ◌∙◌}
-use Rattle.std.proofs.Common.{◌⊎◌, inl, inr, arith, append_assoc, add-one, length-append, Option}
-use Rattle.std.proofs.Common.{Some, None, filter, ne_eqb, get_or-set_same, get_or-set_other}
-use Rattle.std.proofs.Common.{length-set, map-id}
-use Rattle.dwp_index.proofs.Terms.{by-bool, Index, IsIndex, place, range_with_len}
-use Rattle.std.specs.List.Sorted.{IsPermutation}
+use Rattle.std.proofs.Common.{Bool, List, None, Option, Some, [], add-one, ap, append_assoc, arith}
+use Rattle.std.proofs.Common.{drop, eqb, filter, get_or, get_or-set_other, length, length-append}
+use Rattle.std.proofs.Common.{length-set, map, map-id, ne_eqb, not}
+use Rattle.std.proofs.Common.{refl, set, subst, suc, sym, take, zero, ℕ, ◌++◌, ◌+◌, ◌-◌, ◌<◌, ◌∙◌}
+use Rattle.std.proofs.Common.{◌∷◌, ◌≡◌, ◌≤◌, ◌⊎◌}
 use Rattle.std.proofs.Math.Seq.{get_or-append_seam}
 use Rattle.std.proofs.lemmas.Bool.{cases_eq}
-use Rattle.std.proofs.lemmas.List.{set_split, set-get_or, length-map, get_or-map, get_or_past}
+use Rattle.std.proofs.lemmas.Grind.{get_or-set_at}
+use Rattle.std.proofs.lemmas.List.{get_or-map, get_or_past, length-map, set-get_or, set_split}
 use Rattle.std.proofs.lemmas.List.Elements.{filter-append}
-use Rattle.std.proofs.lemmas.List.FromFn.{map-range_with_len_more, fill_by_all}
+use Rattle.std.proofs.lemmas.List.FromFn.{fill_by_all, map-range_with_len_more}
+use Rattle.std.proofs.lemmas.List.Sorted.{IsPermutation-append, IsPermutation-map}
+use Rattle.std.proofs.lemmas.List.Sorted.{IsPermutation-middle, IsPermutation-push_more}
 use Rattle.std.proofs.lemmas.List.Sorted.{IsPermutation-refl, IsPermutation-sym}
-use Rattle.std.proofs.lemmas.List.Sorted.{IsPermutation-push_more, IsPermutation-middle}
-use Rattle.std.proofs.lemmas.List.Sorted.{IsPermutation-map, IsPermutation-append}
+use Rattle.std.specs.List.Sorted.{IsPermutation}
+use Rattle.dwp_index.proofs.Terms.{Index, IsIndex, by-bool, place, range_with_len}
+use Rattle.dwp_index.specs.Entries.{compilation_entry, entries_from, type_entry}
+use Rattle.dwp_index.specs.Naming.{IsIndexOfIds, entries_of, numbered}
+use Rattle.dwp_index.specs.Used.{slot_at, used_from, used_in}
 use Rattle.dwp_table.specs.Table.{IsHashTable, signature_of}
-use Rattle.dwp_index.specs.Used.{slot_at, used_in, used_from}
-use Rattle.dwp_index.specs.Entries.{compilation_entry, type_entry, entries_from}
-use Rattle.dwp_index.specs.Naming.{numbered, entries_of, IsIndexOfIds}
 
 abbrev used : ℕ → Bool
 used r = not (eqb r 0)
@@ -51,10 +52,8 @@ one_fewer n xs has =
     let at = last.0 in
     let xs' = set xs at 0 in
     let read : (k : ℕ) → ((k ≡ at) × (get_or xs' k 0 ≡ 0))
-    ⊎ ((k ≡ at → ⊥) × (get_or xs' k 0 ≡ get_or xs k 0)) = λ k. elim (cases_eq k at) [
-      | inl e ↦ inl (e, rw e (get_or-set_same xs at 0 0 last.1))
-      | inr ne ↦ inr (ne, get_or-set_other xs at k 0 0 ne)
-    ] in
+    ⊎ ((k ≡ at → ⊥) × (get_or xs' k 0 ≡ get_or xs k 0)) =
+    λ k. grind (arith, cases_eq k at, last.1, get_or-set_at, get_or-set_other) in
     record {
       each = λ r h.
           let k = has.each r (omega arith) in

@@ -1,13 +1,13 @@
 -- What the fields of an index and of a row hold, and where a look-up ends.
-use Rattle.std.proofs.Common.{◌≡◌, ℕ, ◌-◌, ◌<◌, ◌≤◌, List, length, get_or, refl, arith, zero, suc}
-use Rattle.std.proofs.Common.{◌+◌, Bool, true, false, cond, ◌∙◌, ◌⊎◌, inl, inr, eq-eqb, Option}
-use Rattle.std.proofs.Common.{Some, None, option_and_then, ne_eqb, find}
-use Rattle.dwp_index.proofs.Terms
-use Terms.{column_place, contribution, first_end, found_row, Index, index_in, is_end, look_count}
-use Terms.{place, range_in, range_with_len, Ranges, row_of, SectionKind}
+use Rattle.std.proofs.Common.{Bool, List, None, Option, Some, arith, cond, eq-eqb, false, find}
+use Rattle.std.proofs.Common.{get_or, inl, inr, length, ne_eqb, option_and_then, refl, suc, true}
+use Rattle.std.proofs.Common.{zero, ℕ, ◌+◌, ◌-◌, ◌<◌, ◌∙◌, ◌≡◌, ◌≤◌, ◌⊎◌}
 use Rattle.std.proofs.lemmas.Bool.{or_right}
+use Rattle.dwp_index.proofs.Terms.{Index, Ranges, SectionKind, column_place, contribution}
+use Rattle.dwp_index.proofs.Terms.{first_end, found_row, index_in, is_end, look_count, place}
+use Rattle.dwp_index.proofs.Terms.{range_in, range_with_len, row_of}
 use Rattle.dwp_index.specs.declared.unit_index.UnitIndex.TheInside.{Inside}
-use Rattle.dwp_index.proofs.NumberLists.{length-numbers, length-number_rows}
+use Rattle.dwp_index.proofs.NumberLists.{length-number_rows, length-numbers}
 
 -- as many slots and rows as the fields say
 pub slots-length : (u : Inside) (v : Index) → index_in u ≡ v → length v.rows ≡ u.slot_count

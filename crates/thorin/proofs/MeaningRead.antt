@@ -14,7 +14,7 @@ use Rattle.dwp_base.specs.declared.section.SectionKind.TheVariants.{CuIndex, TuI
 use Rattle.dwp_base.proofs.KindsRead.{read-kind}
 use Rattle.dwp_elf_read.specs.Elf.{has_name}
 use Rattle.dwp_elf_read.specs.declared.kind.FileKind.{FileKind}
-use Rattle.dwp_index.proofs.FirstOfKind.{found-passes, named-of}
+use Rattle.dwp_index.proofs.HeldContents.{found-passes, named-of}
 use Rattle.dwp_index.specs.Contents.{content, content_among, contents_of, is_of_kind}
 use Rattle.dwp_index.specs.Package.{index_in_section, package_of}
 use Rattle.thorin_input.specs.Indexes.{index_for, index_in, indexes_of, version_test}

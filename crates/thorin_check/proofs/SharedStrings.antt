@@ -16,7 +16,7 @@ use Rattle.dwp_bytes.specs.StringOffsets.{string_at, entry_count, entry_in, stri
 use Rattle.dwp_bytes.specs.declared.encoding.Encoding.{Encoding}
 use Rattle.dwp_index.specs.Contents.{content}
 use Rattle.dwp_index.specs.Package.{Package, FoundUnit, unit_in, found, row_bytes}
-use Rattle.dwp_index.proofs.RowsOfUnits.{by_row}
+use Rattle.dwp_index.proofs.PackageLookUp.{by_row}
 use Rattle.dwp_table.specs.declared.object.DwarfObject.{DwarfObject}
 use Rattle.thorin_check.specs.Ends.{IsReach, HasEnds, is_inside, AllEnd}
 use Rattle.thorin_check.specs.declared.strings.Ends.{Ends}

@@ -1,10 +1,8 @@
-use Rattle.std.proofs.lemmas.Grind.{common_steps}
 use Rattle.std.proofs.Common.{ap, arith, option_map, sym, ◌∙◌}
+use Rattle.dwp_index.proofs.Terms.{elf, found_in}
 use Rattle.dwp_base.proofs.Finds.{slice_get_none}
 use Rattle.dwp_elf_read.specs.View.{section}
-use Rattle.dwp_index.proofs.FirstOfKind.{met-next}
-use Rattle.dwp_index.proofs.Terms.{elf}
-use Rattle.dwp_index.specs.Firsts.{found_in}
+use Rattle.dwp_index.proofs.HeldContents.{met-next}
 use Rattle.dwp_index.proofs.contents.first_sections.Goals.{in-Some, in_default}
 use Rattle.dwp_index.proofs.contents.first_sections.Goals as goal
 
@@ -19,6 +17,3 @@ loop-i-preserved c kind =
       | in_default w ↦ absurd (slice_get_none xs c.loop-i.i (omega arith)
           (sym c.section.ensures.found ∙ ap (option_map section) w.in_default.is))
     ]
-
-pub returns-clause-first : goal.returns-clause-first
-returns-clause-first c = grind (arith, common_steps)

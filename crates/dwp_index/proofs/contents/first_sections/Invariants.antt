@@ -1,7 +1,5 @@
-use Rattle.dwp_base.specs.declared.section.SectionKind.{SectionKind}
-use Rattle.dwp_index.proofs.FirstOfKind.{IsMet}
-use Rattle.dwp_index.proofs.Terms.{elf}
-use Rattle.dwp_index.specs.Firsts.{found_in}
+use Rattle.dwp_index.proofs.Terms.{SectionKind, elf, found_in}
+use Rattle.dwp_index.proofs.HeldContents.{IsMet}
 use Rattle.dwp_index.proofs.contents.first_sections.Given as goal
 
 -- of each kind the first of the sections so far was met

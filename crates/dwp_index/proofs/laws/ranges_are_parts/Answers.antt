@@ -1,4 +1,4 @@
-use Rattle.dwp_index.proofs.PackageLookUp.{row_bytes-part, row_bytes-absent}
+use Rattle.dwp_index.proofs.PackageLookUp.{row_bytes-absent, row_bytes-part}
 use Rattle.dwp_index.proofs.laws.ranges_are_parts.Goals as goal
 
 pub returns : goal.returns

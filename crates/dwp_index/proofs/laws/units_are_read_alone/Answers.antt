@@ -1,4 +1,4 @@
-use Rattle.dwp_index.proofs.TwoPlaces.{units_alone, encoding_anywhere}
+use Rattle.dwp_index.proofs.TwoPlaces.{encoding_anywhere, units_alone}
 use Rattle.dwp_index.proofs.laws.units_are_read_alone.Goals as goal
 
 pub returns-clause-alone : goal.returns-clause-alone

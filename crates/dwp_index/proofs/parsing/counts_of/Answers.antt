@@ -1,6 +1,6 @@
-use Rattle.dwp_index.specs.IndexBytes.{counts_of}
 use Rattle.std.proofs.Common.{arith}
 use Rattle.std.proofs.lemmas.Grind.{common_steps, elements}
+use Rattle.dwp_index.specs.IndexBytes.{counts_of}
 use Rattle.dwp_index.proofs.parsing.counts_of.Goals as goal
 
 pub returns-else-units-eq0-clause-exact : goal.returns-else-units-eq0-clause-exact

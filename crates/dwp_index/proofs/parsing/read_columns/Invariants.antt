@@ -1,4 +1,4 @@
-use Rattle.std.proofs.Common.{◌≡◌, ◌*◌, ◌≤◌, length, []}
+use Rattle.std.proofs.Common.{[], length, ◌*◌, ◌≡◌, ◌≤◌}
 use Rattle.dwp_index.proofs.Terms.{ArePlaces, columns_at, numbers}
 use Rattle.dwp_index.proofs.Columns.{Behind}
 use Rattle.dwp_index.proofs.parsing.read_columns.Given as goal

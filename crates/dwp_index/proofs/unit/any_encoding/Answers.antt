@@ -1,4 +1,4 @@
-use Rattle.std.proofs.Common.{Ok, [], sym, ap, ◌∙◌}
+use Rattle.std.proofs.Common.{Ok, [], ap, sym, ◌∙◌}
 use Rattle.dwp_index.proofs.FirstUnit.{encoding-first}
 use Rattle.dwp_index.proofs.unit.any_encoding.Goals as goal
 

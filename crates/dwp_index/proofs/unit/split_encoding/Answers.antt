@@ -1,5 +1,5 @@
-use Rattle.std.proofs.Common.{◌≡◌, ◌+◌, ◌-◌, ◌∙◌, sym, refl, arith}
-use Rattle.dwp_index.proofs.SplitHeaders.{split_encoding}
+use Rattle.std.proofs.Common.{arith, refl, sym, ◌+◌, ◌-◌, ◌∙◌, ◌≡◌}
+use Rattle.dwp_index.proofs.FirstUnit.{split_encoding}
 use Rattle.dwp_index.proofs.unit.split_encoding.Goals as goal
 
 pub returns : goal.returns

@@ -1,4 +1,4 @@
-use Rattle.std.proofs.Common.{◌≡◌, suc, ◌+◌, ◌-◌, length, get_or, refl, sym, ◌∙◌, arith, ne_eqb}
+use Rattle.std.proofs.Common.{arith, get_or, length, ne_eqb, refl, suc, sym, ◌+◌, ◌-◌, ◌∙◌, ◌≡◌}
 use Rattle.dwp_index.specs.Used.{used_in}
 use Rattle.dwp_index.proofs.units.used_slot.Goals as goal
 

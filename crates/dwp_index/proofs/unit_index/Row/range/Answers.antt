@@ -1,8 +1,8 @@
-use Rattle.std.proofs.Common.{ℕ, List, refl, sym, arith, ne_eqb}
+use Rattle.std.proofs.Common.{List, arith, ne_eqb, refl, sym, ℕ}
 use Rattle.dwp_index.proofs.Terms.{NO_COLUMN}
 use Rattle.dwp_index.specs.RowFields.{ranges_in}
-use Rattle.dwp_index.proofs.NumberLists.{get_or-numbers}
 use Rattle.dwp_index.proofs.Columns.{says_none, says_some}
+use Rattle.dwp_index.proofs.NumberLists.{get_or-numbers}
 use Rattle.dwp_index.proofs.Views.{range-by}
 use Rattle.dwp_index.proofs.unit_index.Row.range.Goals as goal
 

@@ -1,6 +1,6 @@
-use Rattle.std.proofs.Common.{sym, ap, ◌∙◌, inl, inr, arith}
+use Rattle.std.proofs.Common.{ap, arith, inl, inr, sym, ◌∙◌}
 use Rattle.dwp_index.proofs.Terms.{row_of}
-use Rattle.dwp_index.proofs.Views.{end-start, end-on, ended, unended, row_of-used, slots-length}
+use Rattle.dwp_index.proofs.Views.{end-on, end-start, ended, row_of-used, slots-length, unended}
 use Rattle.dwp_index.proofs.unit_index.UnitIndex.look_up.Goals as goal
 
 pub returns-then-self-eq0 : goal.returns-then-self-eq0
