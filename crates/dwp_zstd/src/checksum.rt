@@ -3,7 +3,7 @@
 ghost use Rattle.std.specs.Prelude.{◌≡◌, ◌≤◌, ◌<◌, ◌*◌, ◌/◌, ◌^◌, length, drop};
 ghost use Rattle.byteorder.specs.Endian.{little_number};
 ghost use Rattle.dwp_zstd.specs.Checksum.{round, behind_stripe, behind_stripes, merged};
-ghost use Rattle.dwp_zstd.specs.Checksum.{with_lanes, with_bytes, with_rest, of_stripes, xxh64};
+ghost use Rattle.dwp_zstd.specs.Checksum.{with_lanes, with_rest, of_stripes, xxh64};
 ghost use Rattle.dwp_zstd.specs.Checksum.{accumulators_of};
 
 use byteorder::{ByteOrder, LittleEndian};
@@ -121,34 +121,27 @@ fn with_lanes(h: u64, bytes: &[u8]) -> u64
     sum
 }
 
-/// The last bytes.
-#[tactic(auto, unfolding(crate::specs::Checksum::with_bytes, crate::specs::Checksum::with_byte, crate::specs::Checksum::times, crate::specs::Checksum::turn, crate::specs::Checksum::prime1, crate::specs::Checksum::prime5))]
-fn with_bytes(h: u64, bytes: &[u8]) -> u64
-    ensures { result ≡ with_bytes h bytes.now }
+/// The bytes behind the last lane.
+#[tactic(auto, unfolding(crate::specs::Checksum::with_rest, crate::specs::Checksum::with_four, crate::specs::Checksum::with_byte, crate::specs::Checksum::with_bytes, crate::specs::Checksum::prime5, crate::specs::Checksum::plus, crate::specs::Checksum::times, crate::specs::Checksum::turn, crate::specs::Checksum::prime1, crate::specs::Checksum::prime2, crate::specs::Checksum::prime3))]
+fn with_rest(h: u64, bytes: &[u8]) -> u64
+    ensures { result ≡ with_rest h bytes.now }
 {
     let mut sum = h;
-    for byte in bytes {
+    let mut rest = bytes;
+    if bytes.len() >= 4 {
+        let four = LittleEndian::read_u32(bytes) as u64;
+        sum = (h ^ four.wrapping_mul(PRIME_1))
+            .rotate_left(23)
+            .wrapping_mul(PRIME_2)
+            .wrapping_add(PRIME_3);
+        rest = &bytes[4..];
+    }
+    for byte in rest {
         sum = (sum ^ (*byte as u64).wrapping_mul(PRIME_5))
             .rotate_left(11)
             .wrapping_mul(PRIME_1);
     }
     sum
-}
-
-/// The bytes behind the last lane.
-#[tactic(auto, unfolding(crate::specs::Checksum::with_rest, crate::specs::Checksum::with_four, crate::specs::Checksum::plus, crate::specs::Checksum::times, crate::specs::Checksum::turn, crate::specs::Checksum::prime1, crate::specs::Checksum::prime2, crate::specs::Checksum::prime3))]
-fn with_rest(h: u64, bytes: &[u8]) -> u64
-    ensures { result ≡ with_rest h bytes.now }
-{
-    if bytes.len() < 4 {
-        return with_bytes(h, bytes);
-    }
-    let four = LittleEndian::read_u32(bytes) as u64;
-    let h = (h ^ four.wrapping_mul(PRIME_1))
-        .rotate_left(23)
-        .wrapping_mul(PRIME_2)
-        .wrapping_add(PRIME_3);
-    with_bytes(h, &bytes[4..])
 }
 
 /// XXH64 of bytes, with seed 0.

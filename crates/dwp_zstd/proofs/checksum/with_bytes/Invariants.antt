@@ -1,6 +1,0 @@
-use Rattle.dwp_zstd.proofs.Terms.{drop, ◌≡◌}
-use Rattle.dwp_zstd.specs.Checksum.{with_bytes}
-use Rattle.dwp_zstd.proofs.checksum.with_bytes.Given as goal
-
-abbrev pub invariant-loop-byte : goal.invariant-loop-byte
-invariant-loop-byte l = with_bytes l.h l.bytes ≡ with_bytes l.sum (drop l.byte-index l.bytes)
