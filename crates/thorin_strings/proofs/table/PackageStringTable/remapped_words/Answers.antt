@@ -1,5 +1,6 @@
 use Rattle.thorin_strings.proofs.Terms
-use Terms.{AreWritten, Little, [], ap, append-nil, arith, elements, err_from_is_err_and, header_size}
+use Terms.{AreWritten, Little, [], ap, append-nil, arith, elements, err_from_is_err_and}
+use Terms.{header_size}
 use Terms.{length, length-append, length-drop, length-take, offset_size, refl, remapped_entries}
 use Terms.{rules, sym, take, take_all, with_items, with_items_is, ◌*◌, ◌+◌, ◌<◌, ◌∙◌, ◌≡◌, ◌≤◌}
 use Rattle.thorin_strings.proofs.NamedEntries.{header_long}
