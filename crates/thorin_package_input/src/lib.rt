@@ -2,6 +2,7 @@
 #![tactic(auto)]
 
 pub mod laws;
+mod offset_ranges;
 mod packaged_offsets;
 mod row_places;
 
