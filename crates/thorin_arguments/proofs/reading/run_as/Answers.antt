@@ -1,4 +1,4 @@
-use Rattle.std.proofs.Common.{◌≡◌, ◌∙◌, sym}
+use Rattle.std.proofs.Common.{◌∙◌, sym}
 use Rattle.std.specs.Prelude.{option_map}
 use Rattle.clap.specs.Words.{found_of, kind_of, rows_of, subcommand_rows_of}
 use Rattle.thorin_arguments.proofs.Matched.{by_stream, does_asked, does_refuse, does_show}
