@@ -7,6 +7,7 @@ use Rattle.std.proofs.lemmas.List.{append_assoc, map-append, take-append-drop, t
 use Rattle.std.proofs.lemmas.List.Elements.{filter-append}
 use Rattle.std.specs.Prelude.{drop}
 use Rattle.std.specs.Prelude.{Option, Some, None, Result, Ok, Err, IfErr, map}
+use Rattle.std.specs.List.{slice_get}
 use Rattle.std.specs.Path.{path_bytes}
 use Rattle.std.specs.declared.path.Path.{Path}
 use Rattle.thorin_errors.specs.Errors.{error_of}
@@ -43,8 +44,8 @@ use Rattle.thorin_commands.specs.Opened.{Fills, TookEach, TookInputs}
 use Rattle.thorin_commands.specs.Packing.{AreAsked, asked, asks, manner_of, paths_in}
 use Rattle.thorin_commands.specs.Taken.{IsTakenFor, Manner, Offer}
 use Rattle.thorin_commands.specs.declared.packing.Packing.{Packing}
-use Rattle.thorin_commands.specs.declared.no_package.NoPackage.{NoPackage}
-use Rattle.thorin_commands.specs.declared.no_package.NoPackage.TheVariants as refusals
+use Rattle.thorin_commands.specs.declared.packing.NoPackage.{NoPackage}
+use Rattle.thorin_commands.specs.declared.packing.NoPackage.TheVariants as refusals
 use Rattle.thorin_commands.proofs.Opened.{each_append, each_none}
 
 -- a line wasn't taken, or memory ran out
@@ -120,6 +121,11 @@ module _ {opens : Bool} {manner : Manner} {offer : Offer} {declines : Reasons} w
       → IsNotTaken opens manner offer declines (inputs.Object path) state cause
   archive {path} {state} {file} opened offered is cause stops =
       Archive path state file cause opened offered is stops
+
+-- the first of a list, alone
+pub first_of : {X : Type 0} (xs : List X) (x : X) → Some x ≡ slice_get xs 0 → take 1 xs ≡ x ∷ []
+first_of [] x e = absurd cc
+first_of (y ∷ ys) x e = cc
 
 -- a list is what stands before a place, what stands there, and what stands behind it
 pub split_at : {X : Type 0} (xs : List X) (i : ℕ) (none : X) → i < length xs

@@ -22,8 +22,8 @@ use Rattle.thorin_commands.specs.Taken.{Manner, Offer}
 use Rattle.thorin_commands.specs.Warned.{PacksTelling, TellsInputs, TellsMacros, TellsTaken, names}
 use Rattle.thorin_commands.specs.Warned.{TellsUnsplitRun, others}
 use Rattle.thorin_commands.specs.declared.packing.Packing.{Packing}
-use Rattle.thorin_commands.specs.declared.no_package.NoPackage.{NoPackage}
-use Rattle.thorin_commands.specs.declared.no_package.NoPackage.TheVariants as refusals
+use Rattle.thorin_commands.specs.declared.packing.NoPackage.{NoPackage}
+use Rattle.thorin_commands.specs.declared.packing.NoPackage.TheVariants as refusals
 use Rattle.thorin_commands.proofs.Warned.{printed_as, printed_then}
 
 -- the type units that differ don't go where units that executables refer to do

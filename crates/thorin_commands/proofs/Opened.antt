@@ -1,13 +1,18 @@
 -- Inputs that stand for others, taken one after the other.
 use Rattle.std.proofs.Common.{◌≡◌, ℕ, ◌-◌, Bool, true, false, List, [], ◌∷◌, ◌++◌, ap, refl, sym}
 use Rattle.std.proofs.Common.{Ok, inl, inr, map}
+use Rattle.std.specs.Prelude.{Result, Err, OnOk}
 use Rattle.std.specs.Path.{path_bytes}
 use Rattle.std.specs.declared.path.Path.{Path}
 use Rattle.std.proofs.lemmas.List.{append_assoc, append-nil}
 use Rattle.thorin_join.specs.Builder.{State}
 use Rattle.thorin_join.specs.Join.{JoinAll}
 use Rattle.thorin_join.specs.Represents.{units_in}
+use Rattle.thorin_builder.specs.Reading.{outcome_of}
 use Rattle.thorin_builder.specs.Taking.{Outcome}
+use Rattle.thorin_builder.specs.declared.reader.NotTaken.{NotTaken}
+use Rattle.thorin_errors.specs.declared.error.Error.{Error}
+use Rattle.thorin_inputs.specs.declared.growth.Growth.{Growth}
 use Rattle.thorin.specs.declared.packing.Input.{Input}
 use Rattle.thorin.specs.declared.packing.Input.TheVariants as inputs
 use Rattle.thorin.specs.Run.{Ran, Took}
@@ -140,6 +145,15 @@ module _ {manner : Manner} {offer : Offer} where
     accepted = by.took.accepted;
     ran = ran_one offer (inputs.Bytes by.bytes) old new by.took;
   }
+
+  pub content_took : {content : List ℕ} {bytes : Bor (List ℕ)} {old new : State}
+      → IsTakenFor manner content bytes.now
+      → (r : Result (Unit {0}) (NotTaken Error Growth))
+      → Took offer (inputs.Bytes bytes) old (outcome_of r) new
+      → OnOk r (TookEach manner offer (content ∷ []) old new)
+  content_took {bytes = bytes} is (Ok tt) took =
+      each_one is (record { bytes = bytes; is = refl; took = took })
+  content_took is (Err why) took = tt
 
   -- what is taken for contents, and for more behind them
   pub each_append : {xs ys : List (List ℕ)} {old middle new : State}

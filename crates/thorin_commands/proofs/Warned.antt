@@ -292,11 +292,6 @@ pub without_names : (named : Bool) (differing : List ℕ) → named ≡ false
 without_names true differing e = absurd cc
 without_names false differing e = refl
 
-pub with_names : (named : Bool) (differing text : List ℕ) → named ≡ true
-    → TellNamed differing text → TellsNamed named differing text
-with_names true differing text e h = h
-with_names false differing text e h = absurd cc
-
 -- ---- all of inputs that were taken
 
 pub taken_told : (verbose warns partial : Bool) (list : List Input) (added : List ℕ)

@@ -8,13 +8,11 @@ use Rattle.thorin_print.specs.declared.output.Failure.{Failure}
 use Rattle.thorin_print.specs.declared.output.Failure.TheVariants as failures
 use Rattle.thorin_output.specs.Files.{IsOfWriting, IsWhyUnwritten}
 use Rattle.thorin_output.specs.Reads.{Identity}
-use Rattle.thorin_commands.specs.Cause.{Ends, Stops}
+use Rattle.thorin_commands.specs.Cause.{Stops}
 use Rattle.thorin_commands.specs.Failing.{IsWhy}
 use Rattle.thorin_commands.specs.Naming.{IsNameless, IsUncounted}
-use Rattle.thorin_commands.specs.Packing.{IsPackageFor, Packs, out_of}
+use Rattle.thorin_commands.specs.Packing.{Fails, IsPackageFor, Packs, out_of}
 use Rattle.thorin_commands.specs.declared.packing.Packing.{Packing}
-use Rattle.thorin_commands.specs.declared.no_package.NoPackage.{NoPackage}
-use Rattle.thorin_commands.specs.declared.no_package.NoPackage.TheVariants as refusals
 
 -- the units of a file couldn't be counted, where nothing is split
 pub uncounted : (X U : Type 0) (failure : Failure) → IsUncounted failure → U → Stops X U failure
@@ -22,8 +20,13 @@ uncounted X U failures.Input h u = u
 uncounted X U failures.Memory h u = tt
 uncounted X U _ h u = absurd h
 
+-- nothing was written yet
+pub early : (N B : Type 0) (failure : Failure) → N → Fails failure N B
+unfolding Fails
+early N B failure n = inl n
+
 -- what a write may fail by
-pub of_writing : (U C X : Type 0) (failure : Failure) → IsWhyUnwritten U C X failure
+of_writing : (U C X : Type 0) (failure : Failure) → IsWhyUnwritten U C X failure
     → IsOfWriting failure
 of_writing U C X failures.Output h = tt
 of_writing U C X failures.Line h = tt
@@ -44,32 +47,38 @@ module _ (known : List ℕ → Identity → Type 0) (packing : Packing) (N W C X
   why_printing _ h = absurd h
 
   -- nothing was written yet
-  why_stopped : (failure : Failure) → Stops X N failure → IsWhy known packing N W (C ⊎ X) failure
+  pub why_stopped : (failure : Failure) → Stops X N failure → IsWhy known packing N
+      W (C ⊎ X) failure
   why_stopped failures.Line h = inr h
   why_stopped failures.Memory h = tt
   why_stopped failures.Input h = h
   why_stopped _ h = absurd h
 
-  pub ends : (told : Type 0) (refusal : NoPackage) → Ends told N (Stops X N) refusal
-      → Ends told N (IsWhy known packing N W (C ⊎ X)) refusal
-  ends told refusals.Told h = h
-  ends told refusals.Empty h = h
-  ends told (refusals.Command failure) h = why_stopped failure h
+-- with an object under a name
+module _ (offer : List ℕ → Result (List ℕ) IoError → Type 0) (packing : Packing) (object : File)
+    (name : List ℕ) (is : IsPackageFor offer packing object) (named : out_of packing ≡ Some name)
+  where
+    pub packs : (Puts : (name text : List ℕ) → Type 0) → Puts name (file_text object)
+        → Packs offer packing Puts
+    packs Puts put = record { object = object; is = is; name = name; named = named; put = put }
 
--- the package wasn't written, or a warning behind it wasn't taken
-pub why_writing : (known : List ℕ → Identity → Type 0)
-    (offer : List ℕ → Result (List ℕ) IoError → Type 0) (packing : Packing) (N X : Type 0)
-    (Unwritten : (name : List ℕ) → Type 0) (CutShort : (name text : List ℕ) → Type 0)
-    (object : File) (name : List ℕ) → IsPackageFor offer packing object
-    → out_of packing ≡ Some name → (failure : Failure)
-    → IsWhyUnwritten (Unwritten name) (CutShort name (file_text object)) X failure
-    → IsWhy known packing N (Packs offer packing (λ name text. Unwritten name))
-    (Packs offer packing CutShort ⊎ X) failure
-why_writing known offer packing N X Unwritten CutShort object name is named failures.Output h =
-    record { object = object; is = is; name = name; named = named; put = h }
-why_writing known offer packing N X Unwritten CutShort object name is named failures.Line (inl h) =
-    inl (record { object = object; is = is; name = name; named = named; put = h })
-why_writing known offer packing N X Unwritten CutShort object name is named failures.Line (inr h) =
-    inr h
-why_writing known offer packing N X Unwritten CutShort object name is named failures.Memory h = tt
-why_writing known offer packing N X Unwritten CutShort object name is named _ h = absurd h
+    -- the package wasn't written, or a warning behind it wasn't taken
+    pub why_writing : (known : List ℕ → Identity → Type 0) (N X : Type 0)
+        (Unwritten : (name : List ℕ) → Type 0) (CutShort : (name text : List ℕ) → Type 0)
+        (failure : Failure)
+        → IsWhyUnwritten (Unwritten name) (CutShort name (file_text object)) X failure
+        → IsWhy known packing N (Packs offer packing (λ name text. Unwritten name))
+        (Packs offer packing CutShort ⊎ X) failure
+    why_writing known N X Unwritten CutShort failures.Output h =
+        packs (λ name text. Unwritten name) h
+    why_writing known N X Unwritten CutShort failures.Line (inl h) = inl (packs CutShort h)
+    why_writing known N X Unwritten CutShort failures.Line (inr h) = inr h
+    why_writing known N X Unwritten CutShort failures.Memory h = tt
+    why_writing known N X Unwritten CutShort _ h = absurd h
+
+    -- and it was begun
+    pub begun : (N U C X : Type 0) (Begun : (name text : List ℕ) → Type 0) (failure : Failure)
+        → IsWhyUnwritten U C X failure → Begun name (file_text object)
+        → Fails failure N (Packs offer packing Begun)
+    unfolding Fails
+    begun N U C X Begun failure why put = inr (of_writing U C X failure why, packs Begun put)

@@ -35,8 +35,8 @@ use Rattle.thorin_commands.specs.Opened.{TookEach, TookInputs, left}
 use Rattle.thorin_commands.specs.Packing.{AreAsked, manner_of}
 use Rattle.thorin_commands.specs.Taken.{DeclinesBytes, IsTakenFor, Manner, Offer}
 use Rattle.thorin_commands.specs.declared.packing.Packing.{Packing}
-use Rattle.thorin_commands.specs.declared.no_package.NoPackage.{NoPackage}
-use Rattle.thorin_commands.specs.declared.no_package.NoPackage.TheVariants as refusals
+use Rattle.thorin_commands.specs.declared.packing.NoPackage.{NoPackage}
+use Rattle.thorin_commands.specs.declared.packing.NoPackage.TheVariants as refusals
 
 -- ---- the line
 

@@ -22,8 +22,6 @@ use Rattle.thorin_output.specs.Reads.{Identity}
 use Rattle.thorin_commands.specs.Opened.{TookInputs, accepted_in, left}
 use Rattle.thorin_commands.specs.Taken.{Manner, Offer, OffersTaken, Declines}
 use Rattle.thorin_commands.specs.declared.packing.Packing.{Packing}
-use Rattle.thorin_commands.specs.declared.no_package.NoPackage.{NoPackage}
-use Rattle.thorin_commands.specs.declared.no_package.NoPackage.TheVariants as refusals
 
 -- ---- what a command asks for
 
@@ -165,10 +163,3 @@ pub record Packs (offer : List ℕ → Result (List ℕ) IoError
 -- a step failed: nothing was written yet, or the package was begun
 unfoldable pub Fails : Failure → (nothing begun : Type 0) → Type 0
 Fails failure nothing begun = nothing ⊎ (IsOfWriting failure × begun)
-
--- what came of it: all was done; the package was refused, and nothing was written; or a step failed
-unfoldable pub Comes : Result (Unit {0}) NoPackage → (nothing begun done : Type 0) → Type 0
-Comes (Ok x) nothing begun done = done
-Comes (Err refusals.Empty) nothing begun done = nothing
-Comes (Err refusals.Told) nothing begun done = nothing
-Comes (Err (refusals.Command failure)) nothing begun done = Fails failure nothing begun

@@ -13,13 +13,11 @@ ghost use Rattle.thorin_commands.specs.Opened.{TookAll, TookEach, TookMembers, T
 ghost use Rattle.thorin_commands.specs.Opened.{unit_count};
 ghost use Rattle.thorin_commands.specs.Warned.{TellsAdded, path_of};
 
-use crate::no_package::NoPackage;
-use crate::origins::{Origin, now_in, place_of_refused, unit_count};
-use crate::reading::Inputs;
-use crate::taking::{Attempt, settle};
-use crate::telling::{
-    Rejection, ReportOptions, put_error, put_notes, tell_added, tell_refused, tell_why,
-};
+use crate::making::{Attempt, settle};
+use crate::notes::{Origin, now_in, place_of_refused, unit_count};
+use crate::packing::NoPackage;
+use crate::reading::{Inputs, or_content};
+use crate::telling::{ReportOptions, put_error, put_notes, tell_added, tell_refused, tell_why};
 use dwp_archive::{ArchiveError, Member, members};
 use dwp_bytes::RelocationEntry;
 use dwp_elf::ElfFile;
@@ -80,25 +78,28 @@ pub(crate) fn take_opened<'o, 's: 'o, Sess: Session<RelocationEntry>, I: Inputs,
     inputs.begin(Input::Object(path));
     match inputs.read_into(true, path, room) {
         Ok(bytes) => {
-            let file = OpenedFile {
-                path,
-                bytes,
-                options,
-            };
             if is_archive(bytes) {
+                let file = OpenedFile {
+                    path,
+                    bytes,
+                    options,
+                };
                 take_members(inputs, builder, file, err)
             } else {
-                take_object(inputs, builder, file, err)
+                let before = unit_count(builder);
+                let mut object_room = Vec::new(options.alloc);
+                let outcome = take_input(builder, inputs, &mut object_room, Input::Bytes(bytes));
+                let attempt = Attempt {
+                    input: Input::Object(path),
+                    room: bytes,
+                    before,
+                };
+                settle(inputs, builder, attempt, outcome, options, err)
             }
         }
         Err(why) => {
             let why = NotTaken::from(why);
-            let rejection = Rejection {
-                input: Input::Object(path),
-                before: None,
-                why: &why,
-            };
-            tell_refused(options.alloc, inputs, rejection, err)?;
+            tell_refused(options.alloc, inputs, Input::Object(path), &why, None, err)?;
             Err(NoPackage::Told)
         }
     }
@@ -110,63 +111,6 @@ struct OpenedFile<'f> {
     path: Path<'f>,
     bytes: &'f [u8],
     options: ReportOptions,
-}
-
-impl<'f> OpenedFile<'f> {
-    /// This file as an input, where the package had so many units before.
-    fn attempt(&self, before: usize) -> Attempt<'f>
-        ensures input { result.input ≡ Object self.now.path }
-        ensures before { result.before ≡ before }
-    {
-        Attempt {
-            input: Input::Object(self.path),
-            room: self.bytes,
-            before,
-        }
-    }
-}
-
-/// Takes an object that was read at a path.
-fn take_object<'o, 's: 'o, Sess: Session<RelocationEntry>, I: Inputs, E: LineOutput>(
-    inputs: &I,
-    builder: &mut DwarfPackage<'o, 's, Sess>,
-    file: OpenedFile<'_>,
-    err: &mut E,
-) -> Result<(), NoPackage>
-    ensures took { OnOk result
-        (TookBytes (I.offer inputs.now) file.entry.bytes.now builder.old.state builder.new.state) }
-    ensures line { OnOk result (IsPrinted (E.contents err.old) (E.contents err.new)
-        (TellsAdded file.entry.options.verbose (path_of (Object file.entry.path))
-        (unit_count builder.new.state - unit_count builder.old.state))) }
-    ensures told { IfErr result (Refuses E.contents E.failed err.new (IsUntaken (AreRefused (I.offer
-        inputs.now) (I.declines inputs.now) file.entry.bytes.now builder.old.state))) }
-{
-    let before = unit_count(builder);
-    let outcome = take_bytes(file.options.alloc, inputs, builder, file.bytes);
-    settle(
-        inputs,
-        builder,
-        file.attempt(before),
-        outcome,
-        file.options,
-        err,
-    )
-}
-
-/// Takes an object's bytes.
-fn take_bytes<'o, 's: 'o, Sess: Session<RelocationEntry>, I: Inputs>(
-    alloc: Global,
-    inputs: &I,
-    builder: &mut DwarfPackage<'o, 's, Sess>,
-    bytes: &[u8],
-) -> Result<(), NotTaken<Error, Growth>>
-    ensures took { OnOk result
-        (TookBytes (I.offer inputs.now) bytes.now builder.old.state builder.new.state) }
-    ensures refused { IfErr result (AreRefused (I.offer inputs.now) (I.declines inputs.now)
-        bytes.now builder.old.state) }
-{
-    let mut room = Vec::new(alloc);
-    take_input(builder, inputs, &mut room, Input::Bytes(bytes))
 }
 
 /// Takes the members of an archive that have split units, in order, and tells what came of it where
@@ -191,30 +135,17 @@ fn take_members<'o, 's: 'o, Sess: Session<RelocationEntry>, I: Inputs, E: LineOu
         Ok(members) => members,
         Err(error) => return Err(malformed(file, error, err)),
     };
-    take_each(inputs, builder, members.as_slice(), file, err)?;
-    let units = unit_count(builder);
-    tell_added(inputs, file.attempt(before), units, file.options, err)?;
-    Ok(())
-}
-
-/// Takes those of an archive's members that have split units.
-fn take_each<'o, 's: 'o, Sess: Session<RelocationEntry>, I: Inputs, E: LineOutput>(
-    inputs: &I,
-    builder: &mut DwarfPackage<'o, 's, Sess>,
-    members: &[Member<'_>],
-    file: OpenedFile<'_>,
-    err: &mut E,
-) -> Result<(), NoPackage>
-    ensures took { OnOk result (TookEach (I.manner inputs.now) (I.offer inputs.now)
-        (split_contents (map view.member members.now)) builder.old.state builder.new.state) }
-    ensures kept { OnOk result (err.new ≡ err.old) }
-    ensures told { IfErr result (Refuses E.contents E.failed err.new (IsUntaken (StopsAmong (I.offer
-        inputs.now) (I.declines inputs.now) (I.manner inputs.now) (split_contents (map
-        view.member members.now)) builder.old.state))) }
-{
-    for member in members {
+    let list = members.as_slice();
+    for member in list {
         take_split(inputs, builder, *member, file, err)?;
     }
+    let attempt = Attempt {
+        input: Input::Object(file.path),
+        room: file.bytes,
+        before,
+    };
+    let units = unit_count(builder);
+    tell_added(inputs, attempt, units, file.options, err)?;
     Ok(())
 }
 
@@ -242,11 +173,15 @@ fn take_split<'o, 's: 'o, Sess: Session<RelocationEntry>, I: Inputs, E: LineOutp
         Ok(()) => {
             let name = member.beginning_of_name(MEMBER_NAME_READ);
             let origin = Origin::Member(file.path.path_text(), name);
-            inputs.keep_taken(origin, now_in(builder));
+            inputs.notes().keep_taken(origin, now_in(builder));
             Ok(())
         }
         Err(why) => {
-            refuse_member(inputs, builder, &why, member, file, err)?;
+            let alloc = file.options.alloc;
+            let name = member.beginning_of_name(MEMBER_NAME_READ);
+            let place = place_of_member(alloc, file.path.path_text(), name).ok();
+            let before = place_of_refused(builder, &why);
+            tell_why(alloc, inputs, &why, place.as_deref(), before, err)?;
             Err(NoPackage::Told)
         }
     }
@@ -266,8 +201,11 @@ fn take_content<'o, 's: 'o, Sess: Session<RelocationEntry>, I: Inputs>(
         content.now builder.old.state why) }
 {
     match inputs.member(content) {
-        Ok(Some(taken)) => take_bytes(alloc, inputs, builder, taken.as_slice()),
-        Ok(None) => take_bytes(alloc, inputs, builder, content),
+        Ok(taken) => {
+            let mut room = Vec::new(alloc);
+            let bytes = or_content(content, &taken);
+            take_input(builder, inputs, &mut room, Input::Bytes(bytes))
+        }
         Err(why) => Err(NotTaken::from(why)),
     }
 }
@@ -293,26 +231,4 @@ fn malformed<E: LineOutput>(file: OpenedFile<'_>, error: ArchiveError, err: &mut
     }
     put_notes(notes.as_slice(), err);
     NoPackage::Told
-}
-
-/// Tells why a member was refused, and which.
-///
-/// # Errors
-/// `Line` or `Memory`.
-fn refuse_member<'o, 's: 'o, Sess: Session<RelocationEntry>, I: Inputs, E: LineOutput>(
-    inputs: &I,
-    builder: &DwarfPackage<'o, 's, Sess>,
-    why: &NotTaken<Error, Growth>,
-    member: Member<'_>,
-    file: OpenedFile<'_>,
-    err: &mut E,
-) -> Result<(), Failure>
-    ensures told { OnOk result (Tells E.contents err.new (refusal_text why.now)) }
-    ensures blamed { IfErr result (FailsBy (E.failed err.new)) }
-{
-    let alloc = file.options.alloc;
-    let name = member.beginning_of_name(MEMBER_NAME_READ);
-    let place = place_of_member(alloc, file.path.path_text(), name).ok();
-    let before = place_of_refused(builder, why);
-    tell_why(alloc, inputs, why, place.as_deref(), before, err)
 }

@@ -3,17 +3,11 @@
 #![tactic(auto)]
 
 mod archives;
-mod asked;
-mod differences;
 mod making;
 mod missing;
-mod no_package;
-mod origins;
+mod notes;
 mod packing;
-mod plain;
 mod reading;
-mod room;
-mod taking;
 mod telling;
 
 pub use dwp_macros::KeptMacros;

@@ -1,6 +1,7 @@
-//! The object of a package, made of the inputs.
+//! The object of a package, made of the inputs: these are taken in order. One that is accepted is
+//! noted, and told where that is asked for; of one that is refused it is told why.
 
-ghost use Rattle.std.specs.Prelude.{◌≡◌, map, Ok, OnOk, IfOk, IfErr, string_bytes};
+ghost use Rattle.std.specs.Prelude.{◌≡◌, ◌-◌, map, Ok, Err, OnOk, IfOk, IfErr, string_bytes};
 ghost use Rattle.dwp_elf.specs.FileText.{file_text};
 ghost use Rattle.dwp_elf.specs.Numbers.{Fits};
 ghost use Rattle.dwp_elf_read.specs.declared.error.WriteError.TheVariants as writer;
@@ -9,29 +10,34 @@ ghost use Rattle.thorin_join.specs.Builder.{IsFinishedState, differing_in, finis
 ghost use Rattle.thorin_join.specs.Join.{IsPackageOf, IsPackageOnceWritten};
 ghost use Rattle.thorin_join.specs.Meaning.{Members};
 ghost use Rattle.thorin_join.specs.Represents.{units_in};
-ghost use Rattle.thorin_commands.specs.Cause.{IsCauseOf, IsUnfinished, Refuses, StopsAt};
-ghost use Rattle.thorin_commands.specs.Cause.{Unfinished};
-ghost use Rattle.thorin_commands.specs.Made.{FillsTelling, IsMade};
-ghost use Rattle.thorin_commands.specs.declared.no_package.NoPackage.TheVariants.{Empty};
-ghost use Rattle.thorin_commands.specs.Warned.{TellsUnsplitRun};
+ghost use Rattle.thorin_commands.specs.Cause.{IsCauseOf, IsNotTaken, IsUnfinished};
+ghost use Rattle.thorin_commands.specs.Cause.{IsUntaken, Refuses, StopsAt, Unfinished};
+ghost use Rattle.thorin_commands.specs.Made.{FillsTelling, IsMade, TookTelling};
+ghost use Rattle.thorin_commands.specs.Opened.{TookAll, unit_count};
+ghost use Rattle.thorin_commands.specs.Warned.{TellsAdded, TellsUnsplitRun, path_of};
+ghost use Rattle.thorin_commands.specs.declared.packing.NoPackage.TheVariants.{Empty};
 ghost use Rattle.thorin_output.specs.Warnings.{IsPrinted};
 
-use crate::differences::lines_of_differing;
+use crate::archives::take_opened;
 use crate::missing::leave_out;
-use crate::no_package::NoPackage;
+use crate::notes::{Origin, lines_of_differing, now_in, place_of_refused, unit_count};
+use crate::packing::NoPackage;
 use crate::reading::Inputs;
-use crate::taking::take_all;
-use crate::telling::{ReportOptions, tell_unfinished, warn_unsplit};
+use crate::telling::{
+    ReportOptions, lack_of, tell_added, tell_refused, tell_unfinished, warn_unsplit,
+};
 use bumpalo::Bump;
 use dwp_bytes::RelocationEntry;
 use dwp_elf::WritableObject;
 use dwp_elf::laws::written_contents_are_read_back;
 use dwp_table::DebugTypeSignature;
 use std::alloc::Global;
+use std::path::AsPath;
 use thorin::laws::runs_go_on;
-use thorin::{BytesSession, DwarfPackage, Input};
+use thorin::{BytesSession, DwarfPackage, Input, NotTaken, take_input};
 use thorin_errors::Error;
-use thorin_print::LineOutput;
+use thorin_inputs::{Growth, Lack};
+use thorin_print::{Failure, LineOutput};
 use thorin_sessions::Session;
 
 /// The object to be written for these inputs, the signatures of type units that differ, and their
@@ -89,6 +95,121 @@ fn fill<'o, 's: 'o, Sess: Session<RelocationEntry>, I: Inputs, E: LineOutput>(
     let lines = lines_of_differing(inputs, builder, options)?;
     leave_out(inputs, builder, options, err)?;
     Ok(lines)
+}
+
+/// Takes the inputs in order, up to the first that is refused. Answers of each why it added no
+/// unit, if it added none.
+fn take_all<'o, 's: 'o, Sess: Session<RelocationEntry>, I: Inputs, E: LineOutput>(
+    inputs: &I,
+    builder: &mut DwarfPackage<'o, 's, Sess>,
+    list: &[Input<'_>],
+    options: ReportOptions,
+    err: &mut E,
+) -> Result<Vec<Lack>, NoPackage>
+    ensures took { IfOk result (λ lacks. TookTelling options.verbose (I.opens inputs.now)
+        (I.manner inputs.now) (I.offer inputs.now) list.now builder.old.state builder.new.state
+        (E.contents err.old) (E.contents err.new) lacks.items) }
+    ensures told { IfErr result (Refuses E.contents E.failed err.new (StopsAt (I.opens inputs.now)
+        (I.manner inputs.now) (I.offer inputs.now) (I.declines inputs.now) list.now
+        builder.old.state)) }
+{
+    let mut room = Vec::new(options.alloc);
+    let mut lacks = Vec::new(options.alloc);
+    for input in list {
+        let before = unit_count(builder);
+        take(inputs, builder, &mut room, *input, options, err)?;
+        let added = unit_count(builder).saturating_sub(before);
+        match lacks.push(lack_of(inputs, *input, room.as_slice(), added)) {
+            Ok(()) => {}
+            Err(_) => return Err(NoPackage::Command(Failure::Memory)),
+        }
+    }
+    Ok(lacks)
+}
+
+/// Takes an input, or where it is an archive that is to be opened the members of it, and tells what
+/// came of it.
+fn take<'o, 's: 'o, Sess: Session<RelocationEntry>, I: Inputs, E: LineOutput>(
+    inputs: &I,
+    builder: &mut DwarfPackage<'o, 's, Sess>,
+    room: &mut Vec<u8>,
+    input: Input<'_>,
+    options: ReportOptions,
+    err: &mut E,
+) -> Result<(), NoPackage>
+    ensures took { OnOk result (TookAll (I.opens inputs.now) (I.manner inputs.now)
+        (I.offer inputs.now) input.entry builder.old.state builder.new.state) }
+    ensures line { OnOk result (IsPrinted (E.contents err.old) (E.contents err.new)
+        (TellsAdded options.verbose (path_of input.entry)
+        (unit_count builder.new.state - unit_count builder.old.state))) }
+    ensures told { IfErr result (Refuses E.contents E.failed err.new (IsNotTaken
+        (I.opens inputs.now) (I.manner inputs.now) (I.offer inputs.now) (I.declines inputs.now)
+        input.entry builder.old.state)) }
+{
+    match input {
+        Input::Object(path) if inputs.opens_archives() => {
+            take_opened(inputs, builder, room, path, options, err)
+        }
+        _ => {
+            let before = unit_count(builder);
+            inputs.begin(input);
+            let outcome = take_input(builder, inputs, room, input);
+            let attempt = Attempt {
+                input,
+                room: room.as_slice(),
+                before,
+            };
+            settle(inputs, builder, attempt, outcome, options, err)
+        }
+    }
+}
+
+/// An input that was taken or refused.
+#[derive(Clone, Copy)]
+pub(crate) struct Attempt<'a> {
+    pub(crate) input: Input<'a>,
+    /// What was read last.
+    pub(crate) room: &'a [u8],
+    /// How many units the package had before.
+    pub(crate) before: usize,
+}
+
+/// Keeps for notes an object that was taken, and tells of an input by its outcome: how many units
+/// were added, where that is asked for, or why it was refused.
+#[tactic(auto, using(crate::proofs::Causes::stops_by))]
+pub(crate) fn settle<'o, 's: 'o, Sess: Session<RelocationEntry>, I: Inputs, E: LineOutput>(
+    inputs: &I,
+    builder: &DwarfPackage<'o, 's, Sess>,
+    attempt: Attempt<'_>,
+    outcome: Result<(), NotTaken<Error, Growth>>,
+    options: ReportOptions,
+    err: &mut E,
+) -> Result<(), NoPackage>
+    ensures took { OnOk result (outcome ≡ Ok tt) }
+    ensures line { OnOk result (IsPrinted (E.contents err.old) (E.contents err.new)
+        (TellsAdded options.verbose (path_of attempt.entry.input)
+        (unit_count builder.now.state - attempt.entry.before))) }
+    ensures told { IfErr result (Refuses E.contents E.failed err.new
+        (IsUntaken (λ why. outcome ≡ Err why))) }
+{
+    match outcome {
+        Ok(()) => {
+            let now = now_in(builder);
+            // (those of executables are kept as they are read)
+            if let Input::Object(path) = attempt.input {
+                inputs
+                    .notes()
+                    .keep_taken(Origin::Object(path.path_text()), now);
+            }
+            tell_added(inputs, attempt, now.units, options, err)?;
+            Ok(())
+        }
+        Err(why) => {
+            let before = place_of_refused(builder, &why);
+            tell_refused(options.alloc, inputs, attempt.input, &why, before, err)?;
+            Err(NoPackage::Told)
+        }
+    }
 }
 
 /// The object of the package, which can be written, those signatures, and these lines. Where it

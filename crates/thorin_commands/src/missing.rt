@@ -5,11 +5,10 @@ ghost use Rattle.std.specs.Prelude.{◌≡◌, ◌≤◌, OnOk, IfOk, IfErr};
 ghost use Rattle.thorin_output.specs.Warnings.{IsPrinted};
 ghost use Rattle.thorin_print.specs.Answers.{FailsBy};
 ghost use Rattle.thorin_commands.specs.Opened.{left};
-ghost use Rattle.thorin_commands.specs.Warned.{TellLeft, TellsLeft, missing_in};
+ghost use Rattle.thorin_commands.specs.Warned.{TellsLeft};
 
 use crate::packing::{Packing, paths_in};
-use crate::plain::InputFiles;
-use crate::reading::Inputs;
+use crate::reading::{InputFiles, Inputs};
 use crate::telling::{ReportOptions, tell_why, unit_line};
 use bumpalo::Bump;
 use dwp_bytes::RelocationEntry;
@@ -18,18 +17,18 @@ use std::alloc::Global;
 use std::collections::HashSet;
 use std::io::Write;
 use std::path::Path;
-use thorin::{BytesSession, DwarfPackage, Input, NamelessUnits, NotTaken};
+use thorin::{BytesSession, DwarfPackage, Input, InputReader, NamelessUnits, NotTaken};
 use thorin_builder::admit_path;
-use thorin_errors::{Error, MissingReferencedObjectBehaviour};
+use thorin_errors::{Error, InputError, MissingReferencedObjectBehaviour};
 use thorin_executable::NamedUnits;
-use thorin_inputs::{AbsentUnits, Growth, place_of};
+use thorin_inputs::{Growth, place_of};
 use thorin_output::FileSystem;
 use thorin_print::{Failure, LineOutput, buffer, flush, shown};
 use thorin_sessions::Session;
 
-/// Where that is asked for, leaves out units that executables refer to and that aren't there: each
-/// is told.
-#[tactic(auto, using(crate::proofs::Warned::none_left, crate::proofs::Warned::all_left))]
+/// Where that is asked for, warns of each unit that an executable names and the package lacks, and
+/// leaves it out.
+#[tactic(auto, using(crate::proofs::Warned::none_left))]
 pub(crate) fn leave_out<'o, 's: 'o, Sess: Session<RelocationEntry>, I: Inputs, E: LineOutput>(
     inputs: &I,
     builder: &mut DwarfPackage<'o, 's, Sess>,
@@ -44,28 +43,14 @@ pub(crate) fn leave_out<'o, 's: 'o, Sess: Session<RelocationEntry>, I: Inputs, E
     if !options.partial {
         return Ok(());
     }
-    tell_missing(options.alloc, builder, &inputs.absent_units(), err)?;
-    builder.forget_targets();
-    Ok(())
-}
-
-/// Warns of each unit that an executable names and the package lacks.
-fn tell_missing<'o, 's: 'o, Sess: Session<RelocationEntry>, E: LineOutput>(
-    alloc: Global,
-    builder: &DwarfPackage<'o, 's, Sess>,
-    absent: &AbsentUnits,
-    err: &mut E,
-) -> Result<(), Failure>
-    ensures lines { OnOk result (IsPrinted (E.contents err.old) (E.contents err.new)
-        (TellLeft (missing_in builder.now.state))) }
-    ensures blamed { IfErr result (FailsBy (E.failed err.new)) }
-{
+    let absent = inputs.notes().absent_units();
     for target in builder.missing_targets() {
         let unit = target.index();
         let reason = absent.reason(unit).unwrap_or("not found");
-        let line = unit_line(alloc, "warning: unit 0x", unit, ": ", reason)?;
+        let line = unit_line(options.alloc, "warning: unit 0x", unit, ": ", reason)?;
         err.print_text(line.as_str())?;
     }
+    builder.forget_targets();
     Ok(())
 }
 
@@ -89,33 +74,23 @@ pub fn list_missing<F: FileSystem, O: Write, E: Write>(
         return Err(Failure::BadCommand);
     }
     let inputs = InputFiles::new(alloc, files, packing)?;
-    let listed = list_over(alloc, &inputs, executables, packing.nameless, out);
-    status_of(alloc, &inputs, listed, err)
+    list_by(alloc, &inputs, executables, packing.nameless, out, err)
 }
 
-/// Lists what executables lack, of which there are some: whether there is a line.
-fn list_over<I: Inputs, O: Write>(
+/// Lists what executables lack, of which there are some, by these inputs.
+fn list_by<F: FileSystem, O: Write, E: Write>(
     alloc: Global,
-    inputs: &I,
+    inputs: &InputFiles<'_, F>,
     executables: &[&str],
     nameless: NamelessUnits,
     out: &mut O,
-) -> Result<bool, ListFailure> {
-    let mut lines = buffer(alloc, out)?;
-    let listed = list_all(alloc, inputs, executables, nameless, &mut lines);
-    flush(&mut lines)?;
-    listed
-}
-
-/// The status of a list. Where an executable is refused, that is printed.
-fn status_of<I: Inputs, E: Write>(
-    alloc: Global,
-    inputs: &I,
-    listed: Result<bool, ListFailure>,
     err: &mut E,
 ) -> Result<u8, Failure>
     ensures { IfOk result (λ status. status ≤ 1) }
 {
+    let mut lines = buffer(alloc, out)?;
+    let listed = list_all(alloc, inputs, executables, nameless, &mut lines);
+    flush(&mut lines)?;
     match listed {
         Ok(false) => Ok(0),
         Ok(true) => Ok(1),
@@ -149,9 +124,9 @@ impl From<Failure> for ListFailure {
 }
 
 /// Prints those of all executables, and answers whether there is one.
-fn list_all<I: Inputs, W: Write>(
+fn list_all<F: FileSystem, W: Write>(
     alloc: Global,
-    inputs: &I,
+    inputs: &InputFiles<'_, F>,
     executables: &[&str],
     nameless: NamelessUnits,
     lines: &mut W,
@@ -167,9 +142,9 @@ fn list_all<I: Inputs, W: Write>(
 }
 
 /// Prints those of an executable that weren't seen before, and answers whether there is one.
-fn list_of<I: Inputs, W: Write>(
+fn list_of<F: FileSystem, W: Write>(
     alloc: Global,
-    inputs: &I,
+    inputs: &InputFiles<'_, F>,
     executable: &str,
     nameless: NamelessUnits,
     seen: &mut HashSet<String>,
@@ -177,9 +152,18 @@ fn list_of<I: Inputs, W: Write>(
 ) -> Result<bool, ListFailure> {
     let path = Path::new(executable);
     let mut room = Vec::new(alloc);
+    let bump = Bump::new(alloc);
+    let session = BytesSession::new(&bump);
     inputs.begin(Input::Executable(path, MissingReferencedObjectBehaviour::Skip));
     let listed = match inputs.read_into(true, path, &mut room) {
-        Ok(bytes) => list_read(alloc, inputs, bytes, nameless, seen, lines),
+        Ok(bytes) => match NamedUnits::read_by(alloc, &session, bytes, nameless) {
+            Ok(mut units) => {
+                let listed = list_each(alloc, inputs, &mut units, seen, lines);
+                drop(units);
+                listed
+            }
+            Err(error) => Err(ListFailure::from(error)),
+        },
         Err(why) => Err(ListFailure::Refused(NotTaken::from(why), None)),
     };
     match listed {
@@ -191,31 +175,10 @@ fn list_of<I: Inputs, W: Write>(
     }
 }
 
-/// Lists what an executable of these bytes lacks.
-fn list_read<I: Inputs, W: Write>(
-    alloc: Global,
-    inputs: &I,
-    bytes: &[u8],
-    nameless: NamelessUnits,
-    seen: &mut HashSet<String>,
-    lines: &mut W,
-) -> Result<bool, ListFailure> {
-    let bump = Bump::new(alloc);
-    let session = BytesSession::new(&bump);
-    match NamedUnits::read_by(alloc, &session, bytes, nameless) {
-        Ok(mut units) => {
-            let listed = list_each(alloc, inputs, &mut units, seen, lines);
-            drop(units);
-            listed
-        }
-        Err(error) => Err(ListFailure::from(error)),
-    }
-}
-
 /// Prints those of the units that are left of those that an executable names.
-fn list_each<I: Inputs, W: Write>(
+fn list_each<F: FileSystem, W: Write>(
     alloc: Global,
-    inputs: &I,
+    inputs: &InputFiles<'_, F>,
     units: &mut NamedUnits<'_>,
     seen: &mut HashSet<String>,
     lines: &mut W,
@@ -237,19 +200,23 @@ fn list_each<I: Inputs, W: Write>(
 
 /// Prints the path of an object that an executable names where it can't be read, unless the path
 /// was seen before. Answers whether it is printed.
-fn list_path<I: Inputs, W: Write>(
+fn list_path<F: FileSystem, W: Write>(
     alloc: Global,
-    inputs: &I,
+    inputs: &InputFiles<'_, F>,
     named: &str,
     seen: &mut HashSet<String>,
     lines: &mut W,
 ) -> Result<bool, Failure> {
-    let path = inputs.mapped(named)?;
+    let path = inputs.prefixes.mapped(named)?;
     let told = shown(alloc, path.as_str())?;
     if seen.contains(&told) {
         return Ok(false);
     }
-    let is_missing = inputs.is_unreadable(path.as_str())?;
+    let is_missing = match inputs.files.try_regular(Path::new(path.as_str())) {
+        Ok(()) => false,
+        Err(InputError::Io(_)) => true,
+        Err(InputError::Memory) => return Err(Failure::Memory),
+    };
     if is_missing && writeln!(lines, "{told}").is_err() {
         return Err(Failure::Line);
     }

@@ -1,23 +1,23 @@
-//! `thorin pack`.
+//! `thorin pack`: what it is asked for, and the inputs and the package of that.
 
 ghost use Rattle.std.specs.Prelude.{◌≡◌, ◌⊎◌, ◌≤◌, Ok, Some, IfOk, IfErr, map, string_bytes};
-ghost use Rattle.std.specs.Prelude.{true, false, IsTrue, OnOk};
+ghost use Rattle.std.specs.Prelude.{true, false, IsTrue, OnOk, option_map};
+ghost use Rattle.std.specs.Path.{path_bytes};
 ghost use Rattle.thorin_output.specs.Files.{Put, Begins};
-ghost use Rattle.thorin_commands.specs.Cause.{Ends, IsCauseFor, Refuses, Told, Unfinished};
+ghost use Rattle.thorin_commands.specs.Cause.{IsCauseFor, Refuses, Told, Unfinished};
 ghost use Rattle.thorin_commands.specs.Failing.{FailsPacking, LeadTo};
 ghost use Rattle.thorin_errors.specs.declared.error.Error.TheVariants.{NoOutputObjectCreated};
 ghost use Rattle.thorin_commands.specs.Naming.{IsNameless};
 ghost use Rattle.thorin_commands.specs.Made.{IsMadeFor, IsReady};
-ghost use Rattle.thorin_commands.specs.Packing.{out_of, Packs, Comes};
+ghost use Rattle.thorin_commands.specs.Packing.{out_of, Packs};
 ghost use Rattle.thorin_commands.specs.Packing.{AllApart, Fails, IsNoInput, asked, asks};
+ghost use Rattle.thorin_commands.specs.declared.packing.NoPackage.TheVariants.{Command};
+ghost use Rattle.thorin_print.specs.declared.output.Failure.TheVariants.{Memory};
 ghost use Rattle.thorin_commands.specs.Packing.{declines, manner_of, paths_in, reads};
-ghost use Rattle.thorin_commands.specs.Warned.{PacksTelling, TellsTaken, names, others};
+ghost use Rattle.thorin_commands.specs.Warned.{PacksTelling, TellsTaken, names, others, path_of};
 
-use crate::asked::inputs_of;
 use crate::making::packed_inputs;
-use crate::no_package::NoPackage;
-use crate::plain::InputFiles;
-use crate::reading::Inputs;
+use crate::reading::{InputFiles, Inputs};
 use crate::telling::{ReportOptions, print_error};
 use dwp_elf::WritableObject;
 use dwp_macros::KeptMacros;
@@ -128,6 +128,33 @@ impl Packing<'_, '_> {
     }
 }
 
+/// Why nothing was packed.
+#[derive(Clone, Copy)]
+pub(crate) enum NoPackage {
+    /// No input began a package, which isn't told yet.
+    Empty,
+    /// An input was refused, or the package could not be finished, and that was told.
+    Told,
+    /// What the command was given can't be done.
+    Command(Failure),
+}
+
+impl From<Failure> for NoPackage {
+    ghost from_gives = { λ failure refusal. refusal ≡ Command failure };
+
+    fn from(failure: Failure) -> NoPackage {
+        NoPackage::Command(failure)
+    }
+}
+
+impl From<AllocError> for NoPackage {
+    ghost from_gives = { λ _ refusal. refusal ≡ Command Memory };
+
+    fn from(_e: AllocError) -> NoPackage {
+        NoPackage::Command(Failure::Memory)
+    }
+}
+
 /// Whether one of these names is another name of a file.
 fn has_file<F: FileSystem>(files: &F, names: &[&str], file: &str) -> bool
     ensures apart { result ≡ false → AllApart (F.known files.now) file.now names.now }
@@ -153,7 +180,7 @@ fn has_file<F: FileSystem>(files: &F, names: &[&str], file: &str) -> bool
 /// `Output` where the package's file can't be written, `Overwrites` where it is an input;
 /// `BadCommand` where there is no name for it; `Line` or `Memory`; `Input` where nothing is split,
 /// and the executable can't be read a second time.
-#[tactic(auto, using(crate::proofs::Puts::when_done, crate::proofs::Puts::when_empty, crate::proofs::Puts::when_told, crate::proofs::Puts::when_failed, crate::proofs::Puts::early, crate::proofs::Causes::told_empty, crate::proofs::Whys::why_printing, crate::proofs::Whys::why_nameless))]
+#[tactic(auto, using(crate::proofs::Whys::early, crate::proofs::Causes::told_empty, crate::proofs::Whys::why_printing, crate::proofs::Whys::why_nameless, crate::proofs::Whys::why_stopped))]
 pub fn pack<F: FileSystem, O: Write, E: LineOutput>(
     alloc: Global,
     files: &mut F,
@@ -181,47 +208,9 @@ pub fn pack<F: FileSystem, O: Write, E: LineOutput>(
         → (files.new ≡ files.old) ⊎ IsNoInput (F.known files.old) packing.now }
 {
     let output = packing.output_name(alloc)?;
-    match pack_under(alloc, files, packing, output.as_str(), out, err) {
-        Ok(()) => Ok(0),
-        Err(NoPackage::Empty) => match print_error(alloc, &Error::NoOutputObjectCreated, err) {
-            Ok(()) => Ok(1),
-            Err(failure) => Err(failure),
-        },
-        Err(NoPackage::Told) => Ok(1),
-        Err(NoPackage::Command(failure)) => Err(failure),
-    }
-}
-
-/// Packs under a name, but for the line that says that no input began a package.
-#[tactic(auto, using(crate::proofs::Puts::stopped, crate::proofs::Whys::ends))]
-fn pack_under<F: FileSystem, O: Write, E: LineOutput>(
-    alloc: Global,
-    files: &mut F,
-    packing: &Packing<'_, '_>,
-    output: &str,
-    out: &mut O,
-    err: &mut E,
-) -> Result<(), NoPackage>
-    requires { out_of packing.now ≡ Some output.now }
-    ensures apart { packing.now.force ≡ false
-        → (files.new ≡ files.old) ⊎ IsNoInput (F.known files.old) packing.now }
-    ensures comes { Comes result ((files.new ≡ files.old) × (out.new ≡ out.old))
-        (Packs (reads packing.now (F.offer files.old)) packing.now
-        (Begins F.begun O.contents files.old files.new out.old out.new))
-        (Packs (reads packing.now (F.offer files.old)) packing.now
-        (Put F.begun O.contents files.old files.new out.old out.new)) }
-    ensures warned { OnOk result (PacksTelling (reads packing.now (F.offer files.old)) packing.now
-        (Put F.begun O.contents files.old files.new out.old out.new)
-        (E.contents err.old) (E.contents err.new)) }
-    ensures told { IfErr result (Ends (Told E.contents err.new (IsCauseFor
-        (reads packing.now (F.offer files.old)) (declines packing.now (F.offer files.old))
-        packing.now)) (IsCauseFor (reads packing.now (F.offer files.old)) (declines packing.now
-        (F.offer files.old)) packing.now (Unfinished NoOutputObjectCreated))
-        (FailsPacking F.offer F.known F.begun O.contents
-        packing.now files.old files.new out.old out.new (E.failed err.new))) }
-{
-    if packing.overwrites(files, output) {
-        return Err(NoPackage::Command(Failure::Overwrites));
+    let name = output.as_str();
+    if packing.overwrites(files, name) {
+        return Err(Failure::Overwrites);
     }
     match packed(alloc, files, packing, err) {
         Ok((object, differing, lines)) => {
@@ -231,12 +220,17 @@ fn pack_under<F: FileSystem, O: Write, E: LineOutput>(
                 differing: differing.as_slice(),
                 warnings: packing.warnings_left(),
             };
-            match write_then_warn(files, &object, warned, output, out, err) {
-                Ok(()) => Ok(()),
-                Err(failure) => Err(NoPackage::Command(failure)),
+            match write_then_warn(files, &object, warned, name, out, err) {
+                Ok(()) => Ok(0),
+                Err(failure) => Err(failure),
             }
         }
-        Err(refusal) => Err(refusal),
+        Err(NoPackage::Empty) => match print_error(alloc, &Error::NoOutputObjectCreated, err) {
+            Ok(()) => Ok(1),
+            Err(failure) => Err(failure),
+        },
+        Err(NoPackage::Told) => Ok(1),
+        Err(NoPackage::Command(failure)) => Err(failure),
     }
 }
 
@@ -345,4 +339,44 @@ pub(crate) fn paths_in<'m, 'a>(list: Option<&'m [&'a str]>) -> &'m [&'a str]
         Some(paths) => paths,
         None => &[],
     }
+}
+
+/// The path of an input; none where no path names it.
+pub(crate) fn path_of(input: Input<'_>) -> Option<Path<'_>>
+    ensures { option_map path_bytes result ≡ path_of input.entry }
+{
+    match input {
+        Input::Object(path)
+        | Input::Executable(path, _)
+        | Input::ExecutableSkippingNameless(path, _) => Some(path),
+        Input::Bytes(_) => None,
+    }
+}
+
+/// The path of an input that is an executable.
+pub(crate) fn executable_of(input: Input<'_>) -> Option<Path<'_>> {
+    match input {
+        Input::Executable(path, _) | Input::ExecutableSkippingNameless(path, _) => Some(path),
+        Input::Object(_) | Input::Bytes(_) => None,
+    }
+}
+
+/// The objects, and then the executables.
+fn inputs_of<'a>(alloc: Global, packing: &Packing<'_, 'a>) -> Result<Vec<Input<'a>>, AllocError>
+    ensures { IfOk result (λ inputs. map asked inputs.items ≡ asks packing.now) }
+{
+    let objects = paths_in(packing.inputs);
+    let executables = paths_in(packing.executables);
+    let mut inputs = Vec::new(alloc);
+    for object in objects {
+        inputs.push(Input::Object(Path::new(*object)))?;
+    }
+    for executable in executables {
+        let path = Path::new(*executable);
+        inputs.push(match packing.nameless {
+            NamelessUnits::Refused => Input::Executable(path, packing.missing),
+            NamelessUnits::PassedOver => Input::ExecutableSkippingNameless(path, packing.missing),
+        })?;
+    }
+    Ok(inputs)
 }

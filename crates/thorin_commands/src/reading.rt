@@ -1,19 +1,34 @@
-//! What `pack` asks of the reader of its inputs, as a trait: `plain` has the reader.
+//! The reader of the inputs of `pack`, as a trait and of files: these are read, decompressed, left
+//! with the macros that are kept, and tested for strings and sections that overlap.
 
-ghost use Rattle.std.specs.Prelude.{◌≡◌, Bool, IfOk, IfErr, string_bytes};
+ghost use Rattle.std.specs.Prelude.{◌≡◌, ◌⊎◌, Bool, false, IsTrue, IfOk, IfErr, string_bytes};
+ghost use Rattle.std.specs.Path.{path_bytes};
 ghost use Rattle.thorin_builder.specs.Reading.{OnDeclined, OnFailed};
+ghost use Rattle.thorin_sessions.specs.Sessions.{IsNoWantOfMemory};
 ghost use Rattle.thorin_errors.specs.declared.error.InputError.TheVariants.{Memory};
-ghost use Rattle.thorin_inputs.specs.Plain.{or_content};
+ghost use Rattle.thorin_inputs.specs.Macros.{IsKeptOf};
+ghost use Rattle.thorin_inputs.specs.Plain as spec;
 ghost use Rattle.thorin_commands.specs.Naming.{IsUncounted};
-ghost use Rattle.thorin_commands.specs.Taken.{DeclinesBytes, IsTakenFor, Manner};
+ghost use Rattle.thorin_commands.specs.Packing.{IsAmong, declines, manner_of, paths_in};
+ghost use Rattle.thorin_commands.specs.Packing.{read_through, reads};
+ghost use Rattle.thorin_commands.specs.Taken.{DeclinesBytes, DeclinesPlain, IsPlainFor};
+ghost use Rattle.thorin_commands.specs.Taken.{IsReadInto, IsTakenFor, Manner, MayRepeat};
 ghost use Rattle.thorin_commands.specs.Warned.{TellsMacros};
 
-use crate::differences::Difference;
-use crate::origins::{Holding, Origin};
-use std::alloc::AllocError;
-use thorin::{Input, InputReader, NotTaken};
+use crate::notes::{Holding, Notes};
+use crate::packing::{Packing, executable_of, paths_in};
+use dwp_macros::{MacrosError, with_macros};
+use dwp_table::{DebugTypeSignature, DwarfObject};
+use std::alloc::{AllocError, Global};
+use std::cell::Cell;
+use std::path::{AsPath, Path};
+use thorin::{Input, InputReader, NotTaken, Repetition};
 use thorin_errors::InputError;
-use thorin_inputs::{AbsentUnits, Compression, Growth};
+use thorin_inputs::{
+    Compression, Growth, Places, PlainError, Prefixes, Repetitions, count_units, decompress,
+    has_compressed_overlap, has_inner_strings, has_overlap, plain_of, reason,
+};
+use thorin_output::FileSystem;
 use thorin_print::Failure;
 
 /// What reads inputs, and tells of them. It declines those that would make the package larger than
@@ -23,7 +38,8 @@ pub(crate) trait Inputs: InputReader<Refusal = Growth> {
     /// for ever.
     fn begin(&self, input: Input<'_>);
 
-    // Whether archives are opened, how inputs are taken, and whether sections of macros are warned of.
+    // Whether archives are opened, how inputs are taken, and whether sections of macros are warned
+    // of.
     ghost opens: { Self → Bool };
 
     ghost manner: { Self → Manner };
@@ -41,12 +57,9 @@ pub(crate) trait Inputs: InputReader<Refusal = Growth> {
     /// `Memory`; `Declined` as for a file.
     fn member(&self, content: &[u8]) -> Result<Option<Vec<u8>>, NotTaken<InputError, Growth>>
         ensures taken { IfOk result (λ taken. IsTakenFor (manner self.now) content.now
-            (or_content content.now taken)) }
+            (spec.or_content content.now taken)) }
         ensures declined { OnDeclined result (DeclinesBytes (manner self.now) content.now) }
         ensures memory { OnFailed result (λ e. e ≡ Memory) };
-
-    /// What is left compressed of the file that was read last.
-    fn compression(&self) -> Compression;
 
     /// Whether there is a regular file at a path.
     fn is_regular(&self, path: &str) -> bool;
@@ -63,37 +76,366 @@ pub(crate) trait Inputs: InputReader<Refusal = Growth> {
     fn macro_warnings(&self) -> String
         ensures { TellsMacros (warns_of_macros self.now) (string_bytes result) };
 
-    /// The path of the object that the input names and that was read last; none where none was, and
-    /// where it was taken. Asked for once.
-    fn last_named(&self) -> Option<String>;
+    /// What is kept of the inputs for what is told of them.
+    fn notes(&self) -> &Notes;
+}
 
-    /// The path at which an object is read that an executable names: its prefix is replaced.
-    fn mapped(&self, named: &str) -> Result<String, AllocError>;
+/// Files as inputs.
+#[derive(Drop)]
+pub(crate) struct InputFiles<'f, F> {
+    alloc: Global,
+    pub(crate) files: &'f F,
+    /// How they are read.
+    packing: &'f Packing<'f, 'f>,
+    /// The prefixes that others take the place of, and where the paths stand that the command line
+    /// names, if there are any.
+    pub(crate) prefixes: Prefixes<'f>,
+    places: Places<'f>,
+    /// Whether the input is an executable.
+    is_executable: Cell<bool>,
+    /// What was counted of the files that were read.
+    repetitions: Cell<Repetitions>,
+    notes: Notes,
+    ghost maps: { prefixes.words.now ≡ paths_in packing.now.prefix_maps },
+}
 
-    /// Whether an object can't be read at a path: it must be a regular file.
-    fn is_unreadable(&self, path: &str) -> Result<bool, AllocError>;
+impl<'f, F: FileSystem> InputFiles<'f, F> {
+    /// These files, as a command reads them.
+    pub(crate) fn new(
+        alloc: Global,
+        files: &'f F,
+        packing: &'f Packing<'f, 'f>,
+    ) -> Result<InputFiles<'f, F>, AllocError>
+        ensures files { IfOk result (λ inputs. inputs.files.now ≡ files.now) }
+        ensures packing { IfOk result (λ inputs. inputs.packing.now ≡ packing.now) }
+    {
+        let prefixes = Prefixes::new(alloc, paths_in(packing.prefix_maps))?;
+        let mut places = Places::new(alloc);
+        if !paths_in(packing.prefix_maps).is_empty() {
+            places.add(paths_in(packing.executables))?;
+            places.add(paths_in(packing.inputs))?;
+        }
+        Ok(InputFiles {
+            alloc,
+            files,
+            packing,
+            prefixes,
+            places,
+            is_executable: Cell::new(false),
+            repetitions: Cell::new(Repetitions::new(alloc)),
+            notes: Notes::new(alloc, packing),
+        })
+    }
 
-    /// The units that executables name and that weren't there once their objects were taken. Asked
-    /// for once.
-    fn absent_units(&self) -> AbsentUnits;
+    /// Whether the command line names a path.
+    fn is_given(&self, path: &str) -> bool
+        ensures { IsTrue result → IsAmong (paths_in self.now.packing.now.inputs) path.now
+            ⊎ IsAmong (paths_in self.now.packing.now.executables) path.now }
+    {
+        let inputs = paths_in(self.packing.inputs);
+        if let Some(_place) = self.places.place_among(inputs, path) {
+            return true;
+        }
+        let executables = paths_in(self.packing.executables);
+        if let Some(_place) = self.places.place_among(executables, path) {
+            return true;
+        }
+        false
+    }
 
-    /// Keeps for notes what was taken, and what the package has now.
-    fn keep_taken(&self, taken: Origin<'_>, now: Holding<'_>);
+    /// Reads the file of a path that the input has, or that it names.
+    #[tactic(auto, using(crate::proofs::Taken::through_none, crate::proofs::Taken::through_given, crate::proofs::Taken::through_mapped))]
+    fn read(
+        &self,
+        is_own: bool,
+        path: Path<'_>,
+        room: &mut Vec<u8>,
+    ) -> Result<(), NotTaken<InputError, Growth>>
+        ensures offered { IsReadInto (read_through self.now.packing.now (F.offer self.now.files.now)
+            (path_bytes path.entry)) (MayRepeat self.now.packing.now.allows_overlap is_own)
+            room.new.items result }
+        ensures memory { OnFailed result IsNoWantOfMemory }
+    {
+        if paths_in(self.packing.prefix_maps).is_empty() {
+            return self.read_at(is_own, path, room);
+        }
+        if is_own && self.is_given(path.path_text()) {
+            return self.read_at(is_own, path, room);
+        }
+        let mapped = self.prefixes.mapped(path.path_text())?;
+        self.read_at(is_own, Path::new(mapped.as_str()), room)
+    }
 
-    /// What is known of a type unit that differs from the one kept.
+    /// Reads the file at a path, and keeps for notes what becomes of that.
+    fn read_at(
+        &self,
+        is_own: bool,
+        path: Path<'_>,
+        room: &mut Vec<u8>,
+    ) -> Result<(), NotTaken<InputError, Growth>>
+        ensures offered { IsReadInto (F.offer self.now.files.now (path_bytes path.entry))
+            (MayRepeat self.now.packing.now.allows_overlap is_own) room.new.items result }
+        ensures memory { OnFailed result IsNoWantOfMemory }
+    {
+        let read = if is_own {
+            self.files.read_over(path, room)
+        } else {
+            self.files.read_regular_over(path, room)
+        };
+        if !is_own {
+            let unread = match &read {
+                Err(InputError::Io(cause)) => reason(self.alloc, cause).ok(),
+                _ => None,
+            };
+            let named = String::from_str(self.alloc, path.path_text());
+            self.notes.keep_named(named, unread);
+        }
+        read?;
+        if self.packing.allows_overlap || self.admits_file(is_own, path.path_text(), room.len())? {
+            return Ok(());
+        }
+        Err(NotTaken::Declined(Growth::Repetition))
+    }
+
+    /// Whether a file that was read may be added: the input's own always; an object of an
+    /// executable may be one that was read before by another path.
+    fn admits_file(&self, is_own: bool, path: &str, size: usize) -> Result<bool, AllocError>
+        ensures { IfOk result (λ admits. admits ≡ false → is_own ≡ false) }
+    {
+        let mut repetitions = self.repetitions.replace(Repetitions::new(self.alloc));
+        let admits = if is_own {
+            match repetitions.count_own(self.files.identity(path), size) {
+                Ok(()) => Ok(true),
+                Err(e) => Err(e),
+            }
+        } else {
+            repetitions.admits_object(self.files.object_identity(path), size)
+        };
+        self.repetitions.set(repetitions);
+        admits
+    }
+
+    /// The bytes of an input with plain sections, where that is asked for; none where they stay as
+    /// they are.
     ///
     /// # Errors
-    /// Want of memory.
-    fn difference(&self, it: Difference) -> Result<String, AllocError>;
+    /// `Memory`; `Declined` where sections overlap, or no file has the plain ones.
+    #[tactic(auto, unfolding(crate::specs::Taken::IsPlainFor))]
+    fn plain(
+        &self,
+        is_executable: bool,
+        bytes: &[u8],
+    ) -> Result<Option<Vec<u8>>, NotTaken<InputError, Growth>>
+        ensures plain { IfOk result (λ plain. IsPlainFor self.now.packing.now.decompresses bytes.now
+            (spec.or_content bytes.now plain)) }
+        ensures declined { OnDeclined result
+            (DeclinesBytes (manner_of self.now.packing.now) bytes.now) }
+        ensures memory { OnFailed result (λ e. e ≡ Memory) }
+    {
+        // Nothing of a file is decompressed where its sections overlap that are used, or those that
+        // would be decompressed. Of an executable only these count: of each name it uses one
+        // section alone.
+        if !self.packing.allows_overlap
+            && (!is_executable && has_overlap(bytes)
+                || self.packing.decompresses && has_compressed_overlap(bytes))
+        {
+            return Err(NotTaken::Declined(Growth::Sections));
+        }
+        if !self.packing.decompresses {
+            self.notes.compression.set(Compression::Left);
+            return Ok(None);
+        }
+        self.notes.compression.set(Compression::None);
+        match plain_of(self.alloc, bytes) {
+            Ok(plain) => Ok(plain),
+            Err(PlainError::Unread(error)) => {
+                self.notes.compression.set(Compression::after(error));
+                Ok(None)
+            }
+            Err(PlainError::TooLarge) => Err(NotTaken::Declined(Growth::Plain)),
+            Err(PlainError::Memory) => Err(NotTaken::Failed(InputError::Memory)),
+        }
+    }
 
-    /// What brought the unit at a place among the package's, as it is printed; none where that
-    /// isn't known.
-    fn origin_of(&self, place: usize) -> Option<String>;
-
-    /// A line `note: ` for each encoding of the files that were read, where there are several, with
-    /// the first file of each. Asked for once.
+    /// Tests whether the strings of plain bytes overlap, where that isn't allowed. An executable
+    /// has none that are packed.
     ///
     /// # Errors
-    /// Want of memory.
-    fn encoding_notes(&self) -> Result<Option<String>, AllocError>;
+    /// `Memory`; `Declined` where they do.
+    fn test_strings(
+        &self,
+        is_executable: bool,
+        plain: &[u8],
+    ) -> Result<(), NotTaken<InputError, Growth>>
+        ensures declined { OnDeclined result
+            (DeclinesPlain (manner_of self.now.packing.now) plain.now) }
+        ensures memory { OnFailed result (λ e. e ≡ Memory) }
+    {
+        if self.packing.allows_overlap || is_executable {
+            return Ok(());
+        }
+        match has_inner_strings(self.alloc, plain) {
+            Ok(false) => Ok(()),
+            Ok(true) => Err(NotTaken::Declined(Growth::Strings)),
+            Err(AllocError) => Err(NotTaken::Failed(InputError::Memory)),
+        }
+    }
+
+    /// Plain bytes with the macros that are kept alone; none where they stay as they are.
+    ///
+    /// # Errors
+    /// `Memory`; `Declined` where the others can't be left out.
+    #[tactic(auto, unfolding(thorin_inputs::specs::Macros::IsKeptOf))]
+    fn kept(&self, plain: &[u8]) -> Result<Option<Vec<u8>>, NotTaken<InputError, Growth>>
+        ensures kept { IfOk result (λ kept. IsKeptOf self.now.packing.now.macros plain.now
+            (spec.or_content plain.now kept)) }
+        ensures declined { OnDeclined result
+            (DeclinesPlain (manner_of self.now.packing.now) plain.now) }
+        ensures memory { OnFailed result (λ e. e ≡ Memory) }
+    {
+        match with_macros(self.alloc, plain, self.packing.macros) {
+            Ok(kept) => Ok(kept),
+            Err(MacrosError::Memory) => Err(NotTaken::Failed(InputError::Memory)),
+            Err(MacrosError::Unrepresentable) => Err(NotTaken::Declined(Growth::Macros)),
+        }
+    }
+}
+
+impl<F: FileSystem> InputReader for InputFiles<'_, F> {
+    type Refusal = Growth;
+
+    ghost offer = { λ inputs. reads inputs.packing.now (F.offer inputs.files.now) };
+
+    ghost declines = { λ inputs. declines inputs.packing.now (F.offer inputs.files.now) };
+
+    fn read_into<'b>(
+        &'b self,
+        is_own: bool,
+        path: Path<'_>,
+        room: &'b mut Vec<u8>,
+    ) -> Result<&'b [u8], NotTaken<InputError, Growth>> {
+        let is_executable = is_own && self.is_executable.get();
+        self.read(is_own, path, room)?;
+        let plain = self.plain(is_executable, room)?;
+        put_over(room, plain);
+        self.test_strings(is_executable, room)?;
+        let named = if is_own { "" } else { path.path_text() };
+        self.notes.inspect(room, named, false)?;
+        let kept = self.kept(room)?;
+        put_over(room, kept);
+        Ok(room.as_slice())
+    }
+
+    fn admit(&self, repetition: Repetition<'_>) -> Result<(), Growth> {
+        let mapped = self.prefixes.mapped(repetition.path.path_text());
+        self.notes.keep_named(mapped, None);
+        if self.packing.allows_overlap {
+            return Ok(());
+        }
+        let mut repetitions = self.repetitions.replace(Repetitions::new(self.alloc));
+        let admits = repetitions.admits(repetition.bytes, repetition.differing);
+        self.repetitions.set(repetitions);
+        if admits {
+            Ok(())
+        } else {
+            Err(Growth::Repetition)
+        }
+    }
+
+    fn after_unit(
+        &self,
+        unit: DwarfObject,
+        is_there: bool,
+        unit_count: usize,
+        differing: &[DebugTypeSignature],
+    ) {
+        let now = Holding {
+            units: unit_count,
+            differing,
+        };
+        self.notes.after_unit(unit, is_there, now);
+    }
+}
+
+impl<F: FileSystem> Inputs for InputFiles<'_, F> {
+    ghost opens = { λ inputs. inputs.packing.now.opens_archives };
+
+    ghost manner = { λ inputs. manner_of inputs.packing.now };
+
+    ghost warns_of_macros = { λ inputs. inputs.packing.now.warns_of_macros };
+
+    fn opens_archives(&self) -> bool {
+        self.packing.opens_archives
+    }
+
+    fn member(&self, content: &[u8]) -> Result<Option<Vec<u8>>, NotTaken<InputError, Growth>> {
+        let plain = self.plain(false, content)?;
+        let bytes = or_content(content, &plain);
+        self.test_strings(false, bytes)?;
+        self.notes.inspect(bytes, "", true)?;
+        match self.kept(bytes)? {
+            Some(kept) => Ok(Some(kept)),
+            None => Ok(plain),
+        }
+    }
+
+    fn begin(&self, input: Input<'_>) {
+        self.notes.begin(input);
+        self.is_executable.set(executable_of(input).is_some());
+        let mut repetitions = self.repetitions.replace(Repetitions::new(self.alloc));
+        repetitions.begin();
+        self.repetitions.set(repetitions);
+    }
+
+    fn is_regular(&self, path: &str) -> bool {
+        self.files.is_regular(path)
+    }
+
+    fn unit_count(&self, path: &str) -> Result<Option<usize>, Failure> {
+        if !self.files.is_regular(path) {
+            return Ok(None);
+        }
+        let mut room = Vec::new(self.alloc);
+        match self.files.read_over(Path::new(path), &mut room) {
+            Ok(()) => {}
+            Err(InputError::Io(_)) => return Err(Failure::Input),
+            Err(InputError::Memory) => return Err(Failure::Memory),
+        }
+        if self.packing.decompresses {
+            decompress(self.alloc, &mut room, self.packing.allows_overlap)?;
+        }
+        Ok(count_units(room.as_slice()))
+    }
+
+    #[tactic(auto, using(crate::proofs::Warned::no_macros))]
+    fn macro_warnings(&self) -> String {
+        if self.packing.warns_of_macros {
+            self.notes.macros.take()
+        } else {
+            String::new(self.alloc)
+        }
+    }
+
+    fn notes(&self) -> &Notes {
+        &self.notes
+    }
+}
+
+/// Puts what is taken in place of a file, where it doesn't stay as it is.
+pub(crate) fn put_over(room: &mut Vec<u8>, taken: Option<Vec<u8>>)
+    ensures { room.new.items ≡ spec.or_content room.old.items taken }
+{
+    if let Some(taken) = taken {
+        *room = taken;
+    }
+}
+
+/// What is taken for a content.
+pub(crate) fn or_content<'a>(content: &'a [u8], taken: &'a Option<Vec<u8>>) -> &'a [u8]
+    ensures { result.now ≡ spec.or_content content.now taken.now }
+{
+    match taken {
+        Some(taken) => taken.as_slice(),
+        None => content,
+    }
 }

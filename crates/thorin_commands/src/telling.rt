@@ -11,10 +11,10 @@ ghost use Rattle.thorin_commands.specs.Opened.{unit_count};
 ghost use Rattle.thorin_commands.specs.Warned.{TellUnsplitBy, TellsAdded, TellsUnsplit};
 ghost use Rattle.thorin_commands.specs.Warned.{path_of, unit_line};
 
-use crate::asked::{executable_of, path_of};
-use crate::origins::unit_count;
+use crate::making::Attempt;
+use crate::notes::unit_count;
+use crate::packing::{executable_of, path_of};
 use crate::reading::Inputs;
-use crate::taking::Attempt;
 use dwp_bytes::RelocationEntry;
 use std::alloc::{AllocError, Global};
 use std::io::Write;
@@ -48,7 +48,8 @@ pub(crate) struct ReportOptions {
 }
 
 /// Tells of an input that was taken how many of its units were added, where that is asked for, by
-/// how many the package has now. Of an object that is a regular file it tells how many units it has.
+/// how many the package has now. Of an object that is a regular file it tells how many units it
+/// has.
 #[tactic(auto, using(crate::proofs::Warned::not_verbose, crate::proofs::Warned::pathless, crate::proofs::Warned::added_told))]
 pub(crate) fn tell_added<I: Inputs, E: LineOutput>(
     inputs: &I,
@@ -76,8 +77,8 @@ pub(crate) fn tell_added<I: Inputs, E: LineOutput>(
     tell_taken(options.alloc, name, added, all, err)
 }
 
-/// Why an input that was taken added no unit, if it added none, by the bytes that were read. Of what
-/// is no regular file it isn't told that type units were passed over.
+/// Why an input that was taken added no unit, if it added none, by the bytes that were read. Of
+/// what is no regular file it isn't told that type units were passed over.
 pub(crate) fn lack_of<I: Inputs>(inputs: &I, input: Input<'_>, room: &[u8], added: usize) -> Lack
     ensures { result ≡ Types → added ≡ 0 }
 {
@@ -188,34 +189,27 @@ pub(crate) fn unit_line(
     format!(in alloc; "{before}{id:08x}{after}{more}\n")
 }
 
-/// An input that was refused.
-#[derive(Clone, Copy)]
-pub(crate) struct Rejection<'a> {
-    pub(crate) input: Input<'a>,
-    /// Where among the package's units the one stands that the input has too, if that is the error.
-    pub(crate) before: Option<usize>,
-    pub(crate) why: &'a NotTaken<Error, Growth>,
-}
-
-/// Prints why an input was refused, and what that is about.
+/// Prints why an input was refused, and what that is about: `before` is where among the package's
+/// units the one stands that the input has too, if that is the error.
 ///
 /// # Errors
 /// `Line` or `Memory`.
 pub(crate) fn tell_refused<I: Inputs, E: LineOutput>(
     alloc: Global,
     inputs: &I,
-    rejection: Rejection<'_>,
+    input: Input<'_>,
+    why: &NotTaken<Error, Growth>,
+    before: Option<usize>,
     err: &mut E,
 ) -> Result<(), Failure>
-    ensures told { OnOk result (Tells E.contents err.new (refusal_text rejection.entry.why.now)) }
+    ensures told { OnOk result (Tells E.contents err.new (refusal_text why.now)) }
     ensures blamed { IfErr result (FailsBy (E.failed err.new)) }
 {
-    let named = inputs.last_named();
-    let place = match path_of(rejection.input) {
+    let named = inputs.notes().last_named();
+    let place = match path_of(input) {
         Some(path) => place_of(alloc, path.path_text(), named.as_deref()).ok(),
         None => None,
     };
-    let (why, before) = (rejection.why, rejection.before);
     tell_why(alloc, inputs, why, place.as_deref(), before, err)
 }
 
@@ -289,20 +283,22 @@ fn note_why<I: Inputs>(
         },
         NotTaken::Failed(Error::MixedInputEncodings) => note_encodings(inputs, Some(place), notes),
         NotTaken::Failed(Error::DuplicateUnit(unit)) => match before {
-            Some(before) => match inputs.origin_of(before) {
+            Some(before) => match inputs.notes().origin_of(before) {
                 Some(first) => note_before(*unit, place, first.as_str(), notes),
                 None => note_alone(place, notes),
             },
             None => note_twice_in(*unit, place, notes),
         },
-        NotTaken::Failed(error) => note_refused(place, error, inputs.compression(), notes),
+        NotTaken::Failed(error) => {
+            note_refused(place, error, inputs.notes().compression.get(), notes)
+        },
     }
 }
 
 /// Prints a note for each encoding of the inputs, with the first input of each; of a place alone
 /// where there are not several.
 fn note_encodings<I: Inputs, E: Write>(inputs: &I, place: Option<&str>, err: &mut E) {
-    match (inputs.encoding_notes(), place) {
+    match (inputs.notes().encodings.notes(), place) {
         (Ok(Some(lines)), _) => {
             let _ = writeln!(err, "{lines}{ENCODINGS}");
         }
@@ -330,7 +326,7 @@ pub(crate) fn tell_unfinished<I: Inputs, E: LineOutput>(
     let mut notes = Vec::new(alloc);
     match error {
         Error::MissingReferencedUnit(unit) => {
-            let absent = inputs.absent_units();
+            let absent = inputs.notes().absent_units();
             if let Some(reason) = absent.reason(*unit) {
                 note_absent(reason, absent.others(), &mut notes);
             }

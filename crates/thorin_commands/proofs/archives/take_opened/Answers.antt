@@ -1,6 +1,7 @@
-use Rattle.std.proofs.Common.{rules}
+use Rattle.std.proofs.Common.{◌≡◌, Ok, refl, rules}
 use Rattle.std.proofs.lemmas.Result.{on_ok_weaker}
-use Rattle.thorin_commands.proofs.Causes.{archive, err_by, plain, unread_told}
+use Rattle.thorin_commands.proofs.Causes.{archive, bytes_refused, err_by, plain, reason_by}
+use Rattle.thorin_commands.proofs.Causes.{unread_told}
 use Rattle.thorin_commands.proofs.Opened.{took_object, took_archive}
 use Rattle.thorin_commands.proofs.archives.take_opened.Goals as goal
 
@@ -24,12 +25,26 @@ returns-then-is_archive-clause-told g c = err_by g.E.LineOutput.contents g.E.Lin
 
 pub returns-else-is_archive-clause-took : goal.returns-else-is_archive-clause-took
 returns-else-is_archive-clause-took g c =
-    on_ok_weaker c.take_object.result (took_object c.requires c.in-Ok.ensures.read
-    (search (rules, c.is_archive.ensures, c.if-is_archive))) c.take_object.ensures.took
+    on_ok_weaker c.settle.result (λ (e : c.take_input-outcome.result ≡ Ok tt).
+    took_object c.requires c.in-Ok.ensures.read
+    (search (rules, c.is_archive.ensures, c.if-is_archive)) (record {
+      bytes = c.in-Ok.bytes;
+      is = refl;
+      took = rw e at c.take_input-outcome.ensures.taken;
+    })) c.settle.ensures.took
 
 pub returns-else-is_archive-clause-told : goal.returns-else-is_archive-clause-told
 returns-else-is_archive-clause-told g c = err_by g.E.LineOutput.contents g.E.LineOutput.failed
-    c.take_object.new.err
+    c.settle.new.err
     (plain c.requires c.in-Ok.ensures.read
     (search (rules, c.is_archive.ensures, c.if-is_archive)))
-    c.take_object.result c.take_object.ensures.told
+    c.settle.result
+    (err_by g.E.LineOutput.contents g.E.LineOutput.failed c.settle.new.err
+    (reason_by c.take_input-outcome.result (bytes_refused (g.I.InputReader.offer c.args.inputs.now)
+    (g.I.InputReader.declines c.args.inputs.now) c.in-Ok.bytes c.args.builder.now.state
+    c.take_input-outcome.new.builder.state c.take_input-outcome.result
+    c.take_input-outcome.ensures.taken c.take_input-outcome.ensures.declined))
+    c.settle.result c.settle.ensures.told)
+
+pub returns-else-is_archive-clause-line : goal.returns-else-is_archive-clause-line
+returns-else-is_archive-clause-line g c = rw c.unit_count-before.ensures at c.settle.ensures.line

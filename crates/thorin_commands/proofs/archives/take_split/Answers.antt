@@ -16,11 +16,11 @@ returns-in-Ok-clause-took g c =
     cc (c.content-content.ensures, c.is_split.ensures) in
     rw is (rw c.content-content.ensures at c.in-Ok.ensures.took)
 
-pub returns-in_ok-refuse_member-in-Err-clause-told :
-    goal.returns-in_ok-refuse_member-in-Err-clause-told
-returns-in_ok-refuse_member-in-Err-clause-told g c =
+pub returns-in_ok-tell_why-in-Err-clause-told :
+    goal.returns-in_ok-tell_why-in-Err-clause-told
+returns-in_ok-tell_why-in-Err-clause-told g c =
     let is : is_split (member c.args.member).content ≡ true =
     cc (c.content-content.ensures, c.is_split.ensures) in
-    rw is (one_stops g.E.LineOutput.contents c.refuse_member.new.err c.in-Err.why
+    rw is (one_stops g.E.LineOutput.contents c.tell_why.new.err c.in-Err.why
     (rw c.content-content.ensures at c.in-Err.ensures.refused)
-    c.in_ok-refuse_member-in-Err.ensures.told)
+    c.in_ok-tell_why-in-Err.ensures.told)

@@ -3,9 +3,8 @@ use Rattle.std.proofs.lemmas.Grind.{common_steps}
 use Rattle.std.specs.Prelude.{None, Some}
 use Rattle.thorin_commands.specs.Packing.{asked, asks, paths_in}
 use Rattle.thorin_commands.specs.Warned.{TellsTaken}
-use Rattle.thorin_commands.proofs.Causes.{told_unsplit}
+use Rattle.thorin_commands.proofs.Causes.{first_of, told_unsplit}
 use Rattle.thorin_commands.proofs.Made.{if_ok_as, made_for}
-use Rattle.thorin_commands.proofs.Puts.{first_of}
 use Rattle.thorin_commands.proofs.packing.packed_unsplit.Goals as goal
 
 pub returns-clause-made : goal.returns-clause-made
