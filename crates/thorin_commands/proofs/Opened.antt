@@ -1,6 +1,7 @@
 -- Inputs that stand for others, taken one after the other.
 use Rattle.std.proofs.Common.{◌≡◌, ℕ, ◌-◌, Bool, true, false, List, [], ◌∷◌, ◌++◌, ap, refl, sym}
 use Rattle.std.proofs.Common.{Ok, inl, inr, map}
+use Rattle.std.specs.Borrow.{Bor}
 use Rattle.std.specs.Prelude.{Result, Err, OnOk}
 use Rattle.std.specs.Path.{path_bytes}
 use Rattle.std.specs.declared.path.Path.{Path}

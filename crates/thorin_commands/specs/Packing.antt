@@ -1,6 +1,6 @@
 -- What the program packs, and what comes of it.
 use Rattle.std.specs.Prelude.{◌≡◌, ℕ, List, [], ◌∷◌, ◌++◌, map, codes, Option, Some, None, Result}
-use Rattle.std.specs.Prelude.{Ok, Err, ◌⊎◌, ◌≢◌, All, Bool, true, take}
+use Rattle.std.specs.Prelude.{Ok, ◌⊎◌, ◌≢◌, All, Bool, true, take}
 use Rattle.std.specs.Borrow.{Bor}
 use Rattle.std.specs.Path.{path_bytes}
 use Rattle.std.specs.declared.io.Error.{Error as IoError}

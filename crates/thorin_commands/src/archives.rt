@@ -1,16 +1,13 @@
 //! Archives as inputs of `pack`.
 
-ghost use Rattle.std.specs.Prelude.{◌≡◌, ◌⊎◌, ◌-◌, ◌∷◌, [], map, Ok, OnOk, IfErr, true};
+ghost use Rattle.std.specs.Prelude.{◌≡◌, ◌⊎◌, ◌-◌, ◌∷◌, [], OnOk, IfErr, true};
 ghost use Rattle.thorin.specs.declared.packing.Input.TheVariants.{Object};
 ghost use Rattle.dwp_archive.specs.View as view;
 ghost use Rattle.thorin_output.specs.Warnings.{IsPrinted};
-ghost use Rattle.thorin_print.specs.Answers.{FailsBy};
 ghost use Rattle.thorin_commands.specs.Archives.{is_archive, is_split, split_contents};
-ghost use Rattle.thorin_commands.specs.Cause.{AreRefused, IsNotTaken, IsTakenNot, IsUnfit};
-ghost use Rattle.thorin_commands.specs.Cause.{IsMalformed, IsUntaken, Refuses, StopsAmong};
-ghost use Rattle.thorin_commands.specs.Cause.{StopsIn, Tells, refusal_text};
-ghost use Rattle.thorin_commands.specs.Opened.{TookAll, TookEach, TookMembers, TookBytes};
-ghost use Rattle.thorin_commands.specs.Opened.{unit_count};
+ghost use Rattle.thorin_commands.specs.Cause.{IsMalformed, IsNotTaken, IsTakenNot, IsUnfit};
+ghost use Rattle.thorin_commands.specs.Cause.{IsUntaken, Refuses, StopsAmong, StopsIn};
+ghost use Rattle.thorin_commands.specs.Opened.{TookAll, TookEach, TookMembers, unit_count};
 ghost use Rattle.thorin_commands.specs.Warned.{TellsAdded, path_of};
 
 use crate::making::{Attempt, settle};

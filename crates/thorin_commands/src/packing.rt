@@ -1,7 +1,7 @@
 //! `thorin pack`: what it is asked for, and the inputs and the package of that.
 
 ghost use Rattle.std.specs.Prelude.{◌≡◌, ◌⊎◌, ◌≤◌, Ok, Some, IfOk, IfErr, map, string_bytes};
-ghost use Rattle.std.specs.Prelude.{true, false, IsTrue, OnOk, option_map};
+ghost use Rattle.std.specs.Prelude.{true, false, IsTrue, option_map};
 ghost use Rattle.std.specs.Path.{path_bytes};
 ghost use Rattle.thorin_output.specs.Files.{Put, Begins};
 ghost use Rattle.thorin_commands.specs.Cause.{IsCauseFor, Refuses, Told, Unfinished};
