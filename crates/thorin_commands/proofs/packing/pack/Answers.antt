@@ -35,15 +35,15 @@ returns-in-Ok-clause-failed g c =
     let named : out_of c.args.packing.now ≡ Some c.as_str-name.result.now =
     rw c.as_str-name.ensures.value c.in_ok-output.ensures.named in
     begun _ _ _ _ c.in-Ok.ensures.ready.made.is named _ _ _ _ _
-    c.in-Err-write_then_warn.failure c.in-Err-write_then_warn.ensures.why
-    c.in-Err-write_then_warn.ensures.begun
+    c.in-Err.failure c.in-Err.ensures.why
+    c.in-Err.ensures.begun
 
 pub returns-in-Ok-clause-why : goal.returns-in-Ok-clause-why
 returns-in-Ok-clause-why g c =
     let named : out_of c.args.packing.now ≡ Some c.as_str-name.result.now =
     rw c.as_str-name.ensures.value c.in_ok-output.ensures.named in
     why_writing _ _ _ _ c.in-Ok.ensures.ready.made.is named _ _ _ _ _
-    c.in-Err-write_then_warn.failure c.in-Err-write_then_warn.ensures.why
+    c.in-Err.failure c.in-Err.ensures.why
 
 pub returns-in-Ok-clause-apart : goal.returns-in-Ok-clause-apart
 returns-in-Ok-clause-apart g c = λ forced.
