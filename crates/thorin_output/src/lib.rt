@@ -2,7 +2,6 @@
 #![tactic(auto)]
 
 mod files;
-mod output;
 mod warnings;
 
 pub use files::FileSystem;

@@ -1,20 +1,18 @@
-//! Warnings, printed once the package is written.
+//! Writing the package's file, and the warnings that are printed once it is written.
 
 ghost use Rattle.std.specs.Prelude.{◌≡◌, ◌++◌, flat_map, string_bytes, OnOk, OnErr, IfOk, IfErr};
 ghost use Rattle.dwp_elf.specs.FileText.{file_text};
 ghost use Rattle.thorin_errors.specs.Text.{hex8};
-ghost use Rattle.thorin_print.specs.Answers.{FailsBy};
 ghost use Rattle.thorin_output.specs.Files.{IsCutShort, IsUnwritten, IsWhyUnwritten, Put, Begins};
 ghost use Rattle.thorin_output.specs.Warnings as spec;
 ghost use Rattle.thorin_output.specs.Warnings.{IsPrinted, IsWarning, count_line, differing_line};
 
 use crate::files::FileSystem;
-use crate::output::write_package;
 use dwp_elf::WritableObject;
 use dwp_table::DebugTypeSignature;
 use std::alloc::{AllocError, Global};
 use std::io::Write;
-use thorin_print::{Failure, LineOutput};
+use thorin_print::{Failure, LineOutput, flush};
 
 /// Which warnings of type units that differ are printed.
 #[derive(Clone, Copy)]
@@ -60,7 +58,7 @@ pub struct Warned<'d> {
 ///
 /// # Errors
 /// `Output`, `Line` or `Memory`.
-#[tactic(auto, using(crate::proofs::Puts::warned))]
+#[tactic(auto, using(crate::proofs::Puts::warned, crate::proofs::Puts::printed))]
 pub fn write_then_warn<F: FileSystem, O: Write, E: LineOutput>(
     files: &mut F,
     object: &WritableObject,
@@ -81,20 +79,39 @@ pub fn write_then_warn<F: FileSystem, O: Write, E: LineOutput>(
         (file_text object.now)) (E.failed err.new)) }
 {
     write_package(files, object, output, out)?;
-    warn(warned, err)?;
-    Ok(())
-}
-
-/// Prints the warnings, and hands them over.
-#[tactic(auto, using(crate::proofs::Puts::printed))]
-fn warn<E: LineOutput>(warned: Warned<'_>, err: &mut E) -> Result<(), Failure>
-    ensures printed { OnOk result (IsPrinted (E.contents err.old) (E.contents err.new)
-        (IsWarning warned.entry)) }
-    ensures blamed { IfErr result (FailsBy (E.failed err.new)) }
-{
     let text = warnings_text(warned)?;
     err.print_text(text.as_str())?;
     err.flush_text()
+}
+
+/// Writes a package to OUT, where `-` is standard output.
+#[tactic(auto, using(crate::proofs::Puts::puts))]
+fn write_package<F: FileSystem, O: Write>(
+    files: &mut F,
+    object: &WritableObject,
+    output: &str,
+    out: &mut O,
+) -> Result<(), Failure>
+    ensures put { OnOk result (Put F.begun O.contents files.old files.new out.old out.new
+        output.now (file_text object.now)) }
+    ensures begun { OnErr result (Begins F.begun O.contents files.old files.new out.old out.new
+        output.now (file_text object.now)) }
+    ensures why { IfErr result (IsWhyUnwritten
+        (IsUnwritten F.begun files.old files.new out.old out.new output.now)
+        (IsCutShort O.contents files.old files.new out.old out.new output.now
+        (file_text object.now)) ⊥) }
+{
+    if output != "-" {
+        files.write_object(object, output)?;
+        return Ok(());
+    }
+    match object.write_to(out) {
+        Ok(()) => {
+            flush(out)?;
+            Ok(())
+        }
+        Err(_) => Err(Failure::Line),
+    }
 }
 
 /// The lines, and behind them those of type units that are asked for.
