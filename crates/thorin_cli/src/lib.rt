@@ -1,27 +1,25 @@
 //! The program `thorin`, as a function over its words and two writers.
 #![tactic(auto)]
 
-ghost use Rattle.std.specs.Prelude.{◌≡◌, map, IfOk, IsSome, string_bytes};
+ghost use Rattle.std.specs.Prelude.{◌≡◌, map, IsSome};
 ghost use Rattle.std.specs.IoError.{error_kind};
 ghost use Rattle.std.specs.declared.io.ErrorKind.TheVariants.{OutOfMemory};
 ghost use Rattle.thorin_print.specs.Answers.{Grows};
 ghost use Rattle.thorin_print.specs.Watching.{LacksLine};
 ghost use Rattle.thorin_print.specs.declared.output.Failure.TheVariants as failures;
 ghost use Rattle.thorin_terminal.specs.Watching.{failure_of};
-ghost use Rattle.thorin_cli.specs.Doing.{Runs, is_name_of_peer, line_of};
+ghost use Rattle.thorin_cli.specs.Doing.{Runs, line_of};
 ghost use Rattle.thorin_cli.specs.Telling.{HasTried, HasTriedOr, inside_text, no_memory};
 ghost use Rattle.thorin_cli.specs.Telling.{ReportsFirst, response_text};
 
-mod manner;
 mod notes;
 mod program;
 mod settings;
 mod system;
 
-pub use crate::manner::{Facts, ProgramManner};
 use crate::notes::{note_response, put_note};
 use crate::program::Program;
-pub use crate::system::{NotedReader, Readers};
+pub use crate::system::{Facts, NotedReader, ProgramManner, Readers};
 use std::alloc::{AllocError, Global};
 use std::convert::AsStr;
 use std::io::{self, Write};
@@ -96,19 +94,14 @@ fn named_program<S: AsStr>(words: &[S]) -> (&str, &[S])
     let Some((program, line)) = words.split_first() else {
         return ("thorin", words);
     };
-    match line.split_first() {
-        Some((name, rest)) if is_peer_name(name.as_str()) && !is_peer(program.as_str()) => {
-            (name.as_str(), rest)
+    if let Some((name, rest)) = line.split_first() {
+        let name = name.as_str();
+        let is_in_folder = name.as_bytes().contains(&b'/');
+        if !is_in_folder && is_peer(name) && !is_peer(program.as_str()) {
+            return (name, rest);
         }
-        _ => (program.as_str(), line),
     }
-}
-
-/// Whether a word is the name of a peer, without folders.
-fn is_peer_name(word: &str) -> bool
-    ensures { result ≡ is_name_of_peer word.now }
-{
-    !word.as_bytes().contains(&b'/') && is_peer(word)
+    (program.as_str(), line)
 }
 
 /// Prints why the words of a command line can't be told.
@@ -132,18 +125,13 @@ fn refuse_file<E: Write>(alloc: Global, err: &mut WatchedLines<E>, name: &str, o
     ensures { HasTriedOr no_memory (E.contents err.old.writer) err.new
         (E.contents err.new.writer) (inside_text name.now others.now) }
 {
-    match inside(alloc, name, others) {
+    let Ok(name) = printed(alloc, name) else {
+        return tell(err, "Out of memory");
+    };
+    match format!(in alloc; "Response file {name} is inside {others}") {
         Ok(text) => tell(err, text.as_str()),
         Err(AllocError) => tell(err, "Out of memory"),
     }
-}
-
-/// What is said of a response file that is inside others.
-fn inside(alloc: Global, name: &str, others: &str) -> Result<String, AllocError>
-    ensures { IfOk result (λ text. string_bytes text ≡ inside_text name.now others.now) }
-{
-    let name = printed(alloc, name)?;
-    format!(in alloc; "Response file {name} is inside {others}")
 }
 
 /// Prints an error of a text.

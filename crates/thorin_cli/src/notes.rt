@@ -255,13 +255,6 @@ pub(crate) fn note_response<P: NotedResponses, E: Write>(
     }
 }
 
-/// Prints why standard output took nothing.
-pub(crate) fn note_output<E: Write>(alloc: Global, cause: &io::Error, err: &mut E)
-    ensures { Grows (E.contents err.old) (E.contents err.new) }
-{
-    note_why(alloc, "standard output", reason(alloc, cause), err);
-}
-
 /// Prints the note on a file that couldn't be read.
 pub(crate) fn note_unread<E: Write>(alloc: Global, name: &str, cause: &io::Error, err: &mut E)
     ensures { Grows (E.contents err.old) (E.contents err.new) }
@@ -273,7 +266,12 @@ pub(crate) fn note_unread<E: Write>(alloc: Global, name: &str, cause: &io::Error
 }
 
 /// Prints a note with a text that had to be made; without it where there was no memory for it.
-fn note_why<E: Write>(alloc: Global, about: &str, why: Result<String, AllocError>, err: &mut E)
+pub(crate) fn note_why<E: Write>(
+    alloc: Global,
+    about: &str,
+    why: Result<String, AllocError>,
+    err: &mut E,
+)
     ensures { Grows (E.contents err.old) (E.contents err.new) }
 {
     match &why {
@@ -287,7 +285,15 @@ fn note_why<E: Write>(alloc: Global, about: &str, why: Result<String, AllocError
 fn note<E: Write>(alloc: Global, about: &str, why: &str, err: &mut E)
     ensures { Grows (E.contents err.old) (E.contents err.new) }
 {
-    if let Ok(line) = note_line(alloc, about, why) {
+    let Ok(about) = printed(alloc, if about.is_empty() { "''" } else { about }) else {
+        return;
+    };
+    let line = if why.is_empty() {
+        format!(in alloc; "note: {about}\n")
+    } else {
+        format!(in alloc; "note: {about}: {why}\n")
+    };
+    if let Ok(line) = line {
         put_note(line.as_str(), err);
     }
 }
@@ -298,14 +304,4 @@ pub(crate) fn put_note<E: Write>(line: &str, err: &mut E)
     ensures { Grows (E.contents err.old) (E.contents err.new) }
 {
     let _ = print(line, err);
-}
-
-/// The line of a note.
-fn note_line(alloc: Global, about: &str, why: &str) -> Result<String, AllocError> {
-    let about = printed(alloc, if about.is_empty() { "''" } else { about })?;
-    if why.is_empty() {
-        format!(in alloc; "note: {about}\n")
-    } else {
-        format!(in alloc; "note: {about}: {why}\n")
-    }
 }

@@ -8,17 +8,16 @@ ghost use Rattle.thorin_cli.specs.Doing.{Answers, DoesCall, DoesPacking, HasStat
 ghost use Rattle.thorin_cli.specs.Doing.{Verifies};
 ghost use Rattle.thorin_cli.specs.Programs.{KeepsPlaces, state_of, system};
 
-use crate::manner::ProgramManner;
-use crate::notes::{Given, note_listed, note_output, note_packing, note_reading, note_refused};
-use crate::settings::{file_count, find_words, form_of, list_form, nameless_units, packing_of};
-use crate::system::NotedReader;
+use crate::notes::{Given, note_listed, note_packing, note_reading, note_refused, note_why};
+use crate::settings::{file_count, form_of, nameless_units, packing_of};
+use crate::system::{NotedReader, ProgramManner};
 use std::alloc::Global;
 use std::fmt;
 use std::io::{self, Write};
 use thorin_arguments::{CheckArguments, Commands, FindArguments, ListArguments, PackArguments};
 use thorin_check::{Reading, check_by};
-use thorin_commands::{Packing, list_missing, pack};
-use thorin_find::{find_by, list_by};
+use thorin_commands::{Packing, list_missing, pack, reason};
+use thorin_find::{FindForm, FindWords, ListForm, find_by, list_by};
 use thorin_print::{Failure, Form, WatchedLines, show};
 use thorin_reading::PlainReader;
 use thorin_terminal::{NotedFiles, ReadingSettings, WatchedWriter};
@@ -73,7 +72,8 @@ impl<F: NotedFiles, R: NotedReader, O: Write, E: Write> Program<'_, '_, '_, F, R
                     return 1;
                 }
                 let status = self.err.report(failure);
-                note_output(self.alloc, &cause, &mut self.err.writer);
+                let why = reason(self.alloc, &cause);
+                note_why(self.alloc, "standard output", why, &mut self.err.writer);
                 status
             }
             _ => self.err.report(failure),
@@ -201,21 +201,38 @@ impl<F: NotedFiles, R: NotedReader, O: Write, E: Write> Commands
     }
 
     fn find(&mut self, arguments: FindArguments<'_>) -> u8 {
-        let file = arguments.file;
+        let FindArguments {
+            file,
+            kind,
+            id,
+            string,
+            section,
+            ..
+        } = arguments;
         let files = PlainReader::new(self.alloc, self.reader, arguments.decompresses);
-        let asked = find_words(arguments);
+        let form = FindForm {
+            string,
+            section,
+            form: form_of(arguments.json),
+        };
+        let asked = FindWords { kind, id, form };
         let answer = find_by(self.alloc, &files, file, asked, self.out);
         let given = Given {
-            kind: arguments.kind,
-            id: arguments.id,
-            wanted: arguments.string.or(arguments.section).unwrap_or(""),
-            ..Given::file(file)
+            file,
+            kind,
+            id,
+            wanted: string.or(section).unwrap_or(""),
         };
         self.status(answer, given, &files)
     }
 
     fn list(&mut self, file: &str, arguments: ListArguments) -> u8 {
-        let form = list_form(arguments);
+        let form = ListForm {
+            sizes: arguments.sizes,
+            names: arguments.names,
+            columns: arguments.columns,
+            form: form_of(arguments.json),
+        };
         let files = PlainReader::new(self.alloc, self.reader, arguments.decompresses);
         let answer = list_by(self.alloc, &files, file, form, self.out);
         if answer.is_ok() {
