@@ -1,28 +1,27 @@
 -- What building a command line keeps of its words, in clap's terms.
 use Rattle.std.proofs.Common.{◌≡◌, ◌∙◌, ◌&&◌, ◌++◌, ap, sym, refl, Bool, true, false, List, [], ◌∷◌}
-use Rattle.std.proofs.Common.{ap₂, is_some, length, map, not, take, ℕ, ◌+◌, ◌<◌}
+use Rattle.std.proofs.Common.{ap₂, drop, is_some, length, map, not, take, ℕ, ◌+◌, ◌<◌}
 use Rattle.std.specs.Borrow.{Bor}
 use Rattle.std.specs.Prelude.{codes, filter_map, fold}
-use Rattle.std.specs.List.{list_all}
 use Rattle.std.proofs.Math.ListN.{get_or}
-use Rattle.std.proofs.lemmas.List.{append-nil, append_assoc, map-append, take_more}
-use Rattle.clap.specs.Words.{AddsArg, AddsInTurn, AddsSubcommand}
-use Rattle.clap.specs.Words.{App, Shape, app_of, rule_of, shape_of, with_rule, with_subcommand}
+use Rattle.std.proofs.lemmas.List.{append_assoc, map-append, take-map, take_more}
+use Rattle.std.proofs.lemmas.List.Sums.{fold-append}
+use Rattle.clap.specs.Words.{AddsArg, AddsSubcommand}
+use Rattle.clap.specs.Simple.{new_shape}
+use Rattle.clap.specs.Words.{App, Shape, app_of, rule_of, with_rule, with_subcommand}
 use Rattle.clap.specs.Walk.{Rule, Text, is_empty, texts}
 use Rattle.clap.specs.declared.builder.arg.Arg.{Arg}
 use Rattle.clap.specs.declared.builder.command.Command.{Command}
 use Rattle.clap.proofs.SimpleLemmas.{is_false}
 use Rattle.clap.proofs.WalkLemmas.{both}
 use Rattle.clap.proofs.OnLiterals.{clap_on_literals}
-use Rattle.thorin_arguments.specs.Grammar.{long_names, peer, peer_words}
-use Rattle.thorin_arguments.specs.Rules.{AreLongNames, ArePeerWords, made, rule_in}
+use Rattle.thorin_arguments.specs.Grammar.{command, long_names, peer, peer_words, thorin}
+use Rattle.thorin_arguments.specs.Rules.{AreLongNames, ArePeerWords, app_in, app_of_words}
+use Rattle.thorin_arguments.specs.Rules.{rule_in, shape_in}
 use Rattle.thorin_arguments.specs.Whole.{is_of_llvm}
-use Rattle.thorin_arguments.specs.declared.words.Word.{Word}
-use Rattle.thorin_arguments.specs.declared.words.Word.TheVariants as words
-
-and-left : (a b : Bool) → a ≡ true → (a && b) ≡ b
-and-left true b e = refl
-and-left false b e = absurd cc
+use Rattle.thorin_arguments.specs.declared.command.Line.{Line}
+use Rattle.thorin_arguments.specs.declared.command.Word.{Word}
+use Rattle.thorin_arguments.specs.declared.command.Word.TheVariants as words
 
 last-of-ten : (a b c d e f g h i j : Bool)
     → (a && (b && (c && (d && (e && (f && (g && (h && (i && j))))))))) ≡ true → j ≡ true
@@ -44,23 +43,6 @@ local x e = is_false x.global (last-of-ten (is_empty x.overrides.items)
     (not (is_some x.terminator)) (not x.allow_hyphen_values) (not x.allow_negative_numbers)
     (not x.require_equals) (not x.last) (not x.global) e)
 
--- arguments that are added in turn
-added : (c d : Command) (xs : List Arg) → AddsInTurn AddsArg c xs d
-    → list_all (λ r. r.is_simple) (map rule_of xs) ≡ true
-    → app_of d ≡ fold with_rule (app_of c) (map rule_of xs)
-added c d [] h all = ap app_of (sym h)
-added c d (x ∷ xs) h all =
-    let p = both (rule_of x).is_simple (list_all (λ r. r.is_simple) (map rule_of xs)) all in
-    added h.0 d xs h.2 p.1
-    ∙ ap (λ a. fold with_rule a (map rule_of xs)) (h.1.shape (local x p.0))
-
-folded : (a : App) (rules : List Rule)
-    → fold with_rule a rules ≡ record a { top = record a.top { rules = a.top.rules ++ rules } }
-folded a [] = λ i. record a { top = record a.top { rules = sym (append-nil a.top.rules) i } }
-folded a (r ∷ rules) = folded (with_rule a r) rules
-    ∙ ap (λ l. record a { top = record a.top { rules = l } })
-    (append_assoc a.top.rules (r ∷ []) rules)
-
 simple : (word : Word) → (rule_in word).is_simple ≡ true
 simple words.Output = refl
 simple (words.Executables help) = refl
@@ -72,48 +54,51 @@ simple (words.Choice name value help values) = refl
 simple words.Inputs = refl
 simple (words.Place name value help) = refl
 
-all_simple : (list : List Word) → list_all (λ r. r.is_simple) (map rule_in list) ≡ true
-all_simple [] = refl
-all_simple (word ∷ list) = and-left _ _ (simple word) ∙ all_simple list
-
--- a command with the arguments of words
-pub with_words : (c d : Command) (args : List Arg) (list : List Word) → AddsInTurn AddsArg c args d
-    → map rule_of args ≡ map rule_in list
-    → app_of d ≡ record (app_of c) {
-      top = record (app_of c).top { rules = (app_of c).top.rules ++ map rule_in list };
-    }
-with_words c d args list h same =
-    added c d args h (ap (list_all (λ r. r.is_simple)) same ∙ all_simple list)
-    ∙ (ap (fold with_rule (app_of c)) same ∙ folded (app_of c) (map rule_in list))
+-- a word more
+pub add_word : (name : Text) (words : List Word) (i : ℕ) (none : Word) (c d : Command) (x : Arg)
+    → i < length words → app_of c ≡ app_of_words name (take i words) → AddsArg c x d
+    → rule_of x ≡ rule_in (get_or words i none) → app_of d ≡ app_of_words name (take (i + 1) words)
+add_word name words i none c d x lt so_far h same =
+    h.shape (local x (ap (λ r. r.is_simple) same ∙ simple (get_or words i none)))
+    ∙ (ap₂ with_rule so_far same ∙ ap (λ l. record { top = command name l; subs = [] })
+    (sym (map-append rule_in (take i words) (get_or words i none ∷ []))
+    ∙ ap (map rule_in) (sym (take_more words i none lt))))
 
 -- commands that are added in turn
-with_commands : (c d : Command) (xs : List Command) → AddsInTurn AddsSubcommand c xs d
-    → list_all (λ s. s.is_plain) (map shape_of xs) ≡ true
-    → app_of d ≡ fold with_subcommand (app_of c) (map shape_of xs)
-with_commands c d [] h all = ap app_of (sym h)
-with_commands c d (x ∷ xs) h all =
-    let p = both _ _ all in
-    let local = is_false _ (both _ _ (both _ _ (both _ _ p.0).1).1).0 in
-    with_commands h.0 d xs h.2 p.1
-    ∙ ap (λ a. fold with_subcommand a (map shape_of xs)) (h.1.shape local)
+abbrev pub added : App → List Line → App
+added a lines = fold with_subcommand a (map shape_in lines)
 
--- the same, of commands as they are made, over what is known of the one that they are added to
-pub with_made : (c d : Command) (xs : List Command) (a : App) (shapes : List Shape)
-    → AddsInTurn AddsSubcommand c xs d → map made xs ≡ shapes → app_of c ≡ a
-    → list_all (λ s. s.is_plain) shapes ≡ true → app_of d ≡ fold with_subcommand a shapes
-unfolding made
-with_made c d xs a shapes h are top plain =
-    with_commands c d xs h (ap (list_all (λ (s : Shape). s.is_plain)) are ∙ plain)
-    ∙ ap₂ (fold with_subcommand) top are
+-- a command more
+pub add_line : (a : App) (lines : List Line) (i : ℕ) (none : Line) (c d own : Command)
+    → i < length lines → app_of c ≡ added a (take i lines) → AddsSubcommand c own d
+    → app_of own ≡ app_in (get_or lines i none) → app_of d ≡ added a (take (i + 1) lines)
+unfolding shape_in
+add_line a lines i none c d own lt so_far h same =
+    let shape = ap (λ (a : App). a.top) same in
+    let plain = ap (λ (s : Shape). s.is_plain) shape in
+    let local = is_false _ (both _ _ (both _ _ (both _ _ plain).1).1).0 in
+    h.shape local ∙ (ap₂ with_subcommand so_far shape
+    ∙ (sym (fold-append with_subcommand a (map shape_in (take i lines))
+    (shape_in (get_or lines i none) ∷ []))
+    ∙ ap (fold with_subcommand a) (sym (map-append shape_in (take i lines)
+    (get_or lines i none ∷ [])) ∙ ap (map shape_in) (sym (take_more lines i none lt)))))
 
--- one more element, behind those so far
-pub one_more : {X Y Z : Type 0} (f : X → Z) (g : Y → Z) (xs : List X) (x : X) (ys : List Y) (i : ℕ)
-    (d : Y) → i < length ys → map f xs ≡ map g (take i ys) → f x ≡ g (get_or ys i d)
-    → map f (xs ++ x ∷ []) ≡ map g (take (i + 1) ys)
-one_more f g xs x ys i d lt so_far e = map-append f xs (x ∷ [])
-    ∙ (ap₂ (λ a b. a ++ b ∷ []) so_far e
-    ∙ (sym (map-append g (take i ys) (get_or ys i d ∷ [])) ∙ ap (map g)
-    (sym (take_more ys i d lt))))
+-- the program's own line, and those of its commands behind it
+pub first_line : (lines : List Line) (none : Line) (which : Bor (List (Bor Text)))
+    → map shape_in lines ≡ command (codes "thorin") [] ∷ (thorin which).subs
+    → app_in (get_or lines 0 none) ≡ app_of_words (codes "thorin") []
+unfolding shape_in
+first_line [] none which is = absurd cc
+first_line (own ∷ parts) none which is =
+    ap (λ (shapes : List Shape). record { top = get_or shapes 0 (new_shape []); subs = [] }) is
+
+pub other_lines : (lines : List Line) (which : Bor (List (Bor Text)))
+    → map shape_in lines ≡ command (codes "thorin") [] ∷ (thorin which).subs
+    → map shape_in (take 4 (drop 1 lines)) ≡ (thorin which).subs
+unfolding thorin
+other_lines [] which is = absurd cc
+other_lines (own ∷ parts) which is = sym (take-map shape_in 4 parts)
+    ∙ ap (λ (shapes : List Shape). take 4 (drop 1 shapes)) is
 
 -- ---- a peer
 

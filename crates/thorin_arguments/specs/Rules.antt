@@ -1,12 +1,11 @@
 -- The words of a command line as this program lists them, in clap's terms.
-use Rattle.std.specs.Prelude.{◌≡◌, Bool, List, codes, map}
+use Rattle.std.specs.Prelude.{◌≡◌, ◌∷◌, Bool, List, [], codes, map}
 use Rattle.std.specs.Borrow.{Bor}
-use Rattle.clap.specs.Simple.{App, Shape, shape_of}
+use Rattle.clap.specs.Simple.{App, Shape}
 use Rattle.clap.specs.Walk.{Rule, Text}
-use Rattle.clap.specs.declared.builder.command.Command.{Command}
 use Rattle.thorin_arguments.specs.Grammar as grammar
-use Rattle.thorin_arguments.specs.declared.words.Word.{Word}
-use Rattle.thorin_arguments.specs.declared.words.Word.TheVariants as words
+use Rattle.thorin_arguments.specs.declared.command.Word.{Word}
+use Rattle.thorin_arguments.specs.declared.command.Word.TheVariants as words
 use Rattle.thorin_arguments.specs.declared.command.Line.{Line}
 
 abbrev pub rule_in : Word → Rule
@@ -30,14 +29,18 @@ ArePeerWords of_llvm list = (which : Bor (List (Bor Text))) × (how : Bor (List 
 abbrev pub AreLongNames : (peer : Text) → List Text → Type 0
 AreLongNames peer names = (app : App) → grammar.IsPeer peer app → names ≡ grammar.long_names app
 
--- a command as it is made, and as its line says
-unfoldable pub made : Command → Shape
-made command = shape_of command
+-- a command line of this name with these words
+abbrev pub app_of_words : Text → List Word → App
+app_of_words name words =
+    record { top = grammar.command name (map rule_in words); subs = [] }
+
+abbrev pub app_in : Line → App
+app_in line = app_of_words line.name.now line.words.now
 
 unfoldable pub shape_in : Line → Shape
-shape_in line = grammar.command line.name.now (map rule_in line.words.now)
+shape_in line = (app_in line).top
 
--- the lines of the commands
+-- the program's own line, and those of its commands
 abbrev pub AreLines : List Line → Type 0
 AreLines lines = (which : Bor (List (Bor Text))) × grammar.AreKinds which
-    × (map shape_in lines ≡ (grammar.thorin which).subs)
+    × (map shape_in lines ≡ grammar.command (codes "thorin") [] ∷ (grammar.thorin which).subs)

@@ -1,31 +1,54 @@
-//! The command lines.
+//! The command lines: their words and texts, and what clap makes of them.
 
-ghost use Rattle.std.specs.Prelude.{◌≡◌, IfOk, map, string_bytes};
+ghost use Rattle.std.specs.Prelude.{◌≡◌, IfOk, Some, map, option_map, string_bytes};
 ghost use Rattle.clap.specs.Walk.{texts};
-ghost use Rattle.clap.specs.Words.{app_of, new_app};
+ghost use Rattle.clap.specs.Words.{app_of, new_rule, rule_of};
 ghost use Rattle.thorin_arguments.specs.Grammar as grammar;
-ghost use Rattle.thorin_arguments.specs.Rules.{AreLines, AreLongNames, ArePeerWords, made};
-ghost use Rattle.thorin_arguments.specs.Rules.{shape_in};
+ghost use Rattle.thorin_arguments.specs.Rules.{AreLines, AreLongNames, ArePeerWords, app_in};
+ghost use Rattle.thorin_arguments.specs.Rules.{rule_in};
 ghost use Rattle.thorin_arguments.specs.Versions.{version_with};
 
+use crate::peers::is_of_llvm;
 use crate::texts::{
     CHECK_EXAMPLES, EXAMPLES, FIND_EXAMPLES, LIST_EXAMPLES, PACK_EXAMPLES, PEER_NOTES,
 };
-use crate::whole::is_of_llvm;
-use crate::words::{Word, args_of, is_named, long_name};
-use clap::Command;
+use clap::{Arg, ArgAction, Command};
 use std::alloc::{AllocError, Global};
 
 pub(crate) const VERSION: &'static str = "1.2.0";
 
 /// A command: its names, what it does, what stands below its options, and its words.
 #[derive(Clone, Copy)]
-struct Line {
-    name: &'static str,
+struct Line<'a> {
+    name: &'a str,
     full_name: &'static str,
     about: &'static str,
     below: &'static str,
     words: &'static [Word],
+}
+
+/// A word that a command line may have.
+#[derive(Clone, Copy)]
+enum Word {
+    /// `-o OUT`.
+    Output,
+    /// `-e EXEC`, as often as one likes, with its help.
+    Executables(&'static str),
+    /// `-v`.
+    Verbose,
+    /// An option without a value: its name and its help.
+    Flag(&'static str, &'static str),
+    /// An option with any value: its name, how help shows the value, its help.
+    Value(&'static str, &'static str, &'static str),
+    /// An option with a value, as often as one likes: its name, how help shows the value, its help.
+    Values(&'static str, &'static str, &'static str),
+    /// An option with one of some values: its name, how help shows the value, its help, the values.
+    /// Help leaves it out where it has no help.
+    Choice(&'static str, &'static str, &'static str, &'static [&'static str]),
+    /// `INPUT`, as often as one likes.
+    Inputs,
+    /// One that must be there at its place: its name, how help shows it, its help.
+    Place(&'static str, &'static str, &'static str),
 }
 
 const FILE: Word = Word::Place("file", "FILE", "The package");
@@ -57,17 +80,6 @@ const ARCHIVES: Word = Word::Flag(
 const SKIP_NAMELESS: Word = Word::Flag("skip-nameless", "Skip units of EXECs that name no object");
 
 const JSON: Word = Word::Flag("json", "Print a JSON object a line");
-
-const SECTION: Word = Word::Value(
-    "section",
-    "SECTION",
-    "Write the unit's bytes of a section instead, as they are",
-);
-
-const COLUMNS: Word = Word::Flag(
-    "columns",
-    "Print sizes in columns, and each total in per cent of the file",
-);
 
 const OVERLAP: Word = Word::Flag(
     "allow-overlap",
@@ -109,7 +121,15 @@ const WARNINGS: Word = Word::Choice(
     &["each", "once", "none"],
 );
 
-const COMMANDS: [Line; 4] = [
+/// The program's own line, and those of its commands.
+const LINES: [Line<'static>; 5] = [
+    Line {
+        name: "thorin",
+        full_name: "thorin",
+        about: "Pack split DWARF objects into DWARF packages, and read such packages",
+        below: EXAMPLES,
+        words: &[],
+    },
     Line {
         name: "pack",
         full_name: "thorin pack",
@@ -148,7 +168,11 @@ const COMMANDS: [Line; 4] = [
             ),
             Word::Place("id", "ID", "The unit's identifier, in hexadecimal"),
             Word::Value("string", "N", "Print the string of a number instead"),
-            SECTION,
+            Word::Value(
+                "section",
+                "SECTION",
+                "Write the unit's bytes of a section instead, as they are",
+            ),
             DECOMPRESS_PACKAGE,
             JSON,
         ],
@@ -164,7 +188,10 @@ const COMMANDS: [Line; 4] = [
                 "Add each unit's size in each kind of section, and totals",
             ),
             Word::Flag("names", "Add the names of each unit's source and object"),
-            COLUMNS,
+            Word::Flag(
+                "columns",
+                "Print sizes in columns, and each total in per cent of the file",
+            ),
             DECOMPRESS_PACKAGE,
             JSON,
             FILE,
@@ -236,28 +263,68 @@ pub(crate) fn version_with(alloc: Global, version: &str, commit: &str) -> Result
     Ok(text)
 }
 
-/// The commands.
-fn lines() -> &'static [Line; 4]
+/// These lines.
+fn lines() -> &'static [Line<'static>; 5]
     ensures { AreLines result.now }
 {
-    &COMMANDS
+    &LINES
 }
 
 /// The program's command line: `pack`, `find`, `list` and `check`.
 pub(crate) fn command<'a>(alloc: Global, version: &'a str) -> Result<Command<'a>, AllocError>
     ensures { IfOk result (λ c. grammar.IsThorin (app_of c)) }
 {
-    let commands = commands_of(alloc, lines())?;
-    titled(
-        alloc,
-        "thorin",
-        "Pack split DWARF objects into DWARF packages, and read such packages",
-        EXAMPLES,
-    )
-    .version(version)
-    .subcommand_required(true)
-    .subcommands(commands)?
-    .bin_name("thorin")
+    let lines = lines();
+    let mut command = command_of(alloc, &lines[0])?
+        .version(version)
+        .subcommand_required(true);
+    let parts = &lines[1..];
+    for line in parts {
+        let part = match command_of(alloc, line) {
+            Ok(part) => part,
+            Err(AllocError) => {
+                drop(command);
+                return Err(AllocError);
+            }
+        };
+        command = command.subcommand(part)?;
+    }
+    command.bin_name("thorin")
+}
+
+/// The command line of `dwp` and `llvm-dwp`, under one of these names. As there, the last of
+/// repeated options counts.
+pub(crate) fn peer<'a>(
+    alloc: Global,
+    name: &'a str,
+    version: &'a str,
+) -> Result<Command<'a>, AllocError>
+    ensures { IfOk result (λ c. grammar.IsPeer name.entry.now (app_of c)) }
+{
+    let line = Line {
+        name,
+        full_name: "",
+        about: "Pack split DWARF objects into a DWARF package",
+        below: PEER_NOTES,
+        words: peer_words(is_of_llvm(name)),
+    };
+    command_of(alloc, &line)?
+        .version(version)
+        .args_override_self(true)
+        .bin_name(name)
+}
+
+/// A command by its line.
+fn command_of<'a>(alloc: Global, line: &Line<'a>) -> Result<Command<'a>, AllocError>
+    ensures { IfOk result (λ c. app_of c ≡ app_in line.now) }
+{
+    let mut command = Command::new(alloc, line.name)
+        .about(line.about)
+        .after_help(line.below);
+    for word in line.words {
+        command = command.arg(arg_of(alloc, *word))?;
+    }
+    Ok(command)
 }
 
 /// The command line of one of the commands alone, as its usage is shown.
@@ -297,50 +364,116 @@ pub(crate) fn long_names(alloc: Global, peer: &str) -> Result<Vec<&'static str>,
     Ok(names)
 }
 
-/// The command line of `dwp` and `llvm-dwp`, under one of these names. As there, the last of
-/// repeated options counts.
-pub(crate) fn peer<'a>(
+/// Whether a word of a command line is the option of this name, behind its dashes.
+fn is_named(word: Word, option: &str) -> bool {
+    let short = match word {
+        Word::Output => "-o",
+        Word::Executables(_) => "-e",
+        Word::Verbose => "-v",
+        _ => "",
+    };
+    match long_name(word) {
+        Some(long) => option == short || option.strip_prefix("--") == Some(long),
+        None => false,
+    }
+}
+
+/// The long name of an option.
+fn long_name(word: Word) -> Option<&'static str>
+    ensures { option_map (λ s. s.now) result ≡ (rule_in word).long }
+{
+    match word {
+        Word::Output => Some("output"),
+        Word::Executables(_) => Some("exec"),
+        Word::Verbose => Some("verbose"),
+        Word::Flag(name, _)
+        | Word::Value(name, _, _)
+        | Word::Values(name, _, _)
+        | Word::Choice(name, _, _, _) => Some(name),
+        Word::Inputs | Word::Place(_, _, _) => None,
+    }
+}
+
+/// A word in clap's terms.
+fn arg_of<'a>(alloc: Global, word: Word) -> Arg<'a>
+    ensures { rule_of result ≡ rule_in word }
+{
+    match word {
+        Word::Output => valued(
+            alloc,
+            "output",
+            "OUT",
+            "The package to write; - for standard output",
+            ArgAction::Set,
+        )
+        .long("output")
+        .short('o'),
+        Word::Executables(help) => valued(alloc, "exec", "EXEC", help, ArgAction::Append)
+            .long("exec")
+            .short('e'),
+        Word::Verbose => flag(alloc, "verbose", "Report each input").short('v'),
+        Word::Flag(name, help) => flag(alloc, name, help),
+        Word::Value(name, value, help) => {
+            valued(alloc, name, value, help, ArgAction::Set).long(name)
+        }
+        Word::Values(name, value, help) => {
+            valued(alloc, name, value, help, ArgAction::Append).long(name)
+        }
+        Word::Choice(name, value, help, values) => choice(alloc, name, value, help, values),
+        Word::Inputs => valued(
+            alloc,
+            "input",
+            "INPUT",
+            "Objects to pack, in order",
+            ArgAction::Append,
+        )
+        .num_args(0..),
+        Word::Place(name, value, help) => {
+            valued(alloc, name, value, help, ArgAction::Set).required(true)
+        }
+    }
+}
+
+/// A word that is a value or has one, which help shows so.
+fn valued<'a>(
     alloc: Global,
     name: &'a str,
-    version: &'a str,
-) -> Result<Command<'a>, AllocError>
-    ensures { IfOk result (λ c. grammar.IsPeer name.entry.now (app_of c)) }
+    value: &'a str,
+    help: &'a str,
+    action: ArgAction,
+) -> Arg<'a>
+    ensures { rule_of result
+        ≡ record (new_rule name.entry.now) { value_names = 1; action = Some action } }
 {
-    let args = args_of(alloc, peer_words(is_of_llvm(name)))?;
-    titled(
-        alloc,
-        name,
-        "Pack split DWARF objects into a DWARF package",
-        PEER_NOTES,
-    )
-    .version(version)
-    .args_override_self(true)
-    .args(args)?
-    .bin_name(name)
+    Arg::new(alloc, name)
+        .value_name(value)
+        .help(help)
+        .action(action)
 }
 
-/// A command with its texts: what it does, and what stands below its options.
-fn titled<'a>(alloc: Global, name: &'a str, about: &'a str, below: &'a str) -> Command<'a>
-    ensures { app_of result ≡ new_app name.entry.now }
+/// An option with one of these values.
+fn choice<'a>(
+    alloc: Global,
+    name: &'a str,
+    value: &'a str,
+    help: &'a str,
+    values: &'a [&'a str],
+) -> Arg<'a>
+    ensures { rule_of result ≡ grammar.chosen name.entry.now values.entry }
 {
-    Command::new(alloc, name).about(about).after_help(below)
+    valued(alloc, name, value, help, ArgAction::Set)
+        .long(name)
+        .value_parser(values)
+        .hide_possible_values(true)
+        .hide(help.is_empty())
 }
 
-/// Commands by their lines.
-fn commands_of<'a>(alloc: Global, lines: &[Line]) -> Result<Vec<Command<'a>>, AllocError>
-    ensures { IfOk result (λ commands. map made commands.items ≡ map shape_in lines.now) }
+/// An option without a value.
+fn flag<'a>(alloc: Global, name: &'a str, help: &'a str) -> Arg<'a>
+    ensures { rule_of result ≡ grammar.flag name.entry.now }
 {
-    let mut commands = Vec::new(alloc);
-    for line in lines {
-        commands.push(command_of(alloc, line)?)?;
-    }
-    Ok(commands)
-}
-
-/// A command by its line.
-fn command_of<'a>(alloc: Global, line: &Line) -> Result<Command<'a>, AllocError>
-    ensures { IfOk result (λ c. made c ≡ shape_in line.now) }
-{
-    let args = args_of(alloc, line.words)?;
-    titled(alloc, line.name, line.about, line.below).args(args)
+    Arg::new(alloc, name)
+        .long(name)
+        .help(help)
+        .action(ArgAction::SetTrue)
 }

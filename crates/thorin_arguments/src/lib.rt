@@ -3,15 +3,10 @@
 
 mod asking;
 mod command;
-mod commands;
 mod peers;
 mod reading;
 mod texts;
-mod whole;
-mod words;
-mod wrong;
 
-pub use asking::{CheckArguments, Commands, FindArguments, ListArguments, PackArguments};
-pub use commands::dispatch;
+pub use asking::{CheckArguments, Commands, FindArguments, ListArguments, PackArguments, dispatch};
 pub use peers::is_peer;
 pub use reading::run;

@@ -1,19 +1,19 @@
-//! What a command line asks for.
+//! A command line is read, and done or refused: by clap, and where options don't go together that
+//! clap takes.
 
-ghost use Rattle.std.specs.Prelude.{◌≡◌, IfOk, List, Option, is_some, option_map};
+ghost use Rattle.std.specs.Prelude.{◌≡◌, ◌||◌, IfOk, List, Option, if◌then◌else◌, is_some};
+ghost use Rattle.std.specs.Prelude.{option_map};
 ghost use Rattle.clap.specs.Walk.{Text};
-ghost use Rattle.clap.specs.Words.{app_of, kind_of};
+ghost use Rattle.clap.specs.Words.{app_of, found_of, kind_of, rows_of};
 ghost use Rattle.thorin_arguments.specs.Asked.{Does, IsCallBy, IsCallOf, words_in};
 ghost use Rattle.thorin_arguments.specs.Grammar.{IsLine, IsText};
 ghost use Rattle.thorin_arguments.specs.Peers.{peer_of};
-ghost use Rattle.thorin_arguments.specs.Reading.{AreReadAs, IsReadAs, IsTested};
+ghost use Rattle.thorin_arguments.specs.Reading.{AreReadAs, IsReadAs, IsTested, are_wrong};
+ghost use Rattle.thorin_arguments.specs.Wrong.{is_given, is_wrong_pack, is_wrong_peer, lack_marks};
 
-use crate::asking::Commands;
+use crate::asking::{Commands, dispatch, has_flag, value_of, values_of};
 use crate::command;
-use crate::commands::dispatch;
-use crate::peers::{is_peer, last_part};
-use crate::whole::completed;
-use crate::wrong::{Wrong, wrong_in, wrong_in_peer};
+use crate::peers::{completed, is_peer, last_part};
 use clap::error::ErrorKind;
 use clap::{ArgMatches, Command, Error};
 use std::alloc::{AllocError, Global};
@@ -57,8 +57,14 @@ fn run_as<C: Commands>(
         → Does C.does (IsCallBy (option_map (λ s. s.now) peer.entry) line) commands.old result
         commands.new }
 {
-    match read(alloc, peer, version, words) {
-        Ok(matches) => dispatch(&matches, peer.is_some(), commands),
+    let is_peer = peer.is_some();
+    let Ok(mut command) = command_line(alloc, peer, version) else {
+        return commands.lack_memory();
+    };
+    let read = read_by(alloc, &mut command, is_peer, words);
+    drop(command);
+    match read {
+        Ok(matches) => dispatch(&matches, is_peer, commands),
         Err(error) if error.kind() == ErrorKind::OutOfMemory => commands.lack_memory(),
         Err(error) if error.use_stderr() => match refusal(alloc, words, version, &error) {
             Ok(text) => commands.refuse(&text),
@@ -138,23 +144,6 @@ fn tip_on(alloc: Global, said: &str, usage: &str) -> Result<String, AllocError> 
     format!(in alloc; "'{word}' is an option of {takers}")
 }
 
-/// Reads the words as a command line, of a peer where one is named.
-fn read<'a>(
-    alloc: Global,
-    peer: Option<&'a str>,
-    version: &'a str,
-    words: &'a [String],
-) -> Result<ArgMatches<'a>, Error>
-    ensures { (line : List Text)
-        → AreReadAs (option_map (λ s. s.now) peer.entry) line (words_in words.now)
-        → IsReadAs (option_map (λ s. s.now) peer.entry) line result }
-{
-    let mut command = command_line(alloc, peer, version)?;
-    let matches = read_by(alloc, &mut command, peer.is_some(), words);
-    drop(command);
-    matches
-}
-
 /// Reads the words by a command line, of a peer where it is one.
 fn read_by<'a>(
     alloc: Global,
@@ -178,7 +167,8 @@ fn read_by<'a>(
     }
 }
 
-/// Whether nothing is wrong with the matches beside what clap tests.
+/// Whether nothing is wrong with the matches beside what clap tests; else what is said of it, with
+/// the usage of the command that it is of.
 fn tested(
     alloc: Global,
     command: &mut Command<'_>,
@@ -187,29 +177,16 @@ fn tested(
 ) -> Result<(), Error>
     ensures { IsTested is_peer matches.now result }
 {
-    if is_peer {
-        return match wrong_in_peer(matches) {
-            Some(wrong) => Err(told(command, wrong)?),
-            None => Ok(()),
-        };
-    }
-    match matches.subcommand() {
-        Some((name, words)) => match wrong_in(name, words) {
-            Some(wrong) => Err(error_of(alloc, name, wrong)?),
-            None => Ok(()),
-        },
-        None => Ok(()),
-    }
-}
-
-/// What is said of wrong words of a command, with its usage.
-fn error_of(alloc: Global, name: &str, wrong: Wrong) -> Result<Error, AllocError>
-    ensures { IfOk result (λ error. ¬ IsText (kind_of error)) }
-{
-    let mut command = command::part(alloc, name)?;
-    let error = told(&mut command, wrong);
-    drop(command);
-    error
+    let Some(wrong) = wrong_in(is_peer, matches) else {
+        return Ok(());
+    };
+    let Some((name, _words)) = matches.subcommand() else {
+        return Err(told(command, wrong)?);
+    };
+    let mut own = command::part(alloc, name)?;
+    let error = told(&mut own, wrong);
+    drop(own);
+    Err(error?)
 }
 
 /// What is said of wrong words of a command line, with its usage.
@@ -247,4 +224,99 @@ fn peer_name(words: &[String]) -> Option<&str>
     } else {
         None
     }
+}
+
+/// What is wrong with the words of a command.
+#[derive(Clone, Copy)]
+enum Wrong {
+    /// One is lacking.
+    Lacks(&'static str),
+    /// The value of one isn't what it has to be.
+    Value(&'static str),
+    /// Two don't go together.
+    Clash(&'static str),
+}
+
+/// What is wrong with the matches of a line, of a peer where it is one, if anything is.
+fn wrong_in(is_peer: bool, matches: &ArgMatches<'_>) -> Option<Wrong>
+    ensures { is_some result ≡ are_wrong is_peer matches.now }
+{
+    if is_peer {
+        return wrong_in_packing(true, matches);
+    }
+    let (name, words) = matches.subcommand()?;
+    match name {
+        "pack" => wrong_in_packing(false, words),
+        "find" if is_given(words, "section") => {
+            if is_given(words, "string") {
+                Some(Wrong::Clash(
+                    "the argument '--section <SECTION>' cannot be used with '--string <N>'",
+                ))
+            } else if has_flag(words, "json") {
+                Some(Wrong::Clash(
+                    "the argument '--section <SECTION>' cannot be used with '--json'",
+                ))
+            } else {
+                None
+            }
+        }
+        "list" if has_flag(words, "columns") => {
+            if has_flag(words, "names") {
+                Some(Wrong::Clash("the argument '--columns' cannot be used with '--names'"))
+            } else if has_flag(words, "json") {
+                Some(Wrong::Clash("the argument '--columns' cannot be used with '--json'"))
+            } else {
+                None
+            }
+        }
+        _ => None,
+    }
+}
+
+/// What is wrong with the words of `pack` or of a peer, for which a single executable names the
+/// package.
+fn wrong_in_packing(is_peer: bool, matches: &ArgMatches<'_>) -> Option<Wrong>
+    ensures { is_some result ≡ (if is_peer then is_wrong_peer (rows_of (found_of matches.now))
+        else is_wrong_pack (rows_of (found_of matches.now))) }
+{
+    let lists_missing = has_flag(matches, "missing");
+    if !lists_missing && !is_given(matches, "output") {
+        let executables = values_of(matches, "exec").unwrap_or(&[]).len();
+        if is_peer && executables > 1 {
+            return Some(Wrong::Lacks(
+                "--output <OUT> is required with more than one --exec <EXEC>",
+            ));
+        }
+        if !is_peer || executables == 0 {
+            return Some(Wrong::Lacks(
+                "the following required arguments were not provided:\n  --output <OUT>",
+            ));
+        }
+    }
+    if lists_missing && !is_given(matches, "exec") {
+        Some(Wrong::Value("--missing needs --exec <EXEC>"))
+    } else if lack_marks(matches) {
+        Some(Wrong::Value("the value of --prefix-map <FROM=TO> has no `=`"))
+    } else if has_flag(matches, "last-macros") && has_flag(matches, "no-macros") {
+        Some(Wrong::Clash("the argument '--last-macros' cannot be used with '--no-macros'"))
+    } else {
+        None
+    }
+}
+
+/// Whether an option with a value is given.
+fn is_given(matches: &ArgMatches<'_>, name: &str) -> bool
+    ensures { result ≡ is_given (rows_of (found_of matches.now)) name.now }
+{
+    value_of(matches, name).is_some()
+}
+
+/// Whether one of the words FROM=TO has no `=`.
+fn lack_marks(matches: &ArgMatches<'_>) -> bool
+    ensures { result ≡ lack_marks (rows_of (found_of matches.now)) }
+{
+    values_of(matches, "prefix-map")
+        .unwrap_or(&[])
+        .iter()
+        .any(|word| !word.as_bytes().contains(&b'='))
 }

@@ -1,16 +1,20 @@
-use Rattle.std.proofs.Common.{◌∙◌, ◌++◌, ap, map}
-use Rattle.std.proofs.lemmas.Result.{IfOk-weaker}
-use Rattle.clap.specs.Words.{App}
-use Rattle.thorin_arguments.specs.Rules.{made, rule_in, shape_in}
-use Rattle.thorin_arguments.proofs.Rules.{with_words}
+use Rattle.std.proofs.Common.{◌∙◌, ap, arith}
+use Rattle.std.proofs.lemmas.List.{take_all}
+use Rattle.clap.specs.Simple.{app_of_fields}
+use Rattle.thorin_arguments.specs.Rules.{app_of_words}
+use Rattle.thorin_arguments.proofs.Rules.{add_word}
 use Rattle.thorin_arguments.proofs.command.command_of.Goals as goal
 
+pub loop-word-init : goal.loop-word-init
+loop-word-init c = ap app_of_fields c.after_help-command.ensures
+    ∙ (ap app_of_fields c.about.ensures ∙ c.new.ensures.app)
+
+pub loop-word-preserved : goal.loop-word-preserved
+loop-word-preserved c = add_word c.args.line.now.name.now c.args.line.now.words.now
+    c.loop-word.word-index _ c.loop-word.command c.in_ok-command.command c.arg_of.result
+    (omega (arith, c.loop-word-test.true)) c.loop-word.invariant c.in_ok-command.ensures
+    c.arg_of.ensures
+
 pub returns : goal.returns
-unfolding made shape_in
-returns c =
-    let words = c.args.line.now.words.now in
-    IfOk-weaker c.args-2.result _ _ (λ d h. ap (λ (a : App). a.top)
-    (with_words c.titled.result d c.in_ok-args.args.items words h c.in_ok-args.ensures
-    ∙ ap (λ (a : App). record a {
-      top = record a.top { rules = a.top.rules ++ map rule_in words };
-    }) c.titled.ensures)) c.args-2.ensures
+returns c = c.loop-word.invariant ∙ ap (app_of_words c.args.line.now.name.now)
+    (take_all c.loop-word.word-index c.args.line.now.words.now (omega arith))

@@ -1,7 +1,7 @@
 use Rattle.std.proofs.Common.{◌∙◌}
 use Rattle.clap.specs.Words.{found_of}
 use Rattle.thorin_arguments.proofs.Getters.{flag_read}
-use Rattle.thorin_arguments.proofs.commands.has_flag.Goals as goal
+use Rattle.thorin_arguments.proofs.asking.has_flag.Goals as goal
 
 pub returns : goal.returns
 returns c = c.unwrap_or.ensures

@@ -1,6 +1,6 @@
 use Rattle.std.proofs.Common.{◌∙◌, ap, is_some}
 use Rattle.thorin_arguments.proofs.Completing.{kept}
-use Rattle.thorin_arguments.proofs.wrong.is_given.Goals as goal
+use Rattle.thorin_arguments.proofs.reading.is_given.Goals as goal
 
 pub returns : goal.returns
 returns c = c.is_some.ensures

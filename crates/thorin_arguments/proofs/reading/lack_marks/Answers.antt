@@ -8,7 +8,7 @@ use Rattle.std.proofs.lemmas.Iterator.Search.{any_from_yields_List}
 use Rattle.clap.proofs.WalkLemmas.{list_any-map}
 use Rattle.clap.specs.Walk.{Text}
 use Rattle.thorin_arguments.specs.Wrong.{lacks_mark}
-use Rattle.thorin_arguments.proofs.wrong.lack_marks.Goals as goal
+use Rattle.thorin_arguments.proofs.reading.lack_marks.Goals as goal
 
 in_values : (o : Option (Bor (List (Bor Text)))) (none : Bor (List (Bor Text)))
     (all : Option (List Text)) → option_map (λ s. map (λ v. v.now) s.now) o ≡ all → none.now ≡ []

@@ -1,7 +1,7 @@
 use Rattle.std.proofs.Common.{arith}
 use Rattle.std.proofs.lemmas.Str.Pattern.{strip_prefix_char}
 use Rattle.clap.proofs.LexerLemmas.{strip_byte-from}
-use Rattle.thorin_arguments.proofs.whole.behind_dash.Goals as goal
+use Rattle.thorin_arguments.proofs.peers.behind_dash.Goals as goal
 
 pub returns : goal.returns
 returns c = strip_byte-from 45 c.args.word.now c.strip_prefix.result

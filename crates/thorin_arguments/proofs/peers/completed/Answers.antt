@@ -3,7 +3,7 @@ use Rattle.std.proofs.lemmas.Grind.{common_steps}
 use Rattle.clap.specs.Walk.{texts}
 use Rattle.thorin_arguments.specs.Asked.{words_in}
 use Rattle.thorin_arguments.specs.Whole.{completed}
-use Rattle.thorin_arguments.proofs.whole.completed.Goals as goal
+use Rattle.thorin_arguments.proofs.peers.completed.Goals as goal
 
 pub returns : goal.returns
 returns c = λ app line.

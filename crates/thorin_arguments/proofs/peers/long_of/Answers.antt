@@ -4,7 +4,7 @@ use Rattle.std.specs.Prelude.{option_and_then}
 use Rattle.std.proofs.lemmas.Str.Pattern.{split_parts}
 use Rattle.clap.specs.Lexer.{long_of, long_of_rest, name_and_value, strip_byte}
 use Rattle.clap.proofs.LexerLemmas.{name_and_value-without}
-use Rattle.thorin_arguments.proofs.whole.long_of.Goals as goal
+use Rattle.thorin_arguments.proofs.peers.long_of.Goals as goal
 
 behind_dashes : (word first rest : List ℕ) → Some first ≡ strip_byte 45 word
     → Some rest ≡ strip_byte 45 first → (length rest == 0) ≡ false

@@ -3,7 +3,7 @@ use Rattle.std.specs.Prelude.{filter, if◌then◌else◌}
 use Rattle.std.specs.Str.{IsUtf8}
 use Rattle.clap.specs.Walk.{texts}
 use Rattle.thorin_arguments.specs.Whole.{begins}
-use Rattle.thorin_arguments.proofs.whole.whole_name.Given as goal
+use Rattle.thorin_arguments.proofs.peers.whole_name.Given as goal
 
 -- those that begin so: the one that was met, and those that are left
 abbrev pub invariant-loop-other : goal.invariant-loop-other
