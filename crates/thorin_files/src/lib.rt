@@ -1,7 +1,6 @@
 //! Files of the system, read whole and written in one another's place.
 #![tactic(auto)]
 
-mod beside;
 mod reading;
 mod writing;
 

@@ -31,8 +31,7 @@ pub fn read(rt: &HostRuntime, path: &str) -> io::Result<Vec<u8>> {
 /// # Errors
 /// As those of `read`.
 pub fn read_over(rt: &HostRuntime, path: Path<'_>, room: &mut Vec<u8>) -> io::Result<()> {
-    let len = length_told(rt, path, false)?;
-    let mut file = File::open(rt, path)?;
+    let (mut file, len) = opened(rt, path, false)?;
     read_whole(&mut file, len, room)
 }
 
@@ -42,8 +41,7 @@ pub fn read_over(rt: &HostRuntime, path: Path<'_>, room: &mut Vec<u8>) -> io::Re
 /// # Errors
 /// As those of `read`; `Unsupported` also for a pipe, a socket and a directory.
 pub fn read_regular_over(rt: &HostRuntime, path: Path<'_>, room: &mut Vec<u8>) -> io::Result<()> {
-    let len = length_told(rt, path, true)?;
-    let mut file = File::open(rt, path)?;
+    let (mut file, len) = opened(rt, path, true)?;
     room.truncate(0);
     if len > 0 {
         read_whole(&mut file, len, room)?;
@@ -56,8 +54,7 @@ pub fn read_regular_over(rt: &HostRuntime, path: Path<'_>, room: &mut Vec<u8>) -
 /// # Errors
 /// As those of `read_regular_over`.
 pub fn try_regular(rt: &HostRuntime, path: Path<'_>) -> io::Result<()> {
-    let len = length_told(rt, path, true)?;
-    let mut file = File::open(rt, path)?;
+    let (mut file, len) = opened(rt, path, true)?;
     if len > 0 {
         let mut byte = [0];
         read_once(&mut file, &mut byte)?;
@@ -75,8 +72,8 @@ pub fn read_within(rt: &HostRuntime, path: &str, limit: u32) -> io::Result<Optio
 {
     let most = u64::from(limit);
     let mut bytes = Vec::new(rt.alloc());
-    let len = length_told(rt, Path::new(path), false)?;
-    let mut front = File::open(rt, path)?.take(most + 1);
+    let (file, len) = opened(rt, Path::new(path), false)?;
+    let mut front = file.take(most + 1);
     read_whole(&mut front, len.min(most), &mut bytes)?;
     if bytes.len() as u64 <= most {
         Ok(Some(bytes))
@@ -102,19 +99,19 @@ pub fn identity(rt: &HostRuntime, path: &str) -> Option<(u64, u64)> {
     Some((metadata.dev(), metadata.ino()))
 }
 
-/// How long the file at a path is said to be, 0 where nothing is there: that is left to the system
-/// to refuse. A device is refused before it is opened, and all but a regular file where one is
-/// asked for.
-fn length_told(rt: &HostRuntime, path: Path<'_>, only_regular: bool) -> io::Result<u64> {
-    let Ok(metadata) = fs::metadata(rt, path) else {
-        return Ok(0);
-    };
-    let kind = metadata.file_type();
-    let is_refused = only_regular && !kind.is_file();
-    if is_refused || kind.is_char_device() || kind.is_block_device() {
-        return Err(io::Error::from(ErrorKind::Unsupported));
+/// Opens the file at a path, and tells how long it is said to be: 0 where the system tells nothing.
+/// A device is refused before it is opened, and all but a regular file where one is asked for.
+fn opened(rt: &HostRuntime, path: Path<'_>, only_regular: bool) -> io::Result<(File, u64)> {
+    let mut len = 0;
+    if let Ok(metadata) = fs::metadata(rt, path) {
+        let kind = metadata.file_type();
+        let is_refused = only_regular && !kind.is_file();
+        if is_refused || kind.is_char_device() || kind.is_block_device() {
+            return Err(io::Error::from(ErrorKind::Unsupported));
+        }
+        len = metadata.len();
     }
-    Ok(metadata.len())
+    Ok((File::open(rt, path)?, len))
 }
 
 /// Reads all that is left, which is about `len` bytes, into room that is made once: a byte more
