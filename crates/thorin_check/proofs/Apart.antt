@@ -1,7 +1,7 @@
 -- Ranges that don't overlap, unless they are the same, and are read alike.
 use Rattle.std.proofs.Common.{◌≡◌, ◌⊎◌, ◌∙◌, ℕ, ◌+◌, ◌-◌, ◌^◌, ◌<◌, ◌≤◌, min, true, false, List, []}
-use Rattle.std.proofs.Common.{◌∷◌, length, get_or, take, Option, Some, None, Result, Ok, Err}
-use Rattle.std.proofs.Common.{Bool, ◌||◌, not, refl, sym, inl, inr, arith, below_more, nat_eq}
+use Rattle.std.proofs.Common.{◌∷◌, length, get_or, take, Option, Some, None, Result, Ok, Err, Bool}
+use Rattle.std.proofs.Common.{◌||◌, not, refl, sym, inl, inr, arith, below_more, nat_eq}
 use Rattle.std.specs.List.{AllPairs, Contains}
 use Rattle.std.specs.List.Sorted.{IsPermutation}
 use Rattle.std.proofs.lemmas.Bool.Decides.{nat_tests}
@@ -17,7 +17,7 @@ use Rattle.dwp_bytes.specs.declared.error.ReadError.{ReadError}
 use Rattle.dwp_index.specs.Index.{Index, Ranges, row_in, range_in, contribution, column_place}
 use Rattle.dwp_index.specs.Package.{Package, index_for}
 use Rattle.dwp_index.specs.declared.units.UnitEntry.{UnitEntry}
-use Rattle.thorin_check.specs.Placed.{IsSame, IsApart, IsLast, HasRange, HasRanges, tables_by}
+use Rattle.thorin_check.specs.Apart.{IsSame, IsApart, IsLast, HasRange, HasRanges, tables_by}
 use Rattle.thorin_check.specs.Apart.{AreApartIn, AreApart, AreReadAlike}
 use Rattle.thorin_check.specs.Overlaps.{overlap, row_range, range_by_index, same_range, slot_range}
 use Rattle.thorin_check.specs.declared.overlaps.Placed.{Placed}

@@ -1,27 +1,179 @@
--- What was checked.
-use Rattle.std.proofs.Common.{◌≡◌, ℕ, zero, suc, get_or, ◌<◌, Bool, true, false, List, [], ◌∷◌}
-use Rattle.std.proofs.Common.{Option, Result, Ok, Err, Bor, refl, length, inl, inr, arith}
-use Rattle.std.proofs.Common.{append_assoc, subst}
+-- What was told of the units that an executable names, and what was checked.
+use Rattle.std.proofs.Common.{◌≡◌, ◌≢◌, List, [], ◌∷◌, ◌++◌, ℕ, Option, Some, None, Result, Ok, Err}
+use Rattle.std.proofs.Common.{◌+◌, ◌<◌, ◌≤◌, length, OnOk, Bool, true, false, arith, refl}
+use Rattle.std.proofs.Common.{append_assoc, append-nil, zero, suc, get_or, Bor, inl, inr, subst}
+use Rattle.std.proofs.lemmas.Bool.Decides.{nat_tests}
+use Rattle.dwp_index.specs.Package.{Package, FoundUnit, found, package_of}
+use Rattle.dwp_index.specs.declared.error.PackageError.{PackageError}
+use Rattle.thorin_executable.specs.Skeletons.{Named, Listed, skeletons_by}
+use Rattle.thorin_errors.specs.Answers.{MemoryAside}
+use Rattle.thorin_errors.specs.Errors.{ErrorValue, error_of}
+use Rattle.thorin_errors.specs.declared.error.Error.{Error}
+use Rattle.thorin_errors.specs.declared.error.Error.TheVariants.{Memory}
+use Rattle.thorin_check.specs.Faults.{missing_text, missing_faults, IsBroken, TellsEnd}
+use Rattle.thorin_check.specs.Faults.{longest_path, long_size, long_bytes, TellsListed, TellsNamed}
+use Rattle.thorin_check.specs.Faults.{bare_fault, room_of}
+use Rattle.thorin_print.specs.Answers.{Outcome, IsOfPrinting, Grows, Prints}
+use Rattle.thorin_check.specs.Rendering.{FaultValue, of_unit}
+use Rattle.thorin_check.specs.Telling.{Progress, Told, Tells, Is, IsFault, fault_count, TellsOr}
+use Rattle.thorin_check.proofs.Told.{told_as, told_then, stopped_behind, counted_from}
 use Rattle.std.specs.declared.io.Error.{Error as IoError}
 use Rattle.std.proofs.KnownBytes.{Appends-trans, Keeps-refl}
-use Rattle.dwp_index.specs.Package.{Package, package_of}
-use Rattle.dwp_index.specs.declared.error.PackageError.{PackageError}
 use Rattle.dwp_index.specs.declared.units.UnitEntry.{UnitEntry}
-use Rattle.thorin_executable.specs.Skeletons.{skeletons_by}
 use Rattle.thorin_find.specs.Files.{Offer, FailsToRead}
 use Rattle.thorin_find.specs.Listing.{has_no_index, AreByRow}
-use Rattle.thorin_check.specs.Executables.{Executables}
+use Rattle.thorin_check.specs.Sound.{Executables}
 use Rattle.thorin_check.specs.Checking.{TellsExecutable, TellsPackage, FailsOne, IsOfReading}
 use Rattle.thorin_check.specs.Checking.{IsOfChecking, Finishes, ChecksIndexed, Checks}
-use Rattle.thorin_check.specs.Faults.{TellsNamed, room_of}
-use Rattle.thorin_print.specs.Answers.{IsOfPrinting, Grows, Outcome, Prints}
-use Rattle.thorin_check.specs.Telling.{fault_count, Progress, Told, TellsOr, Tells}
 use Rattle.thorin_check.specs.declared.executables.Reading.{Reading}
 use Rattle.thorin_print.specs.declared.output.Failure.{Failure}
 use Rattle.thorin_print.specs.declared.output.Failure.TheVariants as failures
-use Rattle.thorin_check.proofs.Told.{told_as, stopped_behind, counted_from}
 use Rattle.thorin_check.proofs.Sound.{no_fault_told, no_fault, some_fault}
 use Rattle.thorin_print.proofs.Printed.{none_grown}
+
+module _ (executable : List ℕ) (named : Named)
+    (looked : Result (Option FoundUnit) PackageError) where
+  pub missing_some : (unit : FoundUnit) → looked ≡ Ok (Some unit)
+      → [] ≡ missing_faults executable named looked
+  missing_some unit e = rw e refl
+
+  pub missing_unread : (cause : PackageError) → looked ≡ Err cause
+      → [] ≡ missing_faults executable named looked
+  missing_unread cause e = rw e refl
+
+  pub missing_none : looked ≡ Ok None → (text : List ℕ)
+      → text ≡ missing_text executable named.1
+      → of_unit named.0 text ∷ [] ≡ missing_faults executable named looked
+  missing_none e text is = rw (e, is) refl
+
+long_is : (path : List ℕ) → longest_path < length path → long_size path ≡ length path
+long_is path long = grind (arith, nat_tests)
+
+-- the end behind one more, that takes some room
+end_behind : (executable : List ℕ) (room less : ℕ) (x : Named) (first : List Named)
+    (left : Listed) (faults : List FaultValue) → room ≤ less + long_size x.1
+    → TellsEnd executable less first left faults → TellsEnd executable room (x ∷ first) left faults
+end_behind executable room less x first ([], None) faults fits h = h
+end_behind executable room less x first ([], Some error) faults fits h = h
+end_behind executable room less x first (named ∷ left, end) faults fits h =
+    let over : less < long_bytes (first ++ (named ∷ [])) = h.1 in
+    (h.0, omega (arith, over, fits), h.2)
+
+module _ (pack : Package) (executable : List ℕ) where
+  -- no unit is left, but the end
+  at_end : {end : Option ErrorValue} (room : ℕ) (left : Listed) (faults : List FaultValue)
+      → left ≡ ([], end) → TellsEnd executable room [] ([], end) faults
+      → TellsListed pack executable room left faults
+  at_end room left faults e h = rw e (record {
+    first = [];
+    left = [];
+    split = refl;
+    ended = faults;
+    end = h;
+    all = refl;
+  })
+
+  -- behind the first of some
+  behind_first : (room left : ℕ) (first : Named) (after : Listed) (ms more : List FaultValue)
+      → room ≤ left + long_size first.1
+      → Is (missing_faults executable first (found pack first.0)) ms
+      → TellsListed pack executable left after more
+      → TellsListed pack executable room (first ∷ after.0, after.1) (ms ++ more)
+  behind_first room left first after ms more fits k t = record {
+    first = first ∷ t.first;
+    left = t.left;
+    split = rw t.split refl;
+    ended = t.ended;
+    end = end_behind executable room left first t.first (t.left, after.1) t.ended fits t.end;
+    all = rw (t.all, k, append_assoc) refl;
+  }
+
+  -- the path of the first of some is too long
+  long_first : (room : ℕ) (first : Named) (after : Listed) (faults : List FaultValue)
+      → longest_path < length first.1 → room < length first.1 → IsBroken executable faults
+      → TellsListed pack executable room (first ∷ after.0, after.1) faults
+  long_first room first after faults long over broken =
+      let size = long_is first.1 long in
+      let all : room < long_bytes (first ∷ []) = omega (arith, size, over) in
+      record {
+        first = [];
+        left = first ∷ after.0;
+        split = refl;
+        ended = faults;
+        end = (long, all, broken);
+        all = refl;
+      }
+
+  module _ (whole : ℕ) (all : Listed) where
+    -- nothing is told yet; or what is told of those that are left makes, behind these faults, what
+    -- is told of all
+    abbrev pub GoesOn : (is_first : Bool) → (room : ℕ) → (left : Listed) → List FaultValue → Type 0
+    GoesOn true room left faults = (faults ≡ []) × (left ≡ all) × (room ≡ whole)
+    GoesOn false room left faults = (more : List FaultValue)
+        → TellsListed pack executable room left more
+        → TellsNamed pack executable whole all (faults ++ more)
+
+    module _ (is_first : Bool) (room : ℕ) (left after : Listed) (first : Named)
+        (split : left ≡ (first ∷ after.0, after.1)) where
+      on_some : (b : Bool) (ls more : List FaultValue) → GoesOn b room left ls
+          → TellsListed pack executable room (first ∷ after.0, after.1) more
+          → TellsNamed pack executable whole all (ls ++ more)
+      on_some true ls more h t = rw (h.0, ← h.1, ← h.2, split) t
+      on_some false ls more h t = h more (rw split t)
+
+      pub on_next : (less : ℕ) → room ≤ less + long_size first.1 → (ls ms : List FaultValue)
+          → GoesOn is_first room left ls
+          → Is (missing_faults executable first (found pack first.0)) ms
+          → GoesOn false less after (ls ++ ms)
+      on_next less fits ls ms h k = λ more t. rw (append_assoc ls ms more)
+          (on_some is_first ls (ms ++ more) h (behind_first room less first after ms more fits k t))
+
+      pub on_long : longest_path < length first.1 → room < length first.1
+          → (ls ms : List FaultValue) → GoesOn is_first room left ls → IsBroken executable ms
+          → TellsNamed pack executable whole all (ls ++ ms)
+      on_long long over ls ms h broken =
+          on_some is_first ls ms h (long_first room first after ms long over broken)
+
+    module _ (room : ℕ) (left : Listed) where
+      pub on_end : left ≡ ([], None) → (ls : List FaultValue) → GoesOn false room left ls
+          → TellsNamed pack executable whole all ls
+      on_end e ls h = rw append-nil at (h [] (at_end room left [] e refl))
+
+      pub on_bare : left ≡ ([], None) → (ls ms : List FaultValue) → GoesOn true room left ls
+          → IsFault (bare_fault executable) ms → TellsNamed pack executable whole all (ls ++ ms)
+      on_bare e ls ms h is = rw (h.0, ← h.1, e) is
+
+      on_broken : (is_first : Bool) (error : ErrorValue) → left ≡ ([], Some error)
+          → (ls ms : List FaultValue) → GoesOn is_first room left ls → IsBroken executable ms
+          → TellsNamed pack executable whole all (ls ++ ms)
+      on_broken true error e ls ms h broken =
+          rw (h.0, ← h.1, e) (at_end whole ([], Some error) ms refl broken)
+      on_broken false error e ls ms h broken = h ms (at_end room left ms e broken)
+
+      pub broken_behind : (is_first : Bool) {a b : Progress} (c : Progress) (error : Error)
+          (result : Outcome)
+          → Told (GoesOn is_first room left) a b
+          → MemoryAside error (left ≡ ([], Some (error_of error)))
+          → OnOk result (error ≢ Memory) → Tells (IsBroken executable) b c result
+          → Tells (TellsNamed pack executable whole all) a c result
+      broken_behind is_first c error (Ok done) p aside known h =
+          told_then (on_broken is_first (error_of error) (aside known)) p h
+      broken_behind is_first c error (Err failure) p aside known h =
+          stopped_behind c.written p h
+
+  -- the error that they begin with was told
+  pub named_broken : (room : ℕ) (listed : Listed) (a b : Progress) (error : Error)
+      (result : Outcome) → MemoryAside error (listed ≡ ([], Some (error_of error)))
+      → OnOk result (error ≢ Memory) → Tells (IsBroken executable) a b result
+      → Tells (TellsNamed pack executable room listed) a b result
+  named_broken room listed a b error (Ok done) aside known h = rw (aside known)
+      (told_as h (λ faults broken. at_end room ([], Some (error_of error)) faults refl broken))
+  named_broken room listed a b error (Err failure) aside known h = h
+
+-- one that was left is left no more
+pub left_shorter : (left after : Listed) (first : Named) → left ≡ (first ∷ after.0, after.1)
+    → length after.0 < length left.0
+left_shorter left after first e = rw e (omega arith)
 
 module _ (offer : Offer) where
   -- ---- failures

@@ -20,13 +20,12 @@ use Rattle.thorin_print.specs.Answers.{Outcome}
 use Rattle.dwp_table.specs.Columns.{contribution_kinds}
 use Rattle.thorin_check.specs.Apart.{AreApart}
 use Rattle.thorin_check.specs.Checking.{TellsStringsOfAll, TellsSlot, TellsSlots, TellsUnits}
-use Rattle.thorin_check.specs.Gathered.{TellsListed, Listed, IsOfUnit, IsGathered}
+use Rattle.thorin_check.specs.Gathered.{TellsListed, Listed, IsOfUnit, IsGathered, IsSeen, GoesOn}
+use Rattle.thorin_check.specs.Gathered.{IsGatheredIn, TellsSeen}
 use Rattle.thorin_check.specs.Faults.{TellsStringsOf, TellsUnit}
 use Rattle.thorin_check.specs.Texts.{TellsText, IsTextOf}
 use Rattle.thorin_check.specs.Rendering.{FaultValue}
-use Rattle.thorin_check.specs.Seen.{IsSeen, GoesOn, IsGatheredIn, TellsSeen}
-use Rattle.thorin_check.specs.Distinct.{number_of, IsBehind}
-use Rattle.thorin_check.specs.Strings.{HasOffsets, ShareNone, IsRangeOfOne}
+use Rattle.thorin_check.specs.Strings.{number_of, IsBehind, HasOffsets, ShareNone, IsRangeOfOne}
 use Rattle.thorin_check.specs.declared.units.Seen.{Seen}
 use Rattle.thorin_check.specs.Telling.{Progress, Told, Tells, ForEach}
 use Rattle.thorin_check.specs.declared.strings.StringRange.{StringRange}

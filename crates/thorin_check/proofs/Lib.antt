@@ -1,12 +1,8 @@
 pub mod Apart
 pub mod Checked
 pub mod Distinct
-pub mod Faulted
-pub mod FoundUnits
 pub mod NamedRows
 pub mod Own
-pub mod Reached
 pub mod SharedStrings
-pub mod Skeletons
 pub mod Sound
 pub mod Told

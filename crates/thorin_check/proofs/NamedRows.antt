@@ -8,8 +8,8 @@ use Rattle.std.specs.Ordering.{nat_cmp}
 use Rattle.std.proofs.lemmas.Bool.Decides.{nat_tests}
 use Rattle.std.proofs.lemmas.List.{get_or_default, map-append}
 use Rattle.std.proofs.lemmas.List.Elements.{All-nil, All-append, All-from_get_or}
-use Rattle.std.proofs.lemmas.List.Elements.{Contains-append_left}
-use Rattle.std.proofs.lemmas.List.Elements.{Contains-append_right, Contains-get_or}
+use Rattle.std.proofs.lemmas.List.Elements.{Contains-append_left, Contains-append_right}
+use Rattle.std.proofs.lemmas.List.Elements.{Contains-get_or}
 use Rattle.std.proofs.lemmas.List.FromFn.{map-range_with_len_more, get_or-range_with_len}
 use Rattle.std.proofs.lemmas.List.FromFn.{length-range_with_len}
 use Rattle.std.proofs.lemmas.List.Sorted.{IsNonDecreasingBy-from_sort}
@@ -21,13 +21,12 @@ use Rattle.dwp_table.specs.declared.object.DwoId.{DwoId}
 use Rattle.dwp_table.specs.declared.object.DwarfObject.TheVariants.{Compilation, TypeUnit}
 use Rattle.thorin_check.specs.Texts.{TellsWhat}
 use Rattle.thorin_check.specs.Faults.{row_text, row_fault, is_of, IsNamed, IsUnnamed, TellsRowsOf}
+use Rattle.thorin_check.specs.Faults.{is_next, row_faults}
 use Rattle.thorin_check.specs.Rendering.{FaultValue}
-use Rattle.thorin_check.specs.Rows.{is_next, row_faults}
 use Rattle.thorin_check.specs.Telling.{Progress, Told, Tells, Is, IsFault}
 use Rattle.thorin_find.specs.Listing.{place_by, place_of_line}
 use Rattle.thorin_print.specs.Answers.{Outcome, IsOfPrinting}
-use Rattle.thorin_check.proofs.Faulted.{what_told}
-use Rattle.thorin_check.proofs.Told.{none_told, then_or, told_then, told_as}
+use Rattle.thorin_check.proofs.Told.{what_told, none_told, then_or, told_then, told_as}
 
 -- ---- rows that are told one after the other
 

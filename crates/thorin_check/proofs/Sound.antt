@@ -26,10 +26,10 @@ use Rattle.thorin_find.specs.Files.{Offer}
 use Rattle.thorin_find.specs.Finding.{string_count, string_of}
 use Rattle.thorin_find.specs.Listing.{AreByRow}
 use Rattle.thorin_check.specs.Apart.{AreApartIn, AreApart}
-use Rattle.thorin_check.specs.Checking.{TellsSlot, TellsSlots, TellsStringsOfAll}
-use Rattle.thorin_check.specs.Checking.{TellsPackage, TellsExecutable, TellsExecutables}
-use Rattle.thorin_check.specs.Checking.{lacking_faults, status_of}
-use Rattle.thorin_check.specs.Executables.{Executables}
+use Rattle.thorin_check.specs.Checking.{TellsSlot, TellsSlots, TellsStringsOfAll, TellsPackage}
+use Rattle.thorin_check.specs.Checking.{TellsExecutable, TellsExecutables, status_of}
+use Rattle.thorin_check.specs.Sound.{Executables, slots, IsSoundUnit, AreNamed, NameOnce}
+use Rattle.thorin_check.specs.Sound.{HasUnitsOf, IsSound}
 use Rattle.thorin_check.specs.Faults.{IsUnread, TellsItself, is_bare, TellsInRow, TellsFound}
 use Rattle.thorin_check.specs.Faults.{TellsLooked, TellsUnit, missing_faults, TellsEnd, TellsListed}
 use Rattle.thorin_check.specs.Faults.{room_of, TellsNamed, TellsOwn, TellsString, TellsNumbered}
@@ -37,16 +37,15 @@ use Rattle.thorin_check.specs.Faults.{strings_of, TellsStrings, TellsStringsOf, 
 use Rattle.thorin_check.specs.Faults.{TellsRowsOf}
 use Rattle.thorin_check.specs.Ends.{AllEnd}
 use Rattle.thorin_check.specs.Indexes.{versions_faults, mixed_versions, column_faults, lacks_column}
+use Rattle.thorin_check.specs.Indexes.{section_faults}
 use Rattle.dwp_table.specs.Columns.{contribution_kinds}
 use Rattle.thorin_check.specs.Own.{own_of}
 use Rattle.thorin_check.specs.Strings.{HasStringsOf}
 use Rattle.thorin_check.proofs.SharedStrings.{range_ends, all_ends}
 use Rattle.thorin_check.specs.Rendering.{FaultValue}
-use Rattle.thorin_check.specs.Sound.{slots, IsSoundUnit, AreNamed, NameOnce, HasUnitsOf, IsSound}
-use Rattle.thorin_check.proofs.Own.{own_once}
+use Rattle.thorin_check.proofs.Own.{own_once, row_of_found}
 use Rattle.thorin_check.specs.Telling.{InTurn, ForEach, Is, fault_count}
 use Rattle.thorin_check.specs.declared.executables.Reading.{Reading}
-use Rattle.thorin_check.proofs.FoundUnits.{row_of_found}
 
 -- ---- no faults
 
@@ -252,18 +251,14 @@ module _ (offer : Offer) (reading : Reading) (pack : Package) where
 
 -- ---- a package
 
-lacks_none : (kind : SectionKind) (lacks : Bool) → Is (lacking_faults kind lacks) [] → lacks ≡ false
-lacks_none kind true h = absurd (some_told _ _ h)
-lacks_none kind false h = refl
+none_wrong : (kind : SectionKind) (is_so : Bool) (what : List ℕ)
+    → Is (section_faults kind is_so what) [] → is_so ≡ false
+none_wrong kind true what h = absurd (some_told _ _ h)
+none_wrong kind false what h = refl
 
 one_version : (versions : Option (ℕ × ℕ)) → Is (versions_faults versions) [] → versions ≡ None
 one_version None h = refl
 one_version (Some versions) h = absurd (some_told _ _ h)
-
-has_column_of : (kind : SectionKind) (lacks : Bool) → Is (column_faults kind lacks) []
-    → lacks ≡ false
-has_column_of kind true h = absurd (some_told _ _ h)
-has_column_of kind false h = refl
 
 map_none : {X Y : Type 0} (f : X → Y) (xs : List X) → [] ≡ map f xs → xs ≡ []
 map_none f [] e = refl
@@ -328,12 +323,14 @@ no_fault_told offer executables pack entries by_row t =
         types_named = rows_named pack entries by_row (codes "tu") true pack.types rows.1;
         compilations_once = named_once pack sound false;
         types_once = named_once pack sound true;
-        has_abbreviations = rw as_many at (lacks_none kinds.Abbrev _ sections.0);
-        has_strings = lacks_none kinds.Str _ sections.1;
+        has_abbreviations = rw as_many at (none_wrong kinds.Abbrev _
+            (codes " is empty or absent") sections.0);
+        has_strings = none_wrong kinds.Str _ (codes " is empty or absent") sections.1;
         one_version = one_version (mixed_versions pack) indexes.0;
         has_columns = All-weaker (λ kind. Is (column_faults kind (lacks_column pack kind)) [])
             (λ kind. lacks_column pack kind ≡ false)
-            (λ kind. has_column_of kind (lacks_column pack kind)) contribution_kinds
+            (λ kind. none_wrong kind (lacks_column pack kind)
+            (codes ": no index has a column for it")) contribution_kinds
             (none_for_each (λ kind. Is (column_faults kind (lacks_column pack kind)))
             contribution_kinds indexes.1);
       };

@@ -1,11 +1,10 @@
 -- What `check` prints.
-use Rattle.std.specs.Prelude.{◌≡◌, ◌≢◌, ◌⊎◌, ℕ, Bool, true, false, ◌==◌, List, [], ◌∷◌, ◌++◌}
-use Rattle.std.specs.Prelude.{codes, length, if◌then◌else◌, Option, Result, Ok, Err}
+use Rattle.std.specs.Prelude.{◌≡◌, ◌≢◌, ◌⊎◌, ℕ, Bool, true, false, ◌==◌, List, [], ◌∷◌, ◌++◌, codes}
+use Rattle.std.specs.Prelude.{length, if◌then◌else◌, Option, Result, Ok, Err}
 use Rattle.std.specs.Borrow.{Bor}
 use Rattle.std.specs.List.{AllPairs, flat_map}
 use Rattle.std.specs.declared.io.Error.{Error as IoError}
 use Rattle.std.specs.Io.KnownBytes.{Appends, Keeps}
-use Rattle.dwp_base.specs.Sections.{name_of}
 use Rattle.dwp_base.specs.declared.section.SectionKind.{SectionKind}
 use Rattle.dwp_base.specs.declared.section.SectionKind.TheVariants.{Abbrev, Str}
 use Rattle.dwp_index.specs.Package.{Package, package_of, found}
@@ -15,7 +14,7 @@ use Rattle.dwp_table.specs.declared.object.DwarfObject.{DwarfObject}
 use Rattle.thorin_executable.specs.Skeletons.{skeletons_by}
 use Rattle.thorin_find.specs.Files.{Offer, RefusesFile}
 use Rattle.thorin_print.specs.declared.form.Form.{Form}
-use Rattle.thorin_check.specs.Rendering.{FaultValue, of_package, fault_text, totals_text}
+use Rattle.thorin_check.specs.Rendering.{FaultValue, fault_text, totals_text}
 use Rattle.thorin_check.specs.Faults.{TellsUnit, TellsStringsOf, TellsRowsOf, row_end, TellsNamed}
 use Rattle.thorin_check.specs.Faults.{lacks_abbreviations, lacks_strings, room_of}
 use Rattle.thorin_find.specs.Listing.{AreByRow, has_no_index}
@@ -23,9 +22,8 @@ use Rattle.thorin_print.specs.Answers.{Grows, IsOfPrinting}
 use Rattle.thorin_check.specs.Telling.{InTurn, ForEach, Is, fault_count}
 use Rattle.dwp_table.specs.Columns.{contribution_kinds}
 use Rattle.thorin_check.specs.Apart.{AreApart}
-use Rattle.thorin_check.specs.Executables.{Executables}
-use Rattle.thorin_check.specs.Indexes.{TellsIndexes}
-use Rattle.thorin_check.specs.Sound.{IsSound}
+use Rattle.thorin_check.specs.Sound.{Executables, IsSound}
+use Rattle.thorin_check.specs.Indexes.{TellsIndexes, section_faults}
 use Rattle.thorin_check.specs.Strings.{HasStringsIn, ShareNone}
 use Rattle.thorin_check.specs.declared.executables.Reading.{Reading}
 use Rattle.thorin_print.specs.declared.output.Failure.{Failure}
@@ -65,12 +63,8 @@ TellsRows pack entries =
     InTurn (TellsRowsOf (codes "cu") false (row_end pack.compilations) entries)
     (TellsRowsOf (codes "tu") true (row_end pack.types) entries)
 
-unfoldable pub lacking_text : SectionKind → List ℕ
-lacking_text kind = name_of kind ++ codes " is empty or absent"
-
 abbrev pub lacking_faults : SectionKind → (lacks : Bool) → List FaultValue
-lacking_faults kind true = of_package (lacking_text kind) ∷ []
-lacking_faults kind false = []
+lacking_faults kind lacks = section_faults kind lacks (codes " is empty or absent")
 
 -- what is told of the sections of abbreviations and of strings
 abbrev pub TellsSections : (no_abbreviations no_strings : Bool) → List FaultValue → Type 0

@@ -1,19 +1,24 @@
 -- The units of a package whose strings are still to be checked.
-use Rattle.std.specs.Prelude.{◌≡◌, ◌⊎◌, ℕ, List, Option, Some, None, Result}
+use Rattle.std.specs.Prelude.{◌≡◌, ◌⊎◌, ℕ, List, Option, Some, None, Result, [], Ok}
 use Rattle.std.specs.List.{All, Contains, AllPairs}
 use Rattle.std.specs.Result.{result_err}
 use Rattle.dwp_base.specs.declared.section.SectionKind.TheVariants.{Str, StrOffsets}
 use Rattle.dwp_bytes.specs.StringOffsets.{string_in}
 use Rattle.dwp_bytes.specs.declared.error.ReadError.{ReadError}
 use Rattle.dwp_index.specs.Contents.{content}
-use Rattle.dwp_index.specs.Package.{Package, FoundUnit, part_of}
+use Rattle.dwp_index.specs.Package.{Package, FoundUnit, part_of, found}
 use Rattle.dwp_table.specs.declared.object.DwarfObject.{DwarfObject}
-use Rattle.thorin_check.specs.Reach.{HasEnds}
+use Rattle.thorin_check.specs.Ends.{HasEnds}
 use Rattle.thorin_check.specs.declared.strings.StringRange.{StringRange}
 use Rattle.thorin_check.specs.declared.strings.UnreadStrings.{UnreadStrings}
 use Rattle.thorin_check.specs.Strings.{HasOffsets, IsRangeOfOne, ShareNone, range_of}
 use Rattle.thorin_check.specs.Rendering.{FaultValue}
 use Rattle.thorin_check.specs.Checking.{TellsStringsOfAll}
+use Rattle.dwp_index.specs.declared.error.PackageError.{PackageError}
+use Rattle.dwp_index.specs.declared.units.UnitEntry.{UnitEntry}
+use Rattle.thorin_check.specs.Faults.{TellsUnit}
+use Rattle.thorin_check.specs.Remembered.{Knows}
+use Rattle.thorin_check.specs.declared.units.Seen.{Seen}
 
 abbrev pub Listed : Type 0
 Listed = List (StringRange × DwarfObject)
@@ -67,3 +72,31 @@ pub record TellsListed (pack : Package) (listed : Listed) (faults : List FaultVa
   pub once : AllPairs (ShareNone pack) objects
   pub told : TellsStringsOfAll pack objects faults
   pub others : (range : StringRange) → Lists listed range → IsRangeOfOne pack objects range
+
+-- ---- what is remembered of the units of a package
+
+-- what is remembered of a package is so
+pub record IsSeen (pack : Package) (seen : Seen) : Type 0 where
+  pub knows : Knows pack seen.abbreviations
+  pub gathers : Gathers pack seen.strings
+
+-- and what was gathered before still is
+pub record GoesOn (pack : Package) (old new : Seen) : Type 0 where
+  pub seen : IsSeen pack new
+  pub kept : (range : StringRange) → IsGathered pack old.strings.unread.items range
+      → IsGathered pack new.strings.unread.items range
+
+-- the string offsets of a unit are gathered, where it has some
+abbrev pub Gathered : Package → Listed → FoundUnit → Type 0
+Gathered pack listed unit =
+    (range : StringRange) → range_of unit ≡ Some range → IsGathered pack listed range
+
+-- the same of a unit that is found
+abbrev pub IsGatheredIn : Package → Listed → Result (Option FoundUnit) PackageError → Type 0
+IsGatheredIn pack listed (Ok (Some unit)) = Gathered pack listed unit
+IsGatheredIn pack listed _ = Unit {0}
+
+-- what is told of a unit that a slot names; where that is nothing, its string offsets are gathered
+abbrev pub TellsSeen : Package → Listed → UnitEntry → List FaultValue → Type 0
+TellsSeen pack listed entry faults = TellsUnit pack entry faults
+    × (faults ≡ [] → IsGatheredIn pack listed (found pack entry.object))

@@ -1,7 +1,7 @@
 -- What `check` tells of the indexes of a package, apart from their rows and slots: two versions,
 -- and sections that no column is for.
-use Rattle.std.specs.Prelude.{ℕ, Bool, false, not, ◌&&◌, ◌||◌, ◌==◌, if◌then◌else◌, List, []}
-use Rattle.std.specs.Prelude.{◌∷◌, ◌++◌, codes, length, Option, Some, None, is_some}
+use Rattle.std.specs.Prelude.{ℕ, Bool, false, not, ◌&&◌, ◌||◌, ◌==◌, if◌then◌else◌, List, [], ◌∷◌}
+use Rattle.std.specs.Prelude.{◌++◌, codes, length, Option, Some, None, is_some}
 use Rattle.std.specs.Fmt.{decimal}
 use Rattle.dwp_base.specs.Sections.{name_of}
 use Rattle.dwp_base.specs.declared.section.SectionKind.{SectionKind}
@@ -44,11 +44,12 @@ abbrev pub lacks_column : Package → SectionKind → Bool
 lacks_column pack kind = not (length (content pack.contents kind) == 0)
     && not (has_column kind pack.compilations || has_column kind pack.types)
 
-unfoldable pub column_text : SectionKind → List ℕ
-column_text kind = name_of kind ++ codes ": no index has a column for it"
+-- a fault of a section, where that is so
+abbrev pub section_faults : SectionKind → (is_so : Bool) → (what : List ℕ) → List FaultValue
+section_faults kind is_so what = if is_so then of_package (name_of kind ++ what) ∷ [] else []
 
 abbrev pub column_faults : SectionKind → (lacks : Bool) → List FaultValue
-column_faults kind lacks = if lacks then of_package (column_text kind) ∷ [] else []
+column_faults kind lacks = section_faults kind lacks (codes ": no index has a column for it")
 
 -- what is told of these sections
 abbrev pub TellsColumns : Package → List SectionKind → List FaultValue → Type 0

@@ -7,10 +7,9 @@ use Rattle.thorin_print.specs.Lines.{hex16, line_end}
 use Rattle.thorin_print.specs.Spelled.{spelled}
 use Rattle.thorin_print.specs.declared.form.Form.{Form}
 use Rattle.thorin_print.specs.declared.form.Form.TheVariants.{Lines, Json}
-use Rattle.thorin_find.specs.Lines.{json_unit}
-use Rattle.thorin_find.specs.Lines.{short_kind}
-use Rattle.thorin_check.specs.declared.rendering.Fault.{Fault}
-use Rattle.thorin_check.specs.declared.rendering.Fault.TheVariants as faults
+use Rattle.thorin_find.specs.Lines.{json_unit, short_kind}
+use Rattle.thorin_check.specs.declared.faults.Fault.{Fault}
+use Rattle.thorin_check.specs.declared.faults.Fault.TheVariants as faults
 
 -- what is wrong: with a unit, with the package apart from a unit, with an executable
 pub data FaultValue : Type 0 where

@@ -11,13 +11,24 @@ use Rattle.dwp_table.specs.Columns.{contribution_kinds}
 use Rattle.thorin_executable.specs.Skeletons.{skeletons_by}
 use Rattle.thorin_check.specs.Apart.{AreApart}
 use Rattle.thorin_check.specs.Ends.{AllEnd}
-use Rattle.thorin_check.specs.Executables.{Executables}
 use Rattle.thorin_check.specs.Faults.{is_bare, lacks_abbreviations, lacks_strings, is_of, IsNamed}
 use Rattle.thorin_check.specs.Faults.{row_end}
 use Rattle.thorin_check.specs.Indexes.{mixed_versions, lacks_column}
 use Rattle.thorin_check.specs.Own.{own_of}
 use Rattle.thorin_check.specs.declared.executables.Reading.{Reading}
 use Rattle.thorin_find.specs.Files.{Offer}
+use Rattle.std.specs.Borrow.{Bor}
+use Rattle.thorin_check.specs.declared.executables.ExecutableSet.{ExecutableSet}
+
+-- the executables whose units a package is to have: their paths, and how they are read; and how
+-- faults are printed
+pub record Executables : Type 0 where
+  pub paths : List (Bor (List ℕ))
+  pub reading : Reading
+
+-- those at hand
+abbrev pub executables_of : ExecutableSet → Executables
+executables_of named = record { paths = named.executables.now; reading = named.reading }
 
 -- the used slots of both indexes, each with the unit and the row that it names (DWARF 5, 7.3.5.3)
 abbrev pub slots : Package → List UnitEntry

@@ -1,6 +1,6 @@
 -- The strings of a package's units, by the string offsets that they share (DWARF 5, 7.26).
 use Rattle.std.specs.Prelude.{◌≡◌, ◌⊎◌, Bool, true, false, List, Option, Some, Result, Ok}
-use Rattle.std.specs.Prelude.{option_map}
+use Rattle.std.specs.Prelude.{option_map, ℕ, ◌+◌, ◌*◌, ◌^◌, ◌<◌, if◌then◌else◌, None}
 use Rattle.std.specs.List.{Contains}
 use Rattle.dwp_base.specs.declared.section.Contribution.{Contribution}
 use Rattle.dwp_base.specs.declared.section.SectionKind.TheVariants.{StrOffsets}
@@ -63,3 +63,15 @@ abbrev pub HasStringsIn : Package → List DwarfObject → Result (Option FoundU
     PackageError → Type 0
 HasStringsIn pack objects (Ok (Some unit)) = HasStringsOf pack objects unit
 HasStringsIn pack objects _ = Unit {0}
+
+-- ---- string offsets in order, so that the same ones stand together
+
+-- the numbers of string offsets, as one
+abbrev pub number_of : StringRange → ℕ
+number_of range = ((range.offset * 2 ^ 64 + range.size) * 2 ^ 16 + range.version) * 2
+    + (if is_wide range.format then 1 else 0)
+
+-- string offsets come behind others, if there are some
+abbrev pub IsBehind : Option StringRange → StringRange → Type 0
+IsBehind None range = Unit {0}
+IsBehind (Some before) range = number_of before < number_of range

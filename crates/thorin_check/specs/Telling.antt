@@ -1,6 +1,6 @@
 -- Faults that are told one after the other, and how many these are.
-use Rattle.std.specs.Prelude.{◌≡◌, ℕ, ◌+◌, ◌-◌, ◌^◌, min, List, [], ◌∷◌, ◌++◌, length, Option}
-use Rattle.std.specs.Prelude.{Ok, Err, string_bytes}
+use Rattle.std.specs.Prelude.{◌≡◌, ℕ, ◌+◌, ◌-◌, ◌^◌, min, List, [], ◌∷◌, ◌++◌, length, Option, Ok}
+use Rattle.std.specs.Prelude.{Err, string_bytes}
 use Rattle.std.specs.List.{flat_map}
 use Rattle.std.specs.Io.KnownBytes.{Appends}
 use Rattle.thorin_print.specs.declared.form.Form.{Form}
@@ -26,8 +26,8 @@ pub record Progress : Type 0 where
   pub waiting : List ℕ
   pub count : ℕ
 
-abbrev pub progress : Option (List ℕ) → Faults → Progress
-progress written faults = record {
+abbrev pub so_far : Option (List ℕ) → Faults → Progress
+so_far written faults = record {
   form = faults.form;
   written = written;
   waiting = string_bytes faults.waiting;

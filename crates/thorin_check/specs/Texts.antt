@@ -1,6 +1,6 @@
 -- Texts that were made for faults.
-use Rattle.std.specs.Prelude.{◌≡◌, ℕ, List, [], ◌∷◌, ◌++◌, codes, Option, Some, None}
-use Rattle.std.specs.Prelude.{Result, Ok, Err, String, string_bytes}
+use Rattle.std.specs.Prelude.{◌≡◌, ℕ, List, [], ◌∷◌, ◌++◌, codes, Option, Some, None, Result, Ok}
+use Rattle.std.specs.Prelude.{Err, String, string_bytes}
 use Rattle.std.specs.Global.{Global}
 use Rattle.dwp_base.specs.Sections.{name_of}
 use Rattle.dwp_index.specs.declared.error.PackageError.{PackageError}

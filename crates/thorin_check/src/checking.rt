@@ -1,15 +1,14 @@
 //! `thorin check`.
 
 ghost use Rattle.std.specs.Prelude.{◌≡◌, string_bytes};
-ghost use Rattle.thorin_check.specs.Checking.{TellsPackage, IsOfChecking, Finishes};
-ghost use Rattle.thorin_check.specs.Checking.{ChecksIndexed, Checks, status_of};
-ghost use Rattle.thorin_check.specs.Executables.{executables_of};
+ghost use Rattle.thorin_check.specs.Checking.{TellsPackage, IsOfChecking, Finishes, ChecksIndexed};
+ghost use Rattle.thorin_check.specs.Checking.{Checks, status_of};
+ghost use Rattle.thorin_check.specs.Sound.{executables_of};
 ghost use Rattle.thorin_find.specs.Listing.{AreByRow};
-ghost use Rattle.thorin_check.specs.Telling.{progress, TellsOr};
+ghost use Rattle.thorin_check.specs.Telling.{so_far, TellsOr};
 
 use crate::executables::{ExecutableSet, Reading, check_executables};
-use crate::faults::Faults;
-use crate::rendering::put_totals;
+use crate::faults::{Faults, put_totals};
 use crate::tables::check_tables;
 use crate::units::check_units;
 use dwp_index::{PackageFile, UnitEntry};
@@ -111,8 +110,7 @@ fn check_all<F: FileReader, O: Write>(
     ensures { TellsOr (IsOfChecking (F.offer files.now) named.entry.executables.now)
         (TellsPackage (F.offer files.now) (executables_of named.entry) indexed.entry.pack.now
         indexed.entry.entries.now)
-        (progress (O.contents out.old) faults.old) (progress (O.contents out.new) faults.new)
-        result }
+        (so_far (O.contents out.old) faults.old) (so_far (O.contents out.new) faults.new) result }
 {
     check_units(indexed, faults, out)?;
     check_tables(indexed, faults, out)?;

@@ -1,19 +1,19 @@
 //! The units that executables name, in `thorin check`.
 
-ghost use Rattle.std.specs.Prelude.{◌≡◌, ◌≢◌, ◌<◌, ◌≤◌, ◌+◌, true, false, length, IfOk};
-ghost use Rattle.std.specs.Prelude.{OnOk, string_bytes};
+ghost use Rattle.std.specs.Prelude.{◌≡◌, ◌≢◌, ◌<◌, ◌≤◌, ◌+◌, true, false, length, IfOk, OnOk};
+ghost use Rattle.std.specs.Prelude.{string_bytes};
 ghost use Rattle.dwp_index.specs.Package.{found};
 ghost use Rattle.thorin_executable.specs.Skeletons.{skeletons_by};
 ghost use Rattle.thorin_errors.specs.declared.error.Error.TheVariants.{Memory};
 ghost use Rattle.thorin_check.specs.Checking.{IsOfChecking, IsOfReading, TellsExecutables};
 ghost use Rattle.thorin_check.specs.Checking.{TellsExecutable};
-ghost use Rattle.thorin_check.specs.Faults.{TellsNamed, missing_text, missing_faults};
-ghost use Rattle.thorin_check.specs.Faults.{IsBroken, bare_fault, longest_path};
-ghost use Rattle.thorin_check.specs.Faults.{long_size, room_of};
-ghost use Rattle.thorin_check.specs.Telling.{progress, Tells, TellsOr, Is, IsFault};
+ghost use Rattle.thorin_check.specs.Faults.{TellsNamed, missing_text, missing_faults, IsBroken};
+ghost use Rattle.thorin_check.specs.Faults.{longest_path, long_size, room_of};
+ghost use Rattle.thorin_check.specs.Rendering.{of_executable};
+ghost use Rattle.thorin_print.specs.Shown.{shown};
+ghost use Rattle.thorin_check.specs.Telling.{so_far, Tells, TellsOr, Is, IsFault};
 
-use crate::faults::{Faults, some, tell, tell_fault};
-use crate::rendering::Fault;
+use crate::faults::{Fault, Faults, some, tell, tell_fault};
 use bumpalo::Bump;
 use dwp_bytes::RelocationEntry;
 use dwp_index::PackageFile;
@@ -72,8 +72,7 @@ pub(crate) fn check_executables<F: FileReader, O: Write>(
 ) -> Result<(), Failure>
     ensures { TellsOr (IsOfChecking (F.offer files.now) named.entry.executables.now)
         (TellsExecutables (F.offer files.now) named.entry.reading pack.now named.entry.executables.now)
-        (progress (O.contents out.old) faults.old) (progress (O.contents out.new) faults.new)
-        result }
+        (so_far (O.contents out.old) faults.old) (so_far (O.contents out.new) faults.new) result }
 {
     for i in 0..named.executables.len() {
         let naming = Naming {
@@ -97,8 +96,7 @@ fn check_executable<F: FileReader, O: Write>(
 ) -> Result<(), Failure>
     ensures { TellsOr (IsOfReading (F.offer files.now) naming.entry.executable.now)
         (TellsExecutable (F.offer files.now) reading naming.entry.pack.now naming.entry.executable.now)
-        (progress (O.contents out.old) faults.old) (progress (O.contents out.new) faults.new)
-        result }
+        (so_far (O.contents out.old) faults.old) (so_far (O.contents out.new) faults.new) result }
 {
     let bytes = read_named(files, naming.executable)?;
     let bump = Bump::new(alloc);
@@ -123,8 +121,8 @@ fn check_named<'s, Sess: Session<RelocationEntry>, O: Write>(
     out: &mut O,
 ) -> Result<(), Failure>
     ensures { Tells (TellsNamed naming.entry.pack.now naming.entry.executable.now
-        (room_of bytes.now) (skeletons_by nameless bytes.now)) (progress (O.contents out.old) faults.old)
-        (progress (O.contents out.new) faults.new) result }
+        (room_of bytes.now) (skeletons_by nameless bytes.now)) (so_far (O.contents out.old) faults.old)
+        (so_far (O.contents out.new) faults.new) result }
 {
     let alloc = *faults.waiting.allocator();
     match NamedUnits::read_by(alloc, session, bytes, nameless) {
@@ -147,8 +145,7 @@ fn check_listed<O: Write>(
 ) -> Result<(), Failure>
     ensures { Tells (TellsNamed naming.entry.pack.now naming.entry.executable.now room
         units.old.listed)
-        (progress (O.contents out.old) faults.old) (progress (O.contents out.new) faults.new)
-        result }
+        (so_far (O.contents out.old) faults.old) (so_far (O.contents out.new) faults.new) result }
 {
     let mut left = room;
     let mut is_first = true;
@@ -165,7 +162,7 @@ fn check_listed<O: Write>(
             }
             Ok(None) => {
                 if is_first {
-                    return tell_bare(naming.executable, faults, out);
+                    return tell_of(naming.executable, "no split units", faults, out);
                 }
                 return Ok(());
             }
@@ -195,7 +192,7 @@ fn has_room(room: &mut usize, is_free: bool, path: &str) -> bool
 
 /// A unit that an executable names is in the package; what a slot names and can't be read was told
 /// with its unit.
-#[tactic(auto, using(crate::proofs::Told::none_told, crate::proofs::Faulted::made, crate::proofs::Faulted::text_told, crate::proofs::Skeletons::missing_none, crate::proofs::Skeletons::missing_some, crate::proofs::Skeletons::missing_unread))]
+#[tactic(auto, using(crate::proofs::Told::none_told, crate::proofs::Told::made, crate::proofs::Told::text_told, crate::proofs::Checked::missing_none, crate::proofs::Checked::missing_some, crate::proofs::Checked::missing_unread))]
 fn check_skeleton<O: Write>(
     naming: Naming<'_, '_>,
     object: DwarfObject,
@@ -204,8 +201,8 @@ fn check_skeleton<O: Write>(
     out: &mut O,
 ) -> Result<(), Failure>
     ensures { Tells (Is (missing_faults naming.entry.executable.now (object, path.now)
-        (found naming.entry.pack.now object))) (progress (O.contents out.old) faults.old)
-        (progress (O.contents out.new) faults.new) result }
+        (found naming.entry.pack.now object))) (so_far (O.contents out.old) faults.old)
+        (so_far (O.contents out.new) faults.new) result }
 {
     match naming.pack.find(object) {
         Ok(None) => {
@@ -229,17 +226,20 @@ fn missing_text(alloc: Global, executable: &str, path: &str) -> Result<String, A
     format!(in alloc; "not in the package, {executable} names {path}")
 }
 
-/// Tells that an executable names no split unit.
-fn tell_bare<O: Write>(executable: &str, faults: &mut Faults, out: &mut O) -> Result<(), Failure>
-    ensures { Tells (IsFault (bare_fault executable.now))
-        (progress (O.contents out.old) faults.old) (progress (O.contents out.new) faults.new)
-        result }
+/// Tells what is wrong with an executable.
+fn tell_of<O: Write>(
+    executable: &str,
+    what: &str,
+    faults: &mut Faults,
+    out: &mut O,
+) -> Result<(), Failure>
+    ensures { Tells (IsFault (of_executable (shown executable.now) what.now))
+        (so_far (O.contents out.old) faults.old) (so_far (O.contents out.new) faults.new) result }
 {
     let Ok(name) = shown(*faults.waiting.allocator(), executable) else {
         return Err(Failure::Memory);
     };
-    let fault = Fault::Executable(name.as_str(), "no split units");
-    tell_fault(fault, faults, out)
+    tell_fault(Fault::Executable(name.as_str(), what), faults, out)
 }
 
 /// Tells why an executable can't be read to its end.
@@ -249,8 +249,8 @@ fn tell_error<O: Write>(
     faults: &mut Faults,
     out: &mut O,
 ) -> Result<(), Failure>
-    ensures told { Tells (IsBroken executable.now) (progress (O.contents out.old) faults.old)
-        (progress (O.contents out.new) faults.new) result }
+    ensures told { Tells (IsBroken executable.now) (so_far (O.contents out.old) faults.old)
+        (so_far (O.contents out.new) faults.new) result }
     ensures known { OnOk result (error.now ≢ Memory) }
 {
     if matches!(error, Error::Memory) {
@@ -263,23 +263,18 @@ fn tell_error<O: Write>(
 }
 
 /// Tells why an executable isn't read to its end.
-#[tactic(auto, using(crate::proofs::Faulted::broken))]
+#[tactic(auto, using(crate::proofs::Told::broken))]
 fn tell_broken<O: Write>(
     executable: &str,
     cause: &str,
     faults: &mut Faults,
     out: &mut O,
 ) -> Result<(), Failure>
-    ensures { Tells (IsBroken executable.now) (progress (O.contents out.old) faults.old)
-        (progress (O.contents out.new) faults.new) result }
+    ensures { Tells (IsBroken executable.now) (so_far (O.contents out.old) faults.old)
+        (so_far (O.contents out.new) faults.new) result }
 {
-    let alloc = *faults.waiting.allocator();
-    let Ok(text) = printed(alloc, cause) else {
+    let Ok(text) = printed(*faults.waiting.allocator(), cause) else {
         return Err(Failure::Memory);
     };
-    let Ok(name) = shown(alloc, executable) else {
-        return Err(Failure::Memory);
-    };
-    let fault = Fault::Executable(name.as_str(), text.as_str());
-    tell_fault(fault, faults, out)
+    tell_of(executable, text.as_str(), faults, out)
 }

@@ -1,14 +1,16 @@
-//! Faults that are told. What is printed of them waits until it is much, and then goes to a writer.
+//! Faults as values, how they are printed, in lines or as JSON objects (RFC 8259), and told.
 
-ghost use Rattle.thorin_check.specs.Telling.{progress, IsFault, Tells};
+ghost use Rattle.thorin_check.specs.Telling.{so_far, IsFault, Tells};
 ghost use Rattle.thorin_check.specs.Texts.{TellsText, TellsWhat, IsSomeText};
-ghost use Rattle.thorin_check.specs.Rendering.{value_of};
+ghost use Rattle.thorin_check.specs.Rendering.{value_of, fault_text, fault_members, fault_member};
+ghost use Rattle.thorin_check.specs.Rendering.{totals_text, count_text};
+ghost use Rattle.std.specs.Prelude.{◌≡◌, ◌++◌, OnOk, string_bytes};
 
-use crate::rendering::{Fault, put_fault};
 use dwp_table::DwarfObject;
 use std::alloc::AllocError;
 use std::io::Write;
-use thorin_print::{Failure, Form, print};
+use thorin_find::{put_json_unit, put_object};
+use thorin_print::{Failure, Form, print, put_spelled};
 
 /// How many bytes wait before they are handed over.
 const MANY: usize = 8192;
@@ -35,8 +37,8 @@ pub(crate) fn tell_fault<O: Write>(
     faults: &mut Faults,
     out: &mut O,
 ) -> Result<(), Failure>
-    ensures { Tells (IsFault (value_of fault.entry)) (progress (O.contents out.old) faults.old)
-        (progress (O.contents out.new) faults.new) result }
+    ensures { Tells (IsFault (value_of fault.entry)) (so_far (O.contents out.old) faults.old)
+        (so_far (O.contents out.new) faults.new) result }
 {
     let Ok(()) = put_fault(faults.form, fault, &mut faults.waiting) else {
         return Err(Failure::Memory);
@@ -60,8 +62,8 @@ pub(crate) fn tell<O: Write>(
     faults: &mut Faults,
     out: &mut O,
 ) -> Result<(), Failure>
-    ensures { TellsText object text (progress (O.contents out.old) faults.old)
-        (progress (O.contents out.new) faults.new) result }
+    ensures { TellsText object text (so_far (O.contents out.old) faults.old)
+        (so_far (O.contents out.new) faults.new) result }
 {
     match text {
         Ok(Some(text)) => tell_fault(Fault::Unit(object, text.as_str()), faults, out),
@@ -79,8 +81,8 @@ pub(crate) fn tell_of_package<O: Write>(
     faults: &mut Faults,
     out: &mut O,
 ) -> Result<(), Failure>
-    ensures { TellsWhat text (progress (O.contents out.old) faults.old)
-        (progress (O.contents out.new) faults.new) result }
+    ensures { TellsWhat text (so_far (O.contents out.old) faults.old)
+        (so_far (O.contents out.new) faults.new) result }
 {
     match text {
         Ok(text) => tell_fault(Fault::Package(text.as_str()), faults, out),
@@ -93,4 +95,103 @@ pub(crate) fn some(text: Result<String, AllocError>) -> Result<Option<String>, A
     ensures { IsSomeText text result }
 {
     Ok(Some(text?))
+}
+
+/// What is wrong.
+#[derive(Clone, Copy)]
+pub(crate) enum Fault<'a> {
+    /// With a unit.
+    Unit(DwarfObject, &'a str),
+    /// With the package, apart from a unit.
+    Package(&'a str),
+    /// With an executable, which has this name.
+    Executable(&'a str, &'a str),
+}
+
+/// Adds what is wrong.
+#[tactic(auto, unfolding(crate::specs::Rendering::fault_text))]
+fn put_fault(form: Form, fault: Fault<'_>, text: &mut String) -> Result<(), AllocError>
+    ensures { OnOk result (string_bytes text.new
+        ≡ string_bytes text.old ++ fault_text form (value_of fault.entry)) }
+{
+    match form {
+        Form::Lines => match fault {
+            Fault::Unit(object, what) => {
+                put_object(object, text)?;
+                writeln!(text, ": {what}")
+            }
+            Fault::Package(what) => writeln!(text, "{what}"),
+            Fault::Executable(name, what) => writeln!(text, "{name}: {what}"),
+        },
+        Form::Json => {
+            put_members(fault, text)?;
+            text.push_str("\"}\n")
+        }
+    }
+}
+
+/// Adds an object of what is wrong, up to the end of its last string.
+fn put_members(fault: Fault<'_>, text: &mut String) -> Result<(), AllocError>
+    ensures { OnOk result (string_bytes text.new
+        ≡ string_bytes text.old ++ fault_members (value_of fault.entry)) }
+{
+    match fault {
+        Fault::Unit(object, what) => {
+            put_json_unit(object, text)?;
+            put_member(what, text)
+        }
+        Fault::Package(what) => {
+            text.push_str("{\"fault\":\"")?;
+            put_spelled(what.as_bytes(), Form::Json, text)
+        }
+        Fault::Executable(name, what) => {
+            text.push_str("{\"fault\":\"")?;
+            put_spelled(name.as_bytes(), Form::Json, text)?;
+            text.push_str(": ")?;
+            put_spelled(what.as_bytes(), Form::Json, text)
+        }
+    }
+}
+
+/// Adds what is wrong behind the unit that it is wrong with, up to the end of the string.
+fn put_member(what: &str, text: &mut String) -> Result<(), AllocError>
+    ensures { OnOk result (string_bytes text.new
+        ≡ string_bytes text.old ++ fault_member what.now) }
+{
+    text.push_str("\",\"fault\":\"")?;
+    put_spelled(what.as_bytes(), Form::Json, text)
+}
+
+/// Adds how many units and faults there are.
+#[tactic(auto, unfolding(crate::specs::Rendering::totals_text))]
+pub(crate) fn put_totals(
+    form: Form,
+    units: u64,
+    faults: u64,
+    text: &mut String,
+) -> Result<(), AllocError>
+    ensures { OnOk result (string_bytes text.new
+        ≡ string_bytes text.old ++ totals_text form units faults) }
+{
+    match form {
+        Form::Lines => {
+            put_count(units, "unit", text)?;
+            text.push_str(", ")?;
+            put_count(faults, "fault", text)?;
+            text.push_str("\n")
+        }
+        Form::Json => writeln!(text, "{{\"units\":{units},\"faults\":{faults}}}"),
+    }
+}
+
+/// Adds a number of things of one name: `1 unit`, `2 units`.
+fn put_count(number: u64, name: &str, text: &mut String) -> Result<(), AllocError>
+    ensures { OnOk result (string_bytes text.new
+        ≡ string_bytes text.old ++ count_text number name.now) }
+{
+    if number == 1 {
+        write!(text, "1 {name}")
+    } else {
+        write!(text, "{number} {name}s")
+    }
 }

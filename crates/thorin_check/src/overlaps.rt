@@ -1,16 +1,16 @@
 //! Ranges of units that clash with those of others, in `thorin check`: they overlap, or are the same
 //! bytes of units, and their rows have other abbreviations.
 
-ghost use Rattle.std.specs.Prelude.{◌≡◌, ◌⊎◌, ◌≤◌, ◌<◌, ◌+◌, ◌-◌, ◌^◌, min, true, false, IfOk, OnOk};
+ghost use Rattle.std.specs.Prelude.{◌≡◌, ◌⊎◌, ◌≤◌, ◌<◌, ◌+◌, ◌-◌, ◌^◌, min, true, false, IfOk};
+ghost use Rattle.std.specs.Prelude.{OnOk};
 ghost use Rattle.std.specs.List.{AllPairs};
 ghost use Rattle.std.specs.List.Sorted.{IsPermutation};
 ghost use Rattle.dwp_table.specs.Columns.{contribution_kinds};
-ghost use Rattle.thorin_check.specs.Placed.{IsApart, IsLast, HasRanges, tables_by};
-ghost use Rattle.thorin_check.specs.Apart.{AreApart};
+ghost use Rattle.thorin_check.specs.Apart.{IsApart, IsLast, HasRanges, tables_by, AreApart};
 ghost use Rattle.thorin_check.specs.Overlaps.{slot_range};
 
-use crate::clashes::{has_units, is_same as is_same_range};
-use crate::indexes::has_column;
+use crate::tables::has_column;
+use crate::units::{has_units, is_same as is_same_range};
 use dwp_base::{Contribution, SectionKind};
 use dwp_index::{PackageFile, Row, UnitEntry};
 use dwp_table::{CONTRIBUTION_KINDS, DwarfObject};
@@ -58,7 +58,8 @@ pub(crate) struct Overlaps {
 
 impl Overlaps {
     /// Goes over the ranges of the rows that these entries name, of each section in turn: these are
-    /// read without a look-up. Where some of them clash, it looks each entry's unit up, and goes over
+    /// read without a look-up, and each entry is marked whose row has the range of its own bytes in
+    /// common with another's. Where some of them clash, it looks each entry's unit up, and goes over
     /// the ranges of those that are found in the row of their entry: no others count as clashing.
     pub(crate) fn find(
         alloc: Global,
@@ -73,7 +74,11 @@ impl Overlaps {
             clashes: Vec::new(alloc),
             clash: false,
         };
-        let clash = overlaps.find_twins(alloc, pack, entries)?;
+        let mut clash = false;
+        for kind in &CONTRIBUTION_KINDS {
+            let ranges = sorted_ranges(alloc, pack, entries, *kind)?;
+            clash |= overlaps.mark_twins(*kind, ranges.as_slice());
+        }
         if clash {
             overlaps.find_clashes(alloc, pack, entries)?;
         }
@@ -89,26 +94,8 @@ impl Overlaps {
         }
     }
 
-    /// Marks each entry whose row has the range of its own bytes in common with another's. Answers
-    /// whether ranges of the rows clash.
-    fn find_twins(
-        &mut self,
-        alloc: Global,
-        pack: &PackageFile<'_>,
-        entries: &[UnitEntry],
-    ) -> Result<bool, AllocError>
-        ensures { IfOk result (λ clash. clash ≡ false
-            → AreApart pack.now entries.now contribution_kinds) }
-    {
-        let mut clash = false;
-        for kind in &CONTRIBUTION_KINDS {
-            let ranges = sorted_ranges(alloc, pack, entries, *kind)?;
-            clash |= self.mark_twins(*kind, ranges.as_slice());
-        }
-        Ok(clash)
-    }
-
-    /// Marks those of the ranges of one section, sorted by their places; whether two clash.
+    /// Marks the entries whose rows share a range of one section, which are sorted by their places;
+    /// whether two ranges clash.
     fn mark_twins(&mut self, kind: SectionKind, ranges: &[Placed]) -> bool
         ensures { result ≡ false → AllPairs IsApart ranges.now }
     {

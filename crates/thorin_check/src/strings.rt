@@ -1,31 +1,128 @@
-//! The strings of a package's units, in `thorin check`.
+//! The strings of a package's units, in `thorin check`: which of them end.
 
-ghost use Rattle.std.specs.Prelude.{◌≡◌, [], None, Some, Ok, OnOk, true};
+ghost use Rattle.std.specs.Prelude.{◌≡◌, ◌≤◌, length, true, [], None, Some, Ok, OnOk};
+ghost use Rattle.std.specs.Result.{result_err};
+ghost use Rattle.dwp_index.specs.Contents.{content};
+ghost use Rattle.dwp_index.specs.Package.{row_bytes, Package, found};
+ghost use Rattle.thorin_check.specs.Ends.{IsReach, HasEnds, is_inside, AllEnd};
+ghost use Rattle.thorin_find.specs.Finding.{string_of};
 ghost use Rattle.std.specs.List.{All};
-ghost use Rattle.dwp_index.specs.Package.{Package, found};
-ghost use Rattle.thorin_check.specs.Strings.{range_of, is_wide};
-ghost use Rattle.thorin_check.specs.Gathered.{IsOfUnit, Gathers, Adds};
-ghost use Rattle.thorin_check.specs.Gathered.{TellsListed};
-ghost use Rattle.thorin_check.specs.Distinct.{IsBehind};
-ghost use Rattle.thorin_check.specs.Reach.{HasEnds};
-ghost use Rattle.thorin_check.specs.Ends.{AllEnd};
+ghost use Rattle.thorin_check.specs.Strings.{range_of, is_wide, IsBehind};
+ghost use Rattle.thorin_check.specs.Gathered.{IsOfUnit, Gathers, Adds, TellsListed};
 ghost use Rattle.thorin_check.specs.Faults.{TellsStringsOf, TellsString};
 ghost use Rattle.thorin_check.specs.Texts.{IsTextOf};
-ghost use Rattle.thorin_find.specs.Finding.{string_of};
-ghost use Rattle.thorin_check.specs.Telling.{progress, Tells};
+ghost use Rattle.thorin_check.specs.Telling.{so_far, Tells};
 ghost use Rattle.dwp_table.specs.declared.object.DwarfObject.{DwarfObject};
-ghost use Rattle.dwp_index.specs.Contents.{content};
 
-use crate::ends::Ends;
 use crate::faults::{Faults, some, tell};
-use dwp_base::SectionKind;
-use dwp_bytes::Format;
+use dwp_base::{Endianness, SectionKind};
+use dwp_bytes::{Format, ReadError, StringOffsets};
 use dwp_index::{PackageFile, PackagedUnit};
 use dwp_table::DwarfObject;
+use memchr::memrchr;
 use std::alloc::{AllocError, Global};
 use std::io::Write;
 use thorin_find::string_count;
 use thorin_print::Failure;
+
+/// The strings of a package, of which no more is known than where the last of them ends: so none is
+/// read to its end for each offset that names it.
+#[derive(Clone, Copy)]
+pub(crate) struct Ends {
+    order: Endianness,
+    // How many bytes the strings have.
+    size: u64,
+    // The place behind their last zero byte; 0 where there is none.
+    reach: u64,
+}
+
+impl Ends {
+    /// Those of a package.
+    #[tactic(auto, using(crate::proofs::SharedStrings::of_package))]
+    pub(crate) fn of(pack: &PackageFile<'_>) -> Ends
+        ensures { HasEnds result pack.now.order (content pack.now.contents SectionKind.Str) }
+    {
+        let strings = pack.content(SectionKind::Str);
+        Ends {
+            order: pack.order(),
+            size: strings.len() as u64,
+            reach: reach_of(strings),
+        }
+    }
+
+    /// Why the string of a number of a unit can't be read, where that is so: what
+    /// `PackagedUnit::string` answers, but no string is read.
+    pub(crate) fn error_of(self, unit: &PackagedUnit<'_>, i: u64) -> Option<ReadError>
+        requires { HasEnds self unit.now.order (content unit.now.contents SectionKind.Str) }
+        ensures { result ≡ result_err (string_of unit.now i) }
+    {
+        let Some(offset) = self.offsets_of(unit).entry(i) else {
+            return None;
+        };
+        if offset < self.reach {
+            None
+        } else if self.size < offset {
+            Some(ReadError::OffsetOutOfRange)
+        } else {
+            Some(ReadError::NoTerminator)
+        }
+    }
+
+    /// Whether every string of a unit can be read: each begins before the place behind the last
+    /// zero byte.
+    pub(crate) fn all_end(self, unit: &PackagedUnit<'_>) -> bool
+        ensures { result ≡ true
+            → HasEnds self unit.now.order (content unit.now.contents SectionKind.Str)
+            → AllEnd unit.now }
+    {
+        let offsets = self.offsets_of(unit);
+        for i in 0..offsets.count() {
+            if !self.is_inside(offsets.entry(i)) {
+                return false;
+            }
+        }
+        true
+    }
+
+    /// The string offsets of a unit; no string is read by them.
+    #[inline(always)]
+    fn offsets_of<'a>(self, unit: &PackagedUnit<'a>) -> StringOffsets<'a>
+        ensures order { result.order ≡ self.order }
+        ensures encoding { result.encoding ≡ unit.now.encoding }
+        ensures bytes { result.offsets.now
+            ≡ row_bytes unit.now.contents unit.now.row SectionKind.StrOffsets }
+    {
+        StringOffsets {
+            strings: &[],
+            offsets: unit.section(SectionKind::StrOffsets),
+            order: self.order,
+            encoding: unit.encoding(),
+        }
+    }
+
+    /// Whether an offset is before the place behind the last zero byte, where there is an offset.
+    #[inline(always)]
+    fn is_inside(self, offset: Option<u64>) -> bool
+        ensures { result ≡ is_inside self offset }
+    {
+        match offset {
+            Some(offset) => offset < self.reach,
+            None => true,
+        }
+    }
+}
+
+/// The place behind the last zero byte of some strings; 0 where there is none.
+#[tactic(auto, using(crate::proofs::SharedStrings::reached, crate::proofs::SharedStrings::unreached))]
+fn reach_of(strings: &[u8]) -> u64
+    ensures inside { result ≤ length strings.now }
+    ensures reach { IsReach strings.now result }
+{
+    match memrchr(0, strings) {
+        Some(last) => last as u64 + 1,
+        None => 0,
+    }
+}
 
 /// The string offsets of a unit, and how they are read. Units that have the same ones have the same
 /// strings.
@@ -130,7 +227,7 @@ impl UnreadStrings {
     }
 
     /// Adds a unit, unless it has the string offsets of the one before, or all its strings can be
-    /// read.
+    /// read; whether that is so isn't told where it would take too long.
     #[tactic(auto, using(crate::proofs::SharedStrings::none_added))]
     pub(crate) fn add(
         &mut self,
@@ -146,29 +243,16 @@ impl UnreadStrings {
         if is_last(self.last, range) {
             return Ok(());
         }
-        if self.reads_all(unit, range.size) {
-            self.last = Some(range);
-            return Ok(());
+        if range.size <= self.left {
+            self.left -= range.size;
+            if self.ends.all_end(unit) {
+                self.last = Some(range);
+                return Ok(());
+            }
         }
         self.unread.push((range, object))?;
         self.last = Some(range);
         Ok(())
-    }
-
-    /// Whether a unit's strings can all be read; false where it would take too long to tell.
-    fn reads_all(&mut self, unit: &PackagedUnit<'_>, size: u64) -> bool
-        ensures all { result ≡ true
-            → HasEnds self.old.ends unit.now.order (content unit.now.contents SectionKind.Str)
-            → AllEnd unit.now }
-        ensures ends { self.new.ends ≡ self.old.ends }
-        ensures last { self.new.last ≡ self.old.last }
-        ensures unread { self.new.unread ≡ self.old.unread }
-    {
-        if self.left < size {
-            return false;
-        }
-        self.left -= size;
-        self.ends.all_end(unit)
     }
 }
 
@@ -186,8 +270,7 @@ pub(crate) fn check_strings<O: Write>(
     requires ends { HasEnds ends pack.now.order (content pack.now.contents SectionKind.Str) }
     requires are { All (IsOfUnit pack.now) strings.old.items }
     ensures { Tells (TellsListed pack.now strings.old.items)
-        (progress (O.contents out.old) faults.old) (progress (O.contents out.new) faults.new)
-        result }
+        (so_far (O.contents out.old) faults.old) (so_far (O.contents out.new) faults.new) result }
 {
     let sorted = strings.sort_by_key(|(r, _)| (r.offset, r.size, r.version, is_wide(r.format)));
     if sorted.is_err() {
@@ -209,7 +292,7 @@ pub(crate) fn check_strings<O: Write>(
 }
 
 /// Checks each string of a unit.
-#[tactic(auto, using(crate::proofs::Faulted::strings_some))]
+#[tactic(auto, using(crate::proofs::Told::strings_some))]
 fn check_strings_of<O: Write>(
     pack: &PackageFile<'_>,
     ends: Ends,
@@ -219,8 +302,7 @@ fn check_strings_of<O: Write>(
 ) -> Result<(), Failure>
     requires { HasEnds ends pack.now.order (content pack.now.contents SectionKind.Str) }
     ensures { Tells (TellsStringsOf object (found pack.now object))
-        (progress (O.contents out.old) faults.old) (progress (O.contents out.new) faults.new)
-        result }
+        (so_far (O.contents out.old) faults.old) (so_far (O.contents out.new) faults.new) result }
 {
     let unit = match pack.find(object) {
         Ok(Some(unit)) => unit,
@@ -235,7 +317,7 @@ fn check_strings_of<O: Write>(
 }
 
 /// What is told of a string of a unit, where it can't be read.
-#[tactic(auto, using(crate::proofs::Faulted::string_fine, crate::proofs::Faulted::string_faulty, crate::proofs::Faulted::made))]
+#[tactic(auto, using(crate::proofs::Told::string_fine, crate::proofs::Told::string_faulty, crate::proofs::Told::made))]
 fn string_text(
     ends: Ends,
     unit: &PackagedUnit<'_>,

@@ -1,26 +1,23 @@
-//! The sections of abbreviations and of strings, and the rows of a package, in `thorin check`.
+//! The sections of abbreviations and of strings, the indexes and their rows, in `thorin check`.
 
-ghost use Rattle.std.specs.Prelude.{◌≡◌};
-ghost use Rattle.thorin_check.specs.Checking.{lacking_faults, TellsTables};
-ghost use Rattle.thorin_check.specs.Faults.{has_abbreviations, lacks_abbreviations, lacks_strings};
-ghost use Rattle.thorin_check.specs.Telling.{progress, Tells, Is};
-ghost use Rattle.thorin_find.specs.Listing.{AreByRow};
+ghost use Rattle.std.specs.Prelude.{◌≡◌, option_copied, ◌<◌, ◌≤◌};
+ghost use Rattle.thorin_check.specs.Checking.{TellsTables, TellsRows};
+ghost use Rattle.thorin_check.specs.Faults.{lacks_abbreviations, lacks_strings, row_end};
+ghost use Rattle.thorin_check.specs.Faults.{TellsRowsOf, is_next, row_faults};
+ghost use Rattle.thorin_check.specs.Telling.{so_far, Tells, Is};
+ghost use Rattle.thorin_find.specs.Listing.{AreByRow, place_of_line};
+ghost use Rattle.thorin_check.specs.Indexes.{mixed_versions, versions_faults, has_column};
+ghost use Rattle.thorin_check.specs.Indexes.{lacks_column, section_faults, TellsIndexes};
+ghost use Rattle.std.specs.List.Sorted.{IsSortedByKey};
+ghost use Rattle.std.specs.Ordering.{nat_cmp};
 
 use crate::checking::IndexedPackage;
 use crate::faults::{Faults, tell_of_package};
-use crate::indexes::check_indexes;
-use crate::rows::check_all_rows;
 use dwp_base::SectionKind;
-use dwp_index::{PackageFile, UnitEntry};
+use dwp_index::{PackageFile, UnitEntry, UnitIndex};
+use dwp_table::{CONTRIBUTION_KINDS, DwarfObject};
 use std::io::Write;
 use thorin_print::Failure;
-
-/// Whether a package has abbreviations.
-pub(crate) fn has_abbreviations(pack: &PackageFile<'_>) -> bool
-    ensures { result ≡ has_abbreviations pack.now }
-{
-    !pack.content(SectionKind::Abbrev).is_empty()
-}
 
 /// Whether a package that has units has no section of abbreviations, or an empty one.
 fn lacks_abbreviations(pack: &PackageFile<'_>, entries: &[UnitEntry]) -> bool
@@ -48,33 +45,200 @@ pub(crate) fn check_tables<O: Write>(
 ) -> Result<(), Failure>
     requires { AreByRow indexed.pack.now indexed.entries.now }
     ensures { Tells (TellsTables indexed.entry.pack.now indexed.entry.entries.now)
-        (progress (O.contents out.old) faults.old) (progress (O.contents out.new) faults.new)
-        result }
+        (so_far (O.contents out.old) faults.old) (so_far (O.contents out.new) faults.new) result }
 {
     let pack = indexed.pack;
     let no_abbreviations = lacks_abbreviations(pack, indexed.entries);
     let no_strings = lacks_strings(pack);
-    check_section(SectionKind::Abbrev, no_abbreviations, faults, out)?;
-    check_section(SectionKind::Str, no_strings, faults, out)?;
+    let empty = " is empty or absent";
+    check_section(SectionKind::Abbrev, no_abbreviations, empty, faults, out)?;
+    check_section(SectionKind::Str, no_strings, empty, faults, out)?;
     check_indexes(pack, faults, out)?;
     check_all_rows(pack, indexed.entries, faults, out)
 }
 
-/// Tells that a section is lacking, where it is.
-#[tactic(auto, using(crate::proofs::Told::none_told, crate::proofs::Faulted::what_told), unfolding(crate::specs::Checking::lacking_text))]
+/// Tells what is wrong with a section, where something is.
+#[tactic(auto, using(crate::proofs::Told::none_told, crate::proofs::Told::what_told))]
 fn check_section<O: Write>(
     kind: SectionKind,
-    lacks: bool,
+    is_wrong: bool,
+    what: &str,
     faults: &mut Faults,
     out: &mut O,
 ) -> Result<(), Failure>
-    ensures { Tells (Is (lacking_faults kind lacks)) (progress (O.contents out.old) faults.old)
-        (progress (O.contents out.new) faults.new) result }
+    ensures { Tells (Is (section_faults kind is_wrong what.now))
+        (so_far (O.contents out.old) faults.old) (so_far (O.contents out.new) faults.new) result }
 {
-    if !lacks {
+    if !is_wrong {
         return Ok(());
     }
     let name = kind.name();
-    let text = format!(in *faults.waiting.allocator(); "{name} is empty or absent");
+    let text = format!(in *faults.waiting.allocator(); "{name}{what}");
     tell_of_package(text, faults, out)
+}
+
+/// Both indexes have one version, and one of them has a column for each section that has bytes.
+fn check_indexes<O: Write>(
+    pack: &PackageFile<'_>,
+    faults: &mut Faults,
+    out: &mut O,
+) -> Result<(), Failure>
+    ensures { Tells (TellsIndexes pack.now) (so_far (O.contents out.old) faults.old)
+        (so_far (O.contents out.new) faults.new) result }
+{
+    check_versions(pack, faults, out)?;
+    for kind in &CONTRIBUTION_KINDS {
+        let lacks = lacks_column(pack, *kind);
+        check_section(*kind, lacks, ": no index has a column for it", faults, out)?;
+    }
+    Ok(())
+}
+
+/// Both indexes have one version.
+#[tactic(auto, using(crate::proofs::Told::none_told, crate::proofs::Told::what_told), unfolding(crate::specs::Indexes::versions_text))]
+fn check_versions<O: Write>(
+    pack: &PackageFile<'_>,
+    faults: &mut Faults,
+    out: &mut O,
+) -> Result<(), Failure>
+    ensures { Tells (Is (versions_faults (mixed_versions pack.now)))
+        (so_far (O.contents out.old) faults.old) (so_far (O.contents out.new) faults.new) result }
+{
+    let (Some(compilations), Some(types)) = (pack.compilation_index(), pack.type_index()) else {
+        return Ok(());
+    };
+    let compilations = compilations.version();
+    let types = types.version();
+    if compilations == types {
+        return Ok(());
+    }
+    let text = format!(in *faults.waiting.allocator();
+        ".debug_cu_index has version {compilations}, .debug_tu_index version {types}"
+    );
+    tell_of_package(text, faults, out)
+}
+
+/// Whether a section has bytes, and no index has a column for it.
+fn lacks_column(pack: &PackageFile<'_>, kind: SectionKind) -> bool
+    ensures { result ≡ lacks_column pack.now kind }
+{
+    if pack.content(kind).is_empty() {
+        return false;
+    }
+    !(has_column(pack.compilation_index(), kind) || has_column(pack.type_index(), kind))
+}
+
+/// Whether an index has a column for a section.
+pub(crate) fn has_column(index: Option<&UnitIndex<'_>>, kind: SectionKind) -> bool
+    ensures { result ≡ has_column kind (option_copied index.entry) }
+{
+    match index {
+        Some(index) => index.has_column(kind),
+        None => false,
+    }
+}
+
+/// An index, as far as it is known which of its rows slots name.
+#[derive(Clone, Copy)]
+struct Rows {
+    /// `cu` or `tu`.
+    kind: &'static str,
+    /// Whether it is that of type units.
+    is_types: bool,
+    /// The number behind that of its last row.
+    end: u64,
+}
+
+impl Rows {
+    /// Whether a slot names one of these rows, and none before this one.
+    fn is_next(self, slot: UnitEntry, next: u64) -> bool
+        ensures { result ≡ is_next self.is_types self.end slot next }
+    {
+        let row = u64::from(slot.row);
+        let is_type = matches!(slot.object, DwarfObject::TypeUnit(_));
+        is_type == self.is_types && next <= row && row < self.end
+    }
+}
+
+/// The number behind that of the last row of an index; 1 where there is no index.
+fn end_of(index: Option<&UnitIndex<'_>>) -> u64
+    ensures end { result ≡ row_end (option_copied index.entry) }
+    ensures some { 0 < result }
+{
+    match index {
+        Some(index) => u64::from(index.unit_count()) + 1,
+        None => 1,
+    }
+}
+
+/// A slot names each row of both indexes; `entries` are in the order of rows.
+fn check_all_rows<O: Write>(
+    pack: &PackageFile<'_>,
+    entries: &[UnitEntry],
+    faults: &mut Faults,
+    out: &mut O,
+) -> Result<(), Failure>
+    requires { AreByRow pack.now entries.now }
+    ensures { Tells (TellsRows pack.now entries.now) (so_far (O.contents out.old) faults.old)
+        (so_far (O.contents out.new) faults.new) result }
+{
+    let compilations = Rows {
+        kind: "cu",
+        is_types: false,
+        end: end_of(pack.compilation_index()),
+    };
+    let types = Rows {
+        kind: "tu",
+        is_types: true,
+        end: end_of(pack.type_index()),
+    };
+    check_rows(compilations, entries, faults, out)?;
+    check_rows(types, entries, faults, out)
+}
+
+/// A slot names each row of an index: tells each row before that of a slot of its kind, and then
+/// each row behind the last. A slot whose row isn't behind those of the slots before is passed
+/// over, as one whose row is past the rows.
+#[tactic(auto, using(crate::proofs::NamedRows::covers_skipped))]
+fn check_rows<O: Write>(
+    rows: Rows,
+    entries: &[UnitEntry],
+    faults: &mut Faults,
+    out: &mut O,
+) -> Result<(), Failure>
+    requires sorted { IsSortedByKey place_of_line nat_cmp entries.now }
+    requires some { 0 < rows.end }
+    ensures { Tells (TellsRowsOf rows.kind.now rows.is_types rows.end entries.now)
+        (so_far (O.contents out.old) faults.old) (so_far (O.contents out.new) faults.new) result }
+{
+    let mut next = 1u64;
+    for i in 0..entries.len() {
+        if !rows.is_next(entries[i], next) {
+            continue;
+        }
+        let row = u64::from(entries[i].row);
+        tell_rows(rows.kind, next, row, faults, out)?;
+        next = row + 1;
+    }
+    tell_rows(rows.kind, next, rows.end, faults, out)
+}
+
+/// Tells that no slot names a row, of each row from one up to another, which isn't among them.
+#[tactic(auto, using(crate::proofs::NamedRows::rows_none))]
+fn tell_rows<O: Write>(
+    kind: &str,
+    first: u64,
+    end: u64,
+    faults: &mut Faults,
+    out: &mut O,
+) -> Result<(), Failure>
+    requires { first ≤ end }
+    ensures { Tells (Is (row_faults kind.now first end)) (so_far (O.contents out.old) faults.old)
+        (so_far (O.contents out.new) faults.new) result }
+{
+    for row in first..end {
+        let text = format!(in *faults.waiting.allocator(); "{kind} row {row}: no slot names it");
+        tell_of_package(text, faults, out)?;
+    }
+    Ok(())
 }

@@ -1,28 +1,27 @@
-//! The units of a package, in `thorin check`.
+//! The units of a package, in `thorin check`: each by itself, and two whose ranges clash.
 
-ghost use Rattle.std.specs.Prelude.{◌≡◌, ◌&&◌, ◌==◌, None, Some, Ok, IfOk, OnOk};
-ghost use Rattle.std.specs.Prelude.{string_bytes};
+ghost use Rattle.std.specs.Prelude.{◌≡◌, ◌&&◌, ◌==◌, None, Some, Ok, IfOk, OnOk, string_bytes};
+ghost use Rattle.std.specs.Prelude.{IfSome};
 ghost use Rattle.dwp_index.specs.Package.{found};
 ghost use Rattle.thorin_check.specs.Checking.{TellsUnits};
-ghost use Rattle.thorin_check.specs.Faults.{TellsUnit, TellsFound, TellsItself};
+ghost use Rattle.thorin_check.specs.Faults.{TellsUnit, TellsFound, TellsItself, is_bare};
 ghost use Rattle.thorin_check.specs.Texts.{IsUnreadText, IsTextOf};
-ghost use Rattle.thorin_check.specs.Faults.{is_bare};
-ghost use Rattle.thorin_check.specs.Seen.{IsSeen, GoesOn, Gathered, IsGatheredIn, TellsSeen};
-ghost use Rattle.thorin_check.specs.Telling.{progress, Tells, ForEach};
+ghost use Rattle.thorin_check.specs.Gathered.{IsSeen, GoesOn, Gathered, IsGatheredIn, TellsSeen};
+ghost use Rattle.thorin_check.specs.Telling.{so_far, Tells, ForEach};
+ghost use Rattle.thorin_check.specs.Overlaps.{IsClash, begins_inside, differ_in_tables, has_units};
+ghost use Rattle.thorin_check.specs.Overlaps.{overlap, overlap_text, same_range, tables_text};
 
 use crate::abbreviations::Remembered;
 use crate::checking::IndexedPackage;
-use crate::clashes::clash_text;
-use crate::ends::Ends;
 use crate::faults::{Faults, some, tell};
-use crate::overlaps::{Overlaps, Shares};
-use crate::strings::{UnreadStrings, check_strings};
-use crate::tables::has_abbreviations;
-use dwp_base::SectionKind;
-use dwp_index::{PackageError, PackageFile, PackagedUnit, UnitEntry};
-use dwp_table::DwarfObject;
+use crate::overlaps::{Clash, Overlaps, Shares};
+use crate::strings::{Ends, UnreadStrings, check_strings};
+use dwp_base::{Contribution, SectionKind};
+use dwp_index::{PackageError, PackageFile, PackagedUnit, Row, UnitEntry};
+use dwp_table::{Bucketable, DwarfObject};
 use std::alloc::{AllocError, Global};
 use std::io::Write;
+use thorin_find::short_kind;
 use thorin_print::Failure;
 
 /// What is remembered from unit to unit.
@@ -44,8 +43,7 @@ pub(crate) fn check_units<O: Write>(
     out: &mut O,
 ) -> Result<(), Failure>
     ensures { Tells (TellsUnits indexed.entry.pack.now indexed.entry.entries.now)
-        (progress (O.contents out.old) faults.old) (progress (O.contents out.new) faults.new)
-        result }
+        (so_far (O.contents out.old) faults.old) (so_far (O.contents out.new) faults.new) result }
 {
     let alloc = *faults.waiting.allocator();
     let pack = indexed.pack;
@@ -84,8 +82,8 @@ fn check_each<'a, O: Write>(
 ) -> Result<(), Failure>
     requires seen { IsSeen pack.now seen.old }
     ensures told { Tells (ForEach (TellsSeen pack.now seen.new.strings.unread.items)
-        entries.now) (progress (O.contents out.old) faults.old)
-        (progress (O.contents out.new) faults.new) result }
+        entries.now) (so_far (O.contents out.old) faults.old)
+        (so_far (O.contents out.new) faults.new) result }
     ensures seen { OnOk result (IsSeen pack.now seen.new) }
 {
     for i in 0..entries.len() {
@@ -96,7 +94,7 @@ fn check_each<'a, O: Write>(
 }
 
 /// What is told of the unit that a slot names, if anything.
-#[tactic(auto, using(crate::proofs::Faulted::unit_none, crate::proofs::Faulted::unit_some, crate::proofs::Faulted::unit_unread, crate::proofs::Faulted::made, crate::proofs::Distinct::stays_seen))]
+#[tactic(auto, using(crate::proofs::Told::unit_none, crate::proofs::Told::unit_some, crate::proofs::Told::unit_unread, crate::proofs::Told::made, crate::proofs::Distinct::stays_seen))]
 fn text_of<'a>(
     pack: &PackageFile<'a>,
     entry: UnitEntry,
@@ -118,7 +116,7 @@ fn text_of<'a>(
 
 /// What is told of the unit that is found under the identifier of a slot, if anything: it is to be
 /// that of the slot's row, and this row is to have abbreviations where the package has some.
-#[tactic(auto, using(crate::proofs::Faulted::other_row, crate::proofs::Faulted::in_bare_row, crate::proofs::Faulted::in_whole_row, crate::proofs::Faulted::made, crate::proofs::Distinct::stays_seen))]
+#[tactic(auto, using(crate::proofs::Told::other_row, crate::proofs::Told::in_bare_row, crate::proofs::Told::in_whole_row, crate::proofs::Told::made, crate::proofs::Distinct::stays_seen))]
 fn text_of_found<'a>(
     pack: &PackageFile<'a>,
     entry: UnitEntry,
@@ -147,13 +145,13 @@ fn text_of_found<'a>(
 fn is_bare(pack: &PackageFile<'_>, unit: &PackagedUnit<'_>) -> bool
     ensures { result ≡ is_bare pack.now unit.now }
 {
-    has_abbreviations(pack) && unit.range(SectionKind::Abbrev).is_none()
+    !pack.content(SectionKind::Abbrev).is_empty() && unit.range(SectionKind::Abbrev).is_none()
 }
 
 /// What is told of a unit by its ranges and its own bytes, if anything: none of its ranges is to
 /// clash with that of another, and its own identifier is to be that of the slot. Then the unit is
 /// gathered for the check of its strings.
-#[tactic(auto, using(crate::proofs::Faulted::clashed, crate::proofs::Faulted::of_its_own, crate::proofs::Distinct::stays_seen))]
+#[tactic(auto, using(crate::proofs::Told::clashed, crate::proofs::Told::of_its_own, crate::proofs::Distinct::stays_seen))]
 fn text_of_itself<'a>(
     pack: &PackageFile<'a>,
     object: DwarfObject,
@@ -194,4 +192,106 @@ fn unread_text(alloc: Global, error: PackageError) -> Result<String, AllocError>
         }
         _ => format!(in alloc; "{error}"),
     }
+}
+
+/// What is told of a unit whose range of a section clashes with that of another: these are given,
+/// where that may be so.
+pub(crate) fn clash_text(
+    alloc: Global,
+    pack: &PackageFile<'_>,
+    unit: &PackagedUnit<'_>,
+    given: Option<Clash>,
+) -> Result<Option<String>, AllocError>
+    ensures { IfOk result (λ text. IfSome text (λ text.
+        IsClash pack.now unit.now (string_bytes text))) }
+{
+    let Some((kind, other)) = given else {
+        return Ok(None);
+    };
+    let Ok(Some(second)) = pack.find(other) else {
+        return Ok(None);
+    };
+    let a = unit.ranges();
+    let b = second.ranges();
+    if overlap(a.range(kind), b.range(kind)) {
+        return some(overlap_text(alloc, kind, other));
+    }
+    if differ_in_tables(kind, a, b) {
+        return some(tables_text(alloc, kind, other));
+    }
+    Ok(None)
+}
+
+/// What is told of a unit whose range of a section overlaps that of another.
+#[tactic(auto, using(thorin_print::proofs::Hex::hex16_written))]
+fn overlap_text(alloc: Global, kind: SectionKind, other: DwarfObject) -> Result<String, AllocError>
+    ensures { IfOk result (λ text. string_bytes text ≡ overlap_text kind other) }
+{
+    let name = kind.name();
+    let other_kind = short_kind(other);
+    let id = other.index();
+    format!(in alloc; "its range of {name} overlaps that of {other_kind} 0x{id:016x}")
+}
+
+/// What is told of a unit that shares its bytes with another, but not the abbreviations.
+#[tactic(auto, using(thorin_print::proofs::Hex::hex16_written))]
+fn tables_text(alloc: Global, kind: SectionKind, other: DwarfObject) -> Result<String, AllocError>
+    ensures { IfOk result (λ text. string_bytes text ≡ tables_text kind other) }
+{
+    let name = kind.name();
+    let other_kind = short_kind(other);
+    let id = other.index();
+    format!(in alloc;
+        "its range of {name} is that of {other_kind} 0x{id:016x}, with other abbreviations"
+    )
+}
+
+/// Whether two rows have the same bytes of a unit, and other abbreviations.
+fn differ_in_tables(kind: SectionKind, a: &Row<'_>, b: &Row<'_>) -> bool
+    ensures { result ≡ differ_in_tables kind a.now b.now }
+{
+    has_units(kind)
+        && a.range(kind).is_some()
+        && is_same(a.range(kind), b.range(kind))
+        && !is_same(a.range(SectionKind::Abbrev), b.range(SectionKind::Abbrev))
+}
+
+/// Whether a section has the bytes of units.
+pub(crate) fn has_units(kind: SectionKind) -> bool
+    ensures { result ≡ has_units kind }
+{
+    matches!(kind, SectionKind::Info | SectionKind::Types)
+}
+
+/// Whether two ranges are the same, or both are absent.
+pub(crate) fn is_same(a: Option<Contribution>, b: Option<Contribution>) -> bool
+    ensures { result ≡ same_range a b }
+{
+    match (a, b) {
+        (Some(a), Some(b)) => a.offset.0 == b.offset.0 && a.size == b.size,
+        (None, None) => true,
+        _ => false,
+    }
+}
+
+/// Whether two ranges of a section overlap without being the same.
+fn overlap(a: Option<Contribution>, b: Option<Contribution>) -> bool
+    ensures { result ≡ overlap a b }
+{
+    match (a, b) {
+        (Some(a), Some(b)) => {
+            if a.offset.0 == b.offset.0 && a.size == b.size {
+                return false;
+            }
+            begins_inside(a, b) || begins_inside(b, a)
+        }
+        _ => false,
+    }
+}
+
+/// Whether a range begins inside another.
+fn begins_inside(a: Contribution, b: Contribution) -> bool
+    ensures { result ≡ begins_inside a b }
+{
+    b.offset.0 <= a.offset.0 && a.offset.0 - b.offset.0 < b.size
 }

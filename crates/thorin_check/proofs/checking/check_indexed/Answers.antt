@@ -1,5 +1,5 @@
 use Rattle.std.proofs.Common.{refl}
-use Rattle.thorin_check.specs.Executables.{executables_of}
+use Rattle.thorin_check.specs.Sound.{executables_of}
 use Rattle.thorin_check.proofs.Checked.{checked, printed_some}
 use Rattle.thorin_print.proofs.Printed.{grown}
 use Rattle.thorin_check.proofs.checking.check_indexed.Goals as goal

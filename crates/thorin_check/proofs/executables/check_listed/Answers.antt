@@ -1,8 +1,8 @@
 use Rattle.std.proofs.Common.{refl}
 use Rattle.std.proofs.lemmas.Result.{err_from_is_err_and}
 use Rattle.thorin_print.specs.Answers.{IsOfPrinting}
-use Rattle.thorin_check.proofs.Skeletons.{on_next, on_long, on_end, on_bare, broken_behind}
-use Rattle.thorin_check.proofs.Skeletons.{left_shorter}
+use Rattle.thorin_check.proofs.Checked.{on_next, on_long, on_end, on_bare, broken_behind}
+use Rattle.thorin_check.proofs.Checked.{left_shorter}
 use Rattle.thorin_check.proofs.Told.{none_told, told_then, told_as, then_or, stopped_behind}
 use Rattle.thorin_check.proofs.executables.check_listed.Goals as goal
 
@@ -39,8 +39,8 @@ pub returns-then-is_first : goal.returns-then-is_first
 returns-then-is_first g c =
     let next = rw c.in-Ok-None.field-0-is at c.in-Ok-None.ensures.next in
     let begun = rw c.if-is_first.true at c.loop-unit.invariant in
-    then_or _ _ IsOfPrinting _ _ _ _ (on_bare _ _ _ _ _ _ next.0) c.tell_bare.result begun
-    c.tell_bare.ensures
+    then_or _ _ IsOfPrinting _ _ _ _ (on_bare _ _ _ _ _ _ next.0) c.tell_of.result begun
+    c.tell_of.ensures
 
 pub returns-in-Ok-None : goal.returns-in-Ok-None
 returns-in-Ok-None g c =

@@ -1,6 +1,6 @@
 use Rattle.std.proofs.Common.{length}
-use Rattle.thorin_check.specs.Telling.{progress, Told}
-use Rattle.thorin_check.proofs.Skeletons.{GoesOn}
+use Rattle.thorin_check.specs.Telling.{so_far, Told}
+use Rattle.thorin_check.proofs.Checked.{GoesOn}
 use Rattle.thorin_check.proofs.executables.check_listed.Given as goal
 
 abbrev pub decreases-loop-unit : goal.decreases-loop-unit
@@ -11,5 +11,5 @@ abbrev pub invariant-loop-unit : goal.invariant-loop-unit
 invariant-loop-unit g l = Told
     (GoesOn l.naming.pack.now l.naming.executable.now l.room l.initial.units.listed l.is_first
     l.left l.units.listed)
-    (progress (g.O.Write.contents l.initial.out) l.initial.faults)
-    (progress (g.O.Write.contents l.out) l.faults)
+    (so_far (g.O.Write.contents l.initial.out) l.initial.faults)
+    (so_far (g.O.Write.contents l.out) l.faults)

@@ -1,6 +1,6 @@
 use Rattle.std.proofs.Common.{◌≡◌, rules}
 use Rattle.thorin_check.specs.Faults.{room_of}
-use Rattle.thorin_check.proofs.Skeletons.{named_broken}
+use Rattle.thorin_check.proofs.Checked.{named_broken}
 use Rattle.thorin_check.proofs.executables.check_named.Goals as goal
 
 pub returns-in-Ok : goal.returns-in-Ok

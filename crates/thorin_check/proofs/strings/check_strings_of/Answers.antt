@@ -3,9 +3,8 @@ use Rattle.std.proofs.lemmas.List.FromFn.{map-range_with_len_more}
 use Rattle.std.proofs.lemmas.Result.{err_from_is_err_and}
 use Rattle.thorin_check.specs.Faults.{TellsNumbered}
 use Rattle.thorin_find.specs.Finding.{string_of}
-use Rattle.thorin_check.proofs.Faulted.{text_told, text_stopped, strings_some}
-use Rattle.thorin_check.proofs.Reached.{of_found}
-use Rattle.thorin_check.proofs.Told.{none_told, told_more}
+use Rattle.thorin_check.proofs.Told.{text_told, text_stopped, strings_some, none_told, told_more}
+use Rattle.thorin_check.proofs.SharedStrings.{of_found}
 use Rattle.thorin_check.proofs.strings.check_strings_of.Goals as goal
 
 pub returns-in-Ok-None : goal.returns-in-Ok-None

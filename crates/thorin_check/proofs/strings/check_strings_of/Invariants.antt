@@ -2,12 +2,12 @@ use Rattle.std.proofs.Common.{map}
 use Rattle.std.specs.List.{range_with_len}
 use Rattle.thorin_check.specs.Faults.{TellsNumbered}
 use Rattle.thorin_find.specs.Finding.{string_of}
-use Rattle.thorin_check.specs.Telling.{progress, Told, ForEach}
+use Rattle.thorin_check.specs.Telling.{so_far, Told, ForEach}
 use Rattle.thorin_check.proofs.strings.check_strings_of.Given as goal
 
 -- the faults of the strings so far
 abbrev pub invariant-loop-i : goal.invariant-loop-i
 invariant-loop-i g l = Told
     (ForEach (TellsNumbered l.object) (map (λ k. (k, string_of l.unit k)) (range_with_len 0 l.i)))
-    (progress (g.O.Write.contents l.initial.out) l.initial.faults)
-    (progress (g.O.Write.contents l.out) l.faults)
+    (so_far (g.O.Write.contents l.initial.out) l.initial.faults)
+    (so_far (g.O.Write.contents l.out) l.faults)

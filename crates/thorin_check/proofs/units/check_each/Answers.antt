@@ -1,6 +1,6 @@
 use Rattle.std.proofs.lemmas.Result.{err_from_is_err_and}
 use Rattle.thorin_check.proofs.Distinct.{text_made, text_seen, seen_next}
-use Rattle.thorin_check.proofs.Faulted.{text_stopped}
+use Rattle.thorin_check.proofs.Told.{text_stopped}
 use Rattle.thorin_check.proofs.units.check_each.Goals as goal
 
 pub loop-i-preserved : goal.loop-i-preserved

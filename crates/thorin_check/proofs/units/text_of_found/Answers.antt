@@ -1,5 +1,5 @@
 use Rattle.std.proofs.Common.{arith}
-use Rattle.thorin_check.proofs.Faulted.{in_bare_row, in_whole_row, made, other_row}
+use Rattle.thorin_check.proofs.Told.{in_bare_row, in_whole_row, made, other_row}
 use Rattle.thorin_check.proofs.units.text_of_found.Goals as goal
 
 pub returns : goal.returns

@@ -1,9 +1,0 @@
-use Rattle.std.proofs.Common.{◌≡◌, ◌<◌, ℕ, true}
-use Rattle.dwp_bytes.specs.StringOffsets.{entry_in}
-use Rattle.thorin_check.specs.Reach.{is_inside}
-use Rattle.thorin_check.proofs.ends.Ends.all_end.Given as goal
-
--- the offsets so far are inside
-abbrev pub invariant-loop-i : goal.invariant-loop-i
-invariant-loop-i l = (k : ℕ) → k < l.i
-    → is_inside l.self (entry_in l.offsets.order l.offsets.encoding l.offsets.offsets.now k) ≡ true

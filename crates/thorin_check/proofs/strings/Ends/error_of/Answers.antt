@@ -1,0 +1,36 @@
+use Rattle.std.proofs.Common.{arith}
+use Rattle.std.proofs.lemmas.Bool.Decides.{nat_tests}
+use Rattle.dwp_bytes.specs.StringOffsets.{string_at, string_in}
+use Rattle.thorin_check.proofs.SharedStrings.{none_there}
+use Rattle.thorin_check.proofs.strings.Ends.error_of.Goals as goal
+
+pub returns-in_default : goal.returns-in_default
+returns-in_default c = grind (arith, none_there)
+
+pub returns-then-offset-self : goal.returns-then-offset-self
+unfolding string_at string_in
+returns-then-offset-self c =
+    grind (
+      arith,
+      nat_tests,
+      c.requires.order_is,
+      c.requires.inside,
+      c.requires.reach
+          c.in-Some.offset,
+    )
+
+pub returns-then-self-offset : goal.returns-then-self-offset
+unfolding string_at string_in
+returns-then-self-offset c = grind (arith, nat_tests, c.requires.order_is, c.requires.size)
+
+pub returns-else-self-offset : goal.returns-else-self-offset
+unfolding string_at string_in
+returns-else-self-offset c =
+    grind (
+      arith,
+      nat_tests,
+      c.requires.order_is,
+      c.requires.size,
+      c.requires.reach
+          c.in-Some.offset,
+    )
