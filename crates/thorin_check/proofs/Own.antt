@@ -2,7 +2,7 @@
 -- identifiers that units' own bytes give.
 use Rattle.std.proofs.Common.{◌≡◌, ◌∙◌, ℕ, ◌+◌, ◌≤◌, Bool, false, List, [], ◌∷◌, ◌++◌, length}
 use Rattle.std.proofs.Common.{Option, Some, None, Result, Ok, Err, refl, sym, ap, arith, find}
-use Rattle.std.proofs.Common.{nat_eq, ◌-◌, true}
+use Rattle.std.proofs.Common.{nat_eq, ◌-◌, true, IsTrue}
 use Rattle.std.proofs.lemmas.Bool.Decides.{nat_tests}
 use Rattle.std.proofs.lemmas.Option.{same_Some}
 use Rattle.dwp_base.proofs.Bools.{by-bool}
@@ -35,7 +35,7 @@ use Rattle.dwp_base.specs.declared.endian.Endianness.{Endianness}
 use Rattle.dwp_bytes.specs.Input.{section}
 use Rattle.dwp_table.specs.declared.object.DebugTypeSignature.{DebugTypeSignature}
 use Rattle.dwp_table.specs.declared.object.DwarfObject.TheVariants.{TypeUnit}
-use Rattle.dwp_units.specs.Units.{Unit, units}
+use Rattle.dwp_units.specs.Units.{Unit as Header, units}
 use Rattle.dwp_units.specs.declared.unit.UnitSection.{UnitSection}
 use Rattle.dwp_units.specs.declared.unit.UnitSection.TheVariants.{Info, Types}
 use Rattle.thorin_find.specs.Names.{first_of, header_in}
@@ -44,7 +44,9 @@ use Rattle.thorin_check.specs.Faults.{is_of}
 use Rattle.thorin_check.specs.Own.{own_by, own_of}
 use Rattle.thorin_check.specs.Remembered.{said_of, numbers_of, bytes_at, is_in_types, section_by}
 use Rattle.thorin_check.specs.Remembered.{place_in, own_at, IsReadIn}
+use Rattle.thorin_check.specs.contracts.abbreviations.UnitPlacePartialEq.TheImpl as places
 use Rattle.thorin_check.specs.declared.abbreviations.PlaceRead.{PlaceRead}
+use Rattle.thorin_check.specs.declared.abbreviations.UnitPlace.{UnitPlace}
 use Rattle.thorin_check.proofs.NamedRows.{of_one_kind}
 
 -- ---- its ranges
@@ -219,7 +221,7 @@ module _ (pack : Package) (object : DwarfObject) (unit : FoundUnit)
       let row = row_of_found pack object unit is in rw are (row.inside kinds.Abbrev c here)
 
   -- what was read of a unit with a header, and of one without
-  pub own_read : (tables : Endianness × List ℕ) (order : Endianness) (header : Unit)
+  pub own_read : (tables : Endianness × List ℕ) (order : Endianness) (header : Header)
       → tables ≡ (pack.order, content pack.contents kinds.Abbrev) → order ≡ pack.order
       → Some header ≡ header_in order object unit
       → result_ok (identity (section tables.0 (bytes_at tables.1
@@ -240,6 +242,10 @@ module _ (pack : Package) (object : DwarfObject) (unit : FoundUnit)
       rw (row.order, ← own) refl
 
 -- ---- what is remembered
+
+-- places that `==` finds to be one
+pub places_same : (a b : UnitPlace) → IsTrue (places.eq-value.it a b) → a ≡ b
+places_same a b equal = grind (arith, nat_tests)
 
 -- what was read of another unit of the same place
 pub known_again : (pack : Package) (object : DwarfObject) (unit : FoundUnit)

@@ -2,8 +2,9 @@
 -- offsets that they share.
 use Rattle.std.proofs.Common.{◌≡◌, ℕ, ◌+◌, ◌-◌, ◌<◌, ◌≤◌, eqb, true, false, List, length, drop}
 use Rattle.std.proofs.Common.{Some, None, Ok, refl, arith, get_or-drop, length-drop, ◌∙◌, [], ◌∷◌}
-use Rattle.std.proofs.Common.{◌++◌, Option, Result, Err, sym, inl, inr, option_map}
+use Rattle.std.proofs.Common.{◌++◌, Option, Result, Err, sym, inl, inr, option_map, ap, IsTrue}
 use Rattle.std.specs.List.{list_any}
+use Rattle.std.specs.Option.{option_eq}
 use Rattle.std.specs.Result.{result_err}
 use Rattle.std.proofs.lemmas.List.{get_or_default}
 use Rattle.std.proofs.lemmas.Bool.Decides.{nat_tests}
@@ -28,10 +29,11 @@ use Rattle.dwp_bytes.specs.declared.encoding.Format.TheVariants.{Dwarf32, Dwarf6
 use Rattle.dwp_index.specs.Index.{range_in}
 use Rattle.dwp_index.specs.declared.error.PackageError.{PackageError}
 use Rattle.thorin_find.specs.Finding.{string_of}
-use Rattle.thorin_check.specs.Strings.{is_wide, range_by, range_of, IsRangeOfOne, HasStringsOf}
+use Rattle.thorin_check.specs.Strings.{range_by, range_of, IsRangeOfOne, HasStringsOf}
 use Rattle.thorin_check.specs.Strings.{HasStringsIn}
 use Rattle.thorin_check.specs.Gathered.{Listed, IsOfUnit, Lists, string_by, AllEndIn, IsGathered}
 use Rattle.thorin_check.specs.Gathered.{Gathers, Adds, Gathered, IsGatheredIn}
+use Rattle.thorin_check.specs.contracts.strings.StringRangePartialEq.TheImpl as ranges
 use Rattle.thorin_check.specs.declared.strings.StringRange.{StringRange}
 use Rattle.thorin_check.specs.declared.strings.UnreadStrings.{UnreadStrings}
 use Rattle.thorin_check.proofs.Own.{row_of_found}
@@ -87,16 +89,14 @@ all_read ends order strings h encoding range end le below i =
 
 -- ---- ranges
 
-same_format : (a b : Format) → is_wide a ≡ is_wide b → a ≡ b
-same_format Dwarf32 Dwarf32 e = refl
-same_format Dwarf32 Dwarf64 e = absurd cc
-same_format Dwarf64 Dwarf32 e = absurd cc
-same_format Dwarf64 Dwarf64 e = refl
+ranges_same : (a b : StringRange) → IsTrue (ranges.eq-value.it a b) → a ≡ b
+ranges_same a b equal = grind (arith, nat_tests)
 
-pub same_range : (a b : StringRange) → a.offset ≡ b.offset → a.size ≡ b.size
-    → a.version ≡ b.version → is_wide a.format ≡ is_wide b.format → a ≡ b
-same_range a b offset size version wide =
-    let format = same_format a.format b.format wide in grind arith
+-- string offsets are those before, as `==` tells
+pub same_range : (before : Option StringRange) (range : StringRange)
+    → IsTrue (option_eq ranges.eq-value.it before (Some range)) → before ≡ Some range
+same_range None range equal = absurd cc
+same_range (Some last) range equal = ap Some (ranges_same last range equal)
 
 -- the size of addresses is nothing to strings
 read_alike : (order : Endianness) (encoding : Encoding) (strings bytes : List ℕ) (i : ℕ)
@@ -185,6 +185,14 @@ module _ (pack : Package) (old : UnreadStrings) (unit : FoundUnit) (object : Dwa
   }
 
   module _ (range : StringRange) (has : Some range ≡ range_of unit) where
+    -- it has those of the unit before
+    pub last_added : old.last ≡ Some range → Adds pack old old unit
+    last_added last = record {
+      gathers = g;
+      kept = λ other there. there;
+      added = λ other e. g.last other (last ∙ has ∙ e);
+    }
+
     this : (other : StringRange) → range_of unit ≡ Some other → range ≡ other
     this other e = same_Some range other (has ∙ e)
 

@@ -40,8 +40,8 @@ pub(crate) enum OwnIdentifier {
     Unread(String),
 }
 
-/// Where a unit's own bytes and its abbreviations stand: what its bytes say depends on nothing else.
-#[derive(Clone, Copy)]
+/// The places of a unit's own bytes and its abbreviations: what they say depends on nothing else.
+#[derive(Clone, Copy, PartialEq)]
 pub(crate) struct UnitPlace {
     /// Whether its own bytes are in types.
     is_in_types: bool,
@@ -65,17 +65,6 @@ impl UnitPlace {
             own: numbers_of(unit.range(kind)),
             abbreviations: numbers_of(unit.range(SectionKind::Abbrev)),
         }
-    }
-
-    /// Whether it is that one.
-    fn is(self, other: UnitPlace) -> bool
-        ensures { result ≡ true → self ≡ other }
-    {
-        self.is_in_types == other.is_in_types
-            && self.own.0 == other.own.0
-            && self.own.1 == other.own.1
-            && self.abbreviations.0 == other.abbreviations.0
-            && self.abbreviations.1 == other.abbreviations.1
     }
 
     /// The numbers of the unit's own bytes, by which it is found.
@@ -130,7 +119,7 @@ impl<'a> Remembered<'a> {
         if has_twin {
             let place = UnitPlace::of(unit, object);
             if let Some(read) = self.shared.get(&place.key()) {
-                if read.place.is(place) {
+                if read.place == place {
                     return own_fault(self.alloc, &read.own, object);
                 }
             }
@@ -178,7 +167,9 @@ fn read_behind<'a>(
     ensures kept { tables.new ≡ tables.old }
 {
     let (start, size) = numbers_of(unit.range(SectionKind::Abbrev));
-    let end = start.saturating_add(size).min(tables.bytes().len() as u64);
+    let end = start
+        .saturating_add(size)
+        .min(tables.first.bytes().len() as u64);
     match tables.identifier(start as usize, end as usize, header) {
         Ok(Some(own)) => Ok(OwnIdentifier::Is(own)),
         Ok(None) => Ok(OwnIdentifier::Nameless),
@@ -207,7 +198,7 @@ fn own_fault(
 {
     match own {
         OwnIdentifier::Is(own) => {
-            if is_same(*own, object) {
+            if *own == object {
                 return Ok(None);
             }
             let kind = short_kind(*own);
@@ -219,18 +210,6 @@ fn own_fault(
             let cause = cause.as_str();
             some(format!(in alloc; "its own identifier can't be read: {cause}"))
         }
-    }
-}
-
-/// Whether two units have one name.
-fn is_same(a: DwarfObject, b: DwarfObject) -> bool
-    ensures same { result ≡ true → a ≡ b }
-    ensures other { result ≡ false → a ≢ b }
-{
-    match (a, b) {
-        (DwarfObject::Compilation(a), DwarfObject::Compilation(b)) => a.0 == b.0,
-        (DwarfObject::TypeUnit(a), DwarfObject::TypeUnit(b)) => a.0 == b.0,
-        _ => false,
     }
 }
 
@@ -266,7 +245,8 @@ impl<'a> Model for TablesByTurns<'a> {
 
     ghost view = { λ t. t.first };
 
-    ghost invariant = { λ t. (t.first.0 ≡ t.order) × All (λ tables. tables ≡ t.first) t.again.items };
+    ghost invariant = { λ t. (t.first.0 ≡ t.order)
+        × All (λ tables. tables ≡ t.first) t.again.items };
 }
 
 impl<'a> TablesByTurns<'a> {
@@ -285,15 +265,9 @@ impl<'a> TablesByTurns<'a> {
         }
     }
 
-    /// The section.
-    pub(crate) fn bytes(&self) -> &'a [u8]
-        ensures { result.now ≡ self.now.1 }
-    {
-        self.first.bytes()
-    }
-
     /// What `RangeTables` says of a unit whose abbreviations stand in the section from the byte
-    /// `start` up to the byte `end`.
+    /// `start` up to the byte `end`. Where a unit's identifier stands behind them it goes on with
+    /// the tables of this range, or for want of memory with those of the ranges used first.
     ///
     /// # Errors
     /// Those of `dwo_identifier_of_unit`, of the range.
@@ -309,23 +283,16 @@ impl<'a> TablesByTurns<'a> {
         ensures memory { IfErr result (λ e. e ≢ Error.Memory) }
         ensures kept { self.new ≡ self.old }
     {
-        self.turn_to([start, end], header);
+        let range = [start, end];
+        if range != self.last && matches!(header.unit_type(), UnitType::Compilation) {
+            self.last = range;
+            self.place = self.place_of(range).unwrap_or(None);
+        }
         match self.place {
             Some(place) if place < self.again.len() => {
                 self.again[place].identifier(start, end, header)
             }
             _ => self.first.identifier(start, end, header),
-        }
-    }
-
-    /// Goes on with the tables of a range, where a unit's identifier stands behind them. Where there
-    /// is no memory for its own, it has those that are used for the first time.
-    fn turn_to(&mut self, range: TableRange, header: &UnitHeader<SliceReader<'a>>)
-        ensures { self.new ≡ self.old }
-    {
-        if range != self.last && matches!(header.unit_type(), UnitType::Compilation) {
-            self.last = range;
-            self.place = self.place_of(range).unwrap_or(None);
         }
     }
 

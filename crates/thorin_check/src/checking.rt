@@ -1,8 +1,8 @@
 //! `thorin check`.
 
-ghost use Rattle.std.specs.Prelude.{◌≡◌, string_bytes};
+ghost use Rattle.std.specs.Prelude.{string_bytes};
 ghost use Rattle.thorin_check.specs.Checking.{TellsPackage, IsOfChecking, Finishes, ChecksIndexed};
-ghost use Rattle.thorin_check.specs.Checking.{Checks, status_of};
+ghost use Rattle.thorin_check.specs.Checking.{Checks};
 ghost use Rattle.thorin_check.specs.Sound.{executables_of};
 ghost use Rattle.thorin_find.specs.Listing.{AreByRow};
 ghost use Rattle.thorin_check.specs.Telling.{so_far, TellsOr};
@@ -21,8 +21,8 @@ use thorin_print::{Failure, flush, print};
 /// ranges are inside their sections, its header and all its strings can be read, and the identifier
 /// is its own; a slot names each row; there are abbreviations for the units and strings for the
 /// string offsets; and the package has each split unit that the executables name. Compressed
-/// sections of these may be decompressed. Prints each fault, and how many units and faults there are,
-/// in lines or as JSON objects. Answers the status, 1 where there are faults.
+/// sections of these may be decompressed. Prints each fault, and how many units and faults there
+/// are, in lines or as JSON objects. Answers the status, 1 where there are faults.
 ///
 /// # Errors
 /// `Input` where a file can't be read, `Malformed` where it is no package, `NoIndex` where it has
@@ -120,8 +120,8 @@ fn check_all<F: FileReader, O: Write>(
 /// Prints what waits and how many units and faults there are. Answers the status.
 #[tactic(auto, using(thorin_print::proofs::Printed::none_grown))]
 fn finish<O: Write>(units: usize, faults: &mut Faults, out: &mut O) -> Result<u8, Failure>
-    ensures { Finishes faults.old.form units faults.old.count (O.contents out.old) (string_bytes faults.old.waiting)
-        (O.contents out.new) result }
+    ensures { Finishes faults.old.form units faults.old.count (O.contents out.old)
+        (string_bytes faults.old.waiting) (O.contents out.new) result }
 {
     let count = faults.count;
     let Ok(()) = put_totals(faults.form, units as u64, count, &mut faults.waiting) else {
@@ -129,12 +129,5 @@ fn finish<O: Write>(units: usize, faults: &mut Faults, out: &mut O) -> Result<u8
     };
     print(faults.waiting.as_str(), out)?;
     flush(out)?;
-    Ok(status_of(count))
-}
-
-/// The status: 1 where there are faults.
-fn status_of(faults: u64) -> u8
-    ensures { result ≡ status_of faults }
-{
-    if faults == 0 { 0 } else { 1 }
+    Ok(if count == 0 { 0 } else { 1 })
 }

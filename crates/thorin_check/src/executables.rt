@@ -71,7 +71,8 @@ pub(crate) fn check_executables<F: FileReader, O: Write>(
     out: &mut O,
 ) -> Result<(), Failure>
     ensures { TellsOr (IsOfChecking (F.offer files.now) named.entry.executables.now)
-        (TellsExecutables (F.offer files.now) named.entry.reading pack.now named.entry.executables.now)
+        (TellsExecutables (F.offer files.now) named.entry.reading pack.now
+        named.entry.executables.now)
         (so_far (O.contents out.old) faults.old) (so_far (O.contents out.new) faults.new) result }
 {
     for i in 0..named.executables.len() {
@@ -95,7 +96,8 @@ fn check_executable<F: FileReader, O: Write>(
     out: &mut O,
 ) -> Result<(), Failure>
     ensures { TellsOr (IsOfReading (F.offer files.now) naming.entry.executable.now)
-        (TellsExecutable (F.offer files.now) reading naming.entry.pack.now naming.entry.executable.now)
+        (TellsExecutable (F.offer files.now) reading naming.entry.pack.now
+        naming.entry.executable.now)
         (so_far (O.contents out.old) faults.old) (so_far (O.contents out.new) faults.new) result }
 {
     let bytes = read_named(files, naming.executable)?;
@@ -121,8 +123,8 @@ fn check_named<'s, Sess: Session<RelocationEntry>, O: Write>(
     out: &mut O,
 ) -> Result<(), Failure>
     ensures { Tells (TellsNamed naming.entry.pack.now naming.entry.executable.now
-        (room_of bytes.now) (skeletons_by nameless bytes.now)) (so_far (O.contents out.old) faults.old)
-        (so_far (O.contents out.new) faults.new) result }
+        (room_of bytes.now) (skeletons_by nameless bytes.now))
+        (so_far (O.contents out.old) faults.old) (so_far (O.contents out.new) faults.new) result }
 {
     let alloc = *faults.waiting.allocator();
     match NamedUnits::read_by(alloc, session, bytes, nameless) {
@@ -171,7 +173,7 @@ fn check_listed<O: Write>(
     }
 }
 
-/// Whether there is room for the path of a unit, which takes some where no system opens one as long,
+/// Whether there is room for a unit's path, which takes some where no system opens one as long,
 /// unless it is free.
 fn has_room(room: &mut usize, is_free: bool, path: &str) -> bool
     ensures long { result ≡ false → longest_path < length path.now }

@@ -1,12 +1,12 @@
-//! Ranges of units that clash with those of others, in `thorin check`: they overlap, or are the same
-//! bytes of units, and their rows have other abbreviations.
+//! Ranges of units that clash with those of others, in `thorin check`: they overlap, or are the
+//! same bytes of units, and their rows have other abbreviations.
 
 ghost use Rattle.std.specs.Prelude.{◌≡◌, ◌⊎◌, ◌≤◌, ◌<◌, ◌+◌, ◌-◌, ◌^◌, min, true, false, IfOk};
 ghost use Rattle.std.specs.Prelude.{OnOk};
 ghost use Rattle.std.specs.List.{AllPairs};
 ghost use Rattle.std.specs.List.Sorted.{IsPermutation};
 ghost use Rattle.dwp_table.specs.Columns.{contribution_kinds};
-ghost use Rattle.thorin_check.specs.Apart.{IsApart, IsLast, HasRanges, tables_by, AreApart};
+ghost use Rattle.thorin_check.specs.Apart.{IsApart, IsLast, HasRanges, AreApart};
 ghost use Rattle.thorin_check.specs.Overlaps.{slot_range};
 
 use crate::tables::has_column;
@@ -50,7 +50,7 @@ pub(crate) struct Shares {
 pub(crate) struct Overlaps {
     // For each entry whether another row has the range of its own bytes.
     twins: Vec<bool>,
-    // For each entry a range that seems to clash with that of another; nothing where no row has one.
+    // For each entry a range that seems to clash with that of another; nothing where none does.
     clashes: Vec<Option<Clash>>,
     /// Whether ranges of rows clash.
     pub clash: bool,
@@ -59,8 +59,8 @@ pub(crate) struct Overlaps {
 impl Overlaps {
     /// Goes over the ranges of the rows that these entries name, of each section in turn: these are
     /// read without a look-up, and each entry is marked whose row has the range of its own bytes in
-    /// common with another's. Where some of them clash, it looks each entry's unit up, and goes over
-    /// the ranges of those that are found in the row of their entry: no others count as clashing.
+    /// common with another's. Where some clash, it looks each entry's unit up, and goes over the
+    /// ranges of those that are found in the row of their entry: no others count as clashing.
     pub(crate) fn find(
         alloc: Global,
         pack: &PackageFile<'_>,
@@ -154,9 +154,9 @@ impl Overlaps {
         self.mark_clashes(&mut columns, entries)
     }
 
-    /// Marks each range that another seems to overlap, and then those that are read otherwise. Sorted
-    /// by their places, a range overlaps one before it where the farthest end before is past its
-    /// place, and one behind it where the next place is before its end.
+    /// Marks each range that another seems to overlap, and then those that are read otherwise.
+    /// Sorted by their places, a range overlaps one before it where the farthest end before is past
+    /// its place, and one behind it where the next place is before its end.
     fn mark_clashes(
         &mut self,
         columns: &mut Vec<Column>,
@@ -256,7 +256,11 @@ fn sorted_ranges(
             ranges.push(Placed {
                 offset: range.offset.0,
                 size: range.size,
-                tables: slot_tables(pack, entries[entry], kind),
+                tables: if has_units(kind) {
+                    slot_range(pack, entries[entry], SectionKind::Abbrev)
+                } else {
+                    None
+                },
                 entry,
             })?;
         }
@@ -276,17 +280,6 @@ fn slot_range(pack: &PackageFile<'_>, slot: UnitEntry, kind: SectionKind) -> Opt
     match index.row(slot.row) {
         Ok(row) => row.range(kind),
         Err(_) => None,
-    }
-}
-
-/// The abbreviations of that row, where a section has the bytes of units.
-fn slot_tables(pack: &PackageFile<'_>, slot: UnitEntry, kind: SectionKind) -> Option<Contribution>
-    ensures { result ≡ tables_by kind (slot_range pack.now slot SectionKind.Abbrev) }
-{
-    if has_units(kind) {
-        slot_range(pack, slot, SectionKind::Abbrev)
-    } else {
-        None
     }
 }
 
@@ -311,7 +304,7 @@ fn gather(row: &Row<'_>, entry: usize, columns: &mut Vec<Column>) -> Result<(), 
     Ok(())
 }
 
-/// Sorts ranges by their places, unless they are sorted: mostly rows have the order of their ranges.
+/// Sorts ranges by their places, unless they are sorted, as mostly in the order of rows.
 fn sort(ranges: &mut Vec<Placed>) -> Result<(), AllocError>
     ensures { OnOk result (IsPermutation ranges.old.items ranges.new.items) }
 {

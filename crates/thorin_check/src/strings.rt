@@ -1,10 +1,10 @@
 //! The strings of a package's units, in `thorin check`: which of them end.
 
-ghost use Rattle.std.specs.Prelude.{◌≡◌, ◌≤◌, length, true, [], None, Some, Ok, OnOk};
+ghost use Rattle.std.specs.Prelude.{◌≡◌, ◌≤◌, length, true, Some, Ok, OnOk};
 ghost use Rattle.std.specs.Result.{result_err};
 ghost use Rattle.dwp_index.specs.Contents.{content};
 ghost use Rattle.dwp_index.specs.Package.{row_bytes, Package, found};
-ghost use Rattle.thorin_check.specs.Ends.{IsReach, HasEnds, is_inside, AllEnd};
+ghost use Rattle.thorin_check.specs.Ends.{IsReach, HasEnds, AllEnd};
 ghost use Rattle.thorin_find.specs.Finding.{string_of};
 ghost use Rattle.std.specs.List.{All};
 ghost use Rattle.thorin_check.specs.Strings.{range_of, is_wide, IsBehind};
@@ -20,7 +20,7 @@ use dwp_bytes::{Format, ReadError, StringOffsets};
 use dwp_index::{PackageFile, PackagedUnit};
 use dwp_table::DwarfObject;
 use memchr::memrchr;
-use std::alloc::{AllocError, Global};
+use std::alloc::AllocError;
 use std::io::Write;
 use thorin_find::string_count;
 use thorin_print::Failure;
@@ -77,8 +77,10 @@ impl Ends {
     {
         let offsets = self.offsets_of(unit);
         for i in 0..offsets.count() {
-            if !self.is_inside(offsets.entry(i)) {
-                return false;
+            if let Some(offset) = offsets.entry(i) {
+                if self.reach <= offset {
+                    return false;
+                }
             }
         }
         true
@@ -99,17 +101,6 @@ impl Ends {
             encoding: unit.encoding(),
         }
     }
-
-    /// Whether an offset is before the place behind the last zero byte, where there is an offset.
-    #[inline(always)]
-    fn is_inside(self, offset: Option<u64>) -> bool
-        ensures { result ≡ is_inside self offset }
-    {
-        match offset {
-            Some(offset) => offset < self.reach,
-            None => true,
-        }
-    }
 }
 
 /// The place behind the last zero byte of some strings; 0 where there is none.
@@ -126,7 +117,7 @@ fn reach_of(strings: &[u8]) -> u64
 
 /// The string offsets of a unit, and how they are read. Units that have the same ones have the same
 /// strings.
-#[derive(Clone, Copy)]
+#[derive(Clone, Copy, PartialEq)]
 pub(crate) struct StringRange {
     /// Where they begin.
     offset: u64,
@@ -151,22 +142,6 @@ impl StringRange {
             version: encoding.version,
             format: encoding.format,
         })
-    }
-}
-
-/// Whether these are the string offsets before, if there were some.
-#[tactic(auto, using(crate::proofs::SharedStrings::same_range))]
-fn is_last(before: Option<StringRange>, range: StringRange) -> bool
-    ensures { result ≡ true → before ≡ Some range }
-{
-    match before {
-        Some(last) => {
-            last.offset == range.offset
-                && last.size == range.size
-                && last.version == range.version
-                && is_wide(last.format) == is_wide(range.format)
-        }
-        None => false,
     }
 }
 
@@ -202,30 +177,17 @@ fn is_wide(format: Format) -> bool
 /// The units whose strings are still to be checked. Most units' are while the unit is at hand.
 #[derive(Drop)]
 pub(crate) struct UnreadStrings {
-    ends: Ends,
-    // How many bytes of string offsets may still be gone over so: units can have the same ones.
-    left: u64,
-    // The string offsets of the unit before.
-    last: Option<StringRange>,
+    /// Which strings of the package end.
+    pub ends: Ends,
+    /// How many bytes of string offsets may still be gone over so: units can have the same ones.
+    pub left: u64,
+    /// The string offsets of the unit before.
+    pub last: Option<StringRange>,
     /// Those that aren't checked, or can't all be read.
-    pub(crate) unread: Vec<(StringRange, DwarfObject)>,
+    pub unread: Vec<(StringRange, DwarfObject)>,
 }
 
 impl UnreadStrings {
-    /// Of a package whose strings end so, and whose string offsets have so many bytes.
-    pub(crate) fn new(alloc: Global, ends: Ends, size: usize) -> UnreadStrings
-        ensures ends { result.ends ≡ ends }
-        ensures last { result.last ≡ None }
-        ensures unread { result.unread.items ≡ [] }
-    {
-        UnreadStrings {
-            ends,
-            left: (size as u64).saturating_mul(2),
-            last: None,
-            unread: Vec::new(alloc),
-        }
-    }
-
     /// Adds a unit, unless it has the string offsets of the one before, or all its strings can be
     /// read; whether that is so isn't told where it would take too long.
     #[tactic(auto, using(crate::proofs::SharedStrings::none_added))]
@@ -240,7 +202,7 @@ impl UnreadStrings {
         let Some(range) = StringRange::of(unit) else {
             return Ok(());
         };
-        if is_last(self.last, range) {
+        if self.last == Some(range) {
             return Ok(());
         }
         if range.size <= self.left {
@@ -279,7 +241,7 @@ pub(crate) fn check_strings<O: Write>(
     let listed = strings.as_slice();
     let mut before: Option<StringRange> = None;
     for i in 0..listed.len() {
-        if is_last(before, listed[i].0) {
+        if before == Some(listed[i].0) {
             continue;
         }
         if !comes_behind(before, listed[i].0) {

@@ -2,8 +2,7 @@
 
 ghost use Rattle.std.specs.Prelude.{◌≡◌, option_copied, ◌<◌, ◌≤◌};
 ghost use Rattle.thorin_check.specs.Checking.{TellsTables, TellsRows};
-ghost use Rattle.thorin_check.specs.Faults.{lacks_abbreviations, lacks_strings, row_end};
-ghost use Rattle.thorin_check.specs.Faults.{TellsRowsOf, is_next, row_faults};
+ghost use Rattle.thorin_check.specs.Faults.{TellsRowsOf, is_next, row_end, row_faults};
 ghost use Rattle.thorin_check.specs.Telling.{so_far, Tells, Is};
 ghost use Rattle.thorin_find.specs.Listing.{AreByRow, place_of_line};
 ghost use Rattle.thorin_check.specs.Indexes.{mixed_versions, versions_faults, has_column};
@@ -19,23 +18,6 @@ use dwp_table::{CONTRIBUTION_KINDS, DwarfObject};
 use std::io::Write;
 use thorin_print::Failure;
 
-/// Whether a package that has units has no section of abbreviations, or an empty one.
-fn lacks_abbreviations(pack: &PackageFile<'_>, entries: &[UnitEntry]) -> bool
-    ensures { result ≡ lacks_abbreviations pack.now entries.now }
-{
-    !entries.is_empty() && pack.content(SectionKind::Abbrev).is_empty()
-}
-
-/// Whether a package that has string offsets has no section of strings, or an empty one.
-fn lacks_strings(pack: &PackageFile<'_>) -> bool
-    ensures { result ≡ lacks_strings pack.now }
-{
-    if pack.content(SectionKind::StrOffsets).is_empty() {
-        return false;
-    }
-    pack.content(SectionKind::Str).is_empty()
-}
-
 /// The sections of abbreviations and of strings aren't lacking, both indexes have one version and a
 /// column for each section that has bytes, and a slot names each row of both.
 pub(crate) fn check_tables<O: Write>(
@@ -48,11 +30,13 @@ pub(crate) fn check_tables<O: Write>(
         (so_far (O.contents out.old) faults.old) (so_far (O.contents out.new) faults.new) result }
 {
     let pack = indexed.pack;
-    let no_abbreviations = lacks_abbreviations(pack, indexed.entries);
-    let no_strings = lacks_strings(pack);
+    let no_abbreviations = pack.content(SectionKind::Abbrev).is_empty();
+    let no_strings = pack.content(SectionKind::Str).is_empty();
+    let lacks_abbreviations = !indexed.entries.is_empty() & no_abbreviations;
+    let lacks_strings = !pack.content(SectionKind::StrOffsets).is_empty() & no_strings;
     let empty = " is empty or absent";
-    check_section(SectionKind::Abbrev, no_abbreviations, empty, faults, out)?;
-    check_section(SectionKind::Str, no_strings, empty, faults, out)?;
+    check_section(SectionKind::Abbrev, lacks_abbreviations, empty, faults, out)?;
+    check_section(SectionKind::Str, lacks_strings, empty, faults, out)?;
     check_indexes(pack, faults, out)?;
     check_all_rows(pack, indexed.entries, faults, out)
 }
@@ -138,26 +122,13 @@ pub(crate) fn has_column(index: Option<&UnitIndex<'_>>, kind: SectionKind) -> bo
     }
 }
 
-/// An index, as far as it is known which of its rows slots name.
-#[derive(Clone, Copy)]
-struct Rows {
-    /// `cu` or `tu`.
-    kind: &'static str,
-    /// Whether it is that of type units.
-    is_types: bool,
-    /// The number behind that of its last row.
-    end: u64,
-}
-
-impl Rows {
-    /// Whether a slot names one of these rows, and none before this one.
-    fn is_next(self, slot: UnitEntry, next: u64) -> bool
-        ensures { result ≡ is_next self.is_types self.end slot next }
-    {
-        let row = u64::from(slot.row);
-        let is_type = matches!(slot.object, DwarfObject::TypeUnit(_));
-        is_type == self.is_types && next <= row && row < self.end
-    }
+/// Whether a slot names a row of an index before its end, and none before the next.
+fn is_next(is_types: bool, end: u64, slot: UnitEntry, next: u64) -> bool
+    ensures { result ≡ is_next is_types end slot next }
+{
+    let row = u64::from(slot.row);
+    let is_type = matches!(slot.object, DwarfObject::TypeUnit(_));
+    is_type == is_types && next <= row && row < end
 }
 
 /// The number behind that of the last row of an index; 1 where there is no index.
@@ -182,45 +153,39 @@ fn check_all_rows<O: Write>(
     ensures { Tells (TellsRows pack.now entries.now) (so_far (O.contents out.old) faults.old)
         (so_far (O.contents out.new) faults.new) result }
 {
-    let compilations = Rows {
-        kind: "cu",
-        is_types: false,
-        end: end_of(pack.compilation_index()),
-    };
-    let types = Rows {
-        kind: "tu",
-        is_types: true,
-        end: end_of(pack.type_index()),
-    };
-    check_rows(compilations, entries, faults, out)?;
-    check_rows(types, entries, faults, out)
+    let end = end_of(pack.compilation_index());
+    check_rows("cu", false, end, entries, faults, out)?;
+    let end = end_of(pack.type_index());
+    check_rows("tu", true, end, entries, faults, out)
 }
 
-/// A slot names each row of an index: tells each row before that of a slot of its kind, and then
-/// each row behind the last. A slot whose row isn't behind those of the slots before is passed
-/// over, as one whose row is past the rows.
+/// A slot names each row of an index up to its end: tells each row before that of a slot of its
+/// kind, and then each row behind the last. A slot whose row isn't behind those of the slots before
+/// is passed over, as one whose row is past the rows.
 #[tactic(auto, using(crate::proofs::NamedRows::covers_skipped))]
 fn check_rows<O: Write>(
-    rows: Rows,
+    kind: &str,
+    is_types: bool,
+    end: u64,
     entries: &[UnitEntry],
     faults: &mut Faults,
     out: &mut O,
 ) -> Result<(), Failure>
     requires sorted { IsSortedByKey place_of_line nat_cmp entries.now }
-    requires some { 0 < rows.end }
-    ensures { Tells (TellsRowsOf rows.kind.now rows.is_types rows.end entries.now)
+    requires some { 0 < end }
+    ensures { Tells (TellsRowsOf kind.now is_types end entries.now)
         (so_far (O.contents out.old) faults.old) (so_far (O.contents out.new) faults.new) result }
 {
     let mut next = 1u64;
     for i in 0..entries.len() {
-        if !rows.is_next(entries[i], next) {
+        if !is_next(is_types, end, entries[i], next) {
             continue;
         }
         let row = u64::from(entries[i].row);
-        tell_rows(rows.kind, next, row, faults, out)?;
+        tell_rows(kind, next, row, faults, out)?;
         next = row + 1;
     }
-    tell_rows(rows.kind, next, rows.end, faults, out)
+    tell_rows(kind, next, end, faults, out)
 }
 
 /// Tells that no slot names a row, of each row from one up to another, which isn't among them.

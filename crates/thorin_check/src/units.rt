@@ -1,6 +1,6 @@
 //! The units of a package, in `thorin check`: each by itself, and two whose ranges clash.
 
-ghost use Rattle.std.specs.Prelude.{◌≡◌, ◌&&◌, ◌==◌, None, Some, Ok, IfOk, OnOk, string_bytes};
+ghost use Rattle.std.specs.Prelude.{◌≡◌, if◌then◌else◌, None, Some, Ok, IfOk, OnOk, string_bytes};
 ghost use Rattle.std.specs.Prelude.{IfSome};
 ghost use Rattle.dwp_index.specs.Package.{found};
 ghost use Rattle.thorin_check.specs.Checking.{TellsUnits};
@@ -34,8 +34,8 @@ struct Seen<'a> {
     strings: UnreadStrings,
 }
 
-/// Checks each unit that a slot names, then the strings of each range of string offsets. That ranges
-/// clash and nothing is told can't be; then this tells of want of memory.
+/// Checks each unit that a slot names, then the strings of each range of string offsets. That
+/// ranges clash and nothing is told can't be; then this tells of want of memory.
 #[tactic(auto, using(crate::proofs::SharedStrings::nothing_gathered))]
 pub(crate) fn check_units<O: Write>(
     indexed: IndexedPackage<'_, '_>,
@@ -51,24 +51,23 @@ pub(crate) fn check_units<O: Write>(
         return Err(Failure::Memory);
     };
     let ends = Ends::of(pack);
+    let size = pack.content(SectionKind::StrOffsets).len() as u64;
     let mut seen = Seen {
         alloc,
         abbreviations: Remembered::new(alloc, pack),
-        strings: UnreadStrings::new(alloc, ends, pack.content(SectionKind::StrOffsets).len()),
+        strings: UnreadStrings {
+            ends,
+            left: size.saturating_mul(2),
+            last: None,
+            unread: Vec::new(alloc),
+        },
     };
     let count = faults.count;
     check_each(pack, indexed.entries, &overlaps, &mut seen, faults, out)?;
-    if is_untold(overlaps.clash, count, faults.count) {
+    if overlaps.clash & (faults.count == count) {
         return Err(Failure::Memory);
     }
     check_strings(pack, ends, &mut seen.strings.unread, faults, out)
-}
-
-/// Whether ranges clash, and the number of faults stayed.
-fn is_untold(clash: bool, before: u64, after: u64) -> bool
-    ensures { result ≡ (clash && after == before) }
-{
-    clash && after == before
 }
 
 /// Checks each unit that a slot names, and gathers those whose strings are still to be checked.
@@ -166,7 +165,7 @@ fn text_of_itself<'a>(
     ensures gathered { IfOk result (λ text. text ≡ None
         → Gathered pack.now seen.new.strings.unread.items unit.now) }
 {
-    if let Some(text) = clash_text(seen.alloc, pack, unit, shares.clash)? {
+    if let Some(text) = text_of_clash(seen.alloc, pack, unit, shares.clash)? {
         return Ok(Some(text));
     }
     match seen
@@ -196,7 +195,7 @@ fn unread_text(alloc: Global, error: PackageError) -> Result<String, AllocError>
 
 /// What is told of a unit whose range of a section clashes with that of another: these are given,
 /// where that may be so.
-pub(crate) fn clash_text(
+fn text_of_clash(
     alloc: Global,
     pack: &PackageFile<'_>,
     unit: &PackagedUnit<'_>,
@@ -214,33 +213,31 @@ pub(crate) fn clash_text(
     let a = unit.ranges();
     let b = second.ranges();
     if overlap(a.range(kind), b.range(kind)) {
-        return some(overlap_text(alloc, kind, other));
+        return some(clash_text(alloc, kind, other, false));
     }
     if differ_in_tables(kind, a, b) {
-        return some(tables_text(alloc, kind, other));
+        return some(clash_text(alloc, kind, other, true));
     }
     Ok(None)
 }
 
-/// What is told of a unit whose range of a section overlaps that of another.
+/// What is told of a unit whose range of a section overlaps that of another, or is the same.
 #[tactic(auto, using(thorin_print::proofs::Hex::hex16_written))]
-fn overlap_text(alloc: Global, kind: SectionKind, other: DwarfObject) -> Result<String, AllocError>
-    ensures { IfOk result (λ text. string_bytes text ≡ overlap_text kind other) }
+fn clash_text(
+    alloc: Global,
+    kind: SectionKind,
+    other: DwarfObject,
+    is_same: bool,
+) -> Result<String, AllocError>
+    ensures { IfOk result (λ text. string_bytes text
+        ≡ (if is_same then tables_text kind other else overlap_text kind other)) }
 {
     let name = kind.name();
     let other_kind = short_kind(other);
     let id = other.index();
-    format!(in alloc; "its range of {name} overlaps that of {other_kind} 0x{id:016x}")
-}
-
-/// What is told of a unit that shares its bytes with another, but not the abbreviations.
-#[tactic(auto, using(thorin_print::proofs::Hex::hex16_written))]
-fn tables_text(alloc: Global, kind: SectionKind, other: DwarfObject) -> Result<String, AllocError>
-    ensures { IfOk result (λ text. string_bytes text ≡ tables_text kind other) }
-{
-    let name = kind.name();
-    let other_kind = short_kind(other);
-    let id = other.index();
+    if !is_same {
+        return format!(in alloc; "its range of {name} overlaps that of {other_kind} 0x{id:016x}");
+    }
     format!(in alloc;
         "its range of {name} is that of {other_kind} 0x{id:016x}, with other abbreviations"
     )

@@ -1,3 +1,5 @@
+use Rattle.std.proofs.Common.{arith, refl}
+use Rattle.std.proofs.lemmas.Bool.Decides.{nat_tests}
 use Rattle.std.proofs.lemmas.Result.{err_from_is_err_and}
 use Rattle.thorin_print.proofs.Printed.{flushed, not_flushed}
 use Rattle.thorin_check.proofs.checking.finish.Goals as goal
@@ -16,9 +18,16 @@ returns-in_err-flush g c =
       not_flushed _ _ _ _ c.in_ok-print.ensures c.in_err-flush.ensures.kept,
     )
 
-pub returns : goal.returns
-returns g c = (
+pub returns-then-count-eq0 : goal.returns-then-count-eq0
+returns-then-count-eq0 g c = (
   rw (c.as_str.ensures.value, c.in-Ok.ensures) at
       (flushed _ _ _ _ c.in_ok-print.ensures c.in_ok-flush.ensures.kept),
-  c.status_of.ensures,
+  rw c.if-count-eq0.true refl,
+)
+
+pub returns-else-count-eq0 : goal.returns-else-count-eq0
+returns-else-count-eq0 g c = (
+  rw (c.as_str.ensures.value, c.in-Ok.ensures) at
+      (flushed _ _ _ _ c.in_ok-print.ensures c.in_ok-flush.ensures.kept),
+  grind (arith, nat_tests, c.if-count-eq0.false),
 )

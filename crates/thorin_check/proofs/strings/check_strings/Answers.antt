@@ -1,4 +1,4 @@
-use Rattle.std.proofs.Common.{Ok}
+use Rattle.std.proofs.Common.{Ok, sym, ◌∙◌}
 use Rattle.std.specs.List.{All}
 use Rattle.std.proofs.lemmas.List.Sorted.{All-permutation}
 use Rattle.std.proofs.lemmas.Result.{err_from_is_err_and}
@@ -6,6 +6,7 @@ use Rattle.thorin_print.proofs.Printed.{none_grown}
 use Rattle.thorin_check.specs.Gathered.{IsOfUnit}
 use Rattle.thorin_check.proofs.Distinct.{first_none, first_again, first_more, first_all}
 use Rattle.thorin_check.proofs.Distinct.{listed_before}
+use Rattle.thorin_check.proofs.SharedStrings.{same_range}
 use Rattle.thorin_check.proofs.Told.{none_told, told_then, told_as, stopped_behind}
 use Rattle.thorin_check.proofs.strings.check_strings.Goals as goal
 
@@ -20,10 +21,10 @@ loop-i-preserved g c =
     told_then (first_more _ _ c.loop-i.i _ c.loop-i-test.true _ are (c.comes_behind.ensures (cc)))
     c.loop-i.invariant c.in_ok-check_strings_of.ensures
 
-pub loop-i-preserved-then-is_last : goal.loop-i-preserved-then-is_last
-loop-i-preserved-then-is_last g c =
+pub loop-i-preserved-then-eq : goal.loop-i-preserved-then-eq
+loop-i-preserved-then-eq g c =
     told_as c.loop-i.invariant (first_again _ _ c.loop-i.i _ c.loop-i-test.true _
-    (c.is_last.ensures (cc)))
+    (same_range _ _ (sym c.eq.ensures ∙ c.if-eq.true)))
 
 pub returns-in_err-check_strings_of : goal.returns-in_err-check_strings_of
 returns-in_err-check_strings_of g c =

@@ -9,8 +9,8 @@ returns-in_err-check_rows g c =
 
 pub returns : goal.returns
 returns g c =
-    let compilations = rw (c.end_of.ensures.end, c.compilation_index.ensures.index) at
+    let compilations = rw (c.end_of-end.ensures.end, c.compilation_index.ensures.index) at
     c.in_ok-check_rows.ensures in
-    let types = rw (c.end_of-2.ensures.end, c.type_index.ensures.index) at
+    let types = rw (c.end_of-end-2.ensures.end, c.type_index.ensures.index) at
     c.check_rows-2.ensures in
     in_turn_or _ _ _ _ _ _ c.check_rows-2.result compilations types

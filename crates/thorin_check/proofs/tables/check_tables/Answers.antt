@@ -1,4 +1,6 @@
+use Rattle.std.proofs.Common.{◌≡◌, ◌&&◌, not, rules}
 use Rattle.std.proofs.lemmas.Result.{err_from_is_err_and}
+use Rattle.thorin_check.specs.Faults.{lacks_abbreviations, lacks_strings}
 use Rattle.thorin_check.proofs.Told.{told_then, in_turn, in_turn_or, stopped_behind}
 use Rattle.thorin_check.proofs.tables.check_tables.Goals as goal
 
@@ -23,8 +25,11 @@ returns-in_err-check_indexes g c =
 
 pub returns : goal.returns
 returns g c =
-    let abbreviations = c.lacks_abbreviations-no_abbreviations.ensures in
-    let strings = c.lacks_strings-no_strings.ensures in
+    let pack = c.args.indexed.pack.now in
+    let abbreviations : (not c.is_empty.result && c.is_empty-no_abbreviations.result)
+    ≡ lacks_abbreviations pack c.args.indexed.entries.now = grind rules in
+    let strings : (not c.is_empty-2.result && c.is_empty-no_strings.result)
+    ≡ lacks_strings pack = grind rules in
     let result = c.check_all_rows.result in
     in_turn_or _ _ _ _ _ _ result (told_then in_turn
     (rw abbreviations at c.in_ok-check_section.ensures)

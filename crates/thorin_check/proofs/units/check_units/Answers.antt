@@ -1,5 +1,4 @@
 use Rattle.std.proofs.lemmas.Result.{err_from_is_err_and}
-use Rattle.std.proofs.Common.{◌∙◌, sym}
 use Rattle.thorin_check.proofs.Distinct.{units_apart, units_then}
 use Rattle.thorin_check.proofs.Told.{then_or}
 use Rattle.thorin_check.proofs.units.check_units.Goals as goal
@@ -13,5 +12,5 @@ pub returns : goal.returns
 returns g c =
     then_or _ _ _ _ _ _ _ (units_then _ _ _) c.check_strings.result
     (units_apart _ _ _ _ c.in-Ok.ensures
-    (sym c.is_untold.ensures ∙ c.if-is_untold.false) c.in_ok-check_each.ensures.told)
+    c.if-overlaps-faults.false c.in_ok-check_each.ensures.told)
     c.check_strings.ensures

@@ -1,13 +1,13 @@
-use Rattle.std.proofs.Common.{◌∙◌}
+use Rattle.std.proofs.Common.{sym, ◌∙◌}
 use Rattle.thorin_check.specs.declared.abbreviations.PlaceRead.{PlaceRead}
-use Rattle.thorin_check.proofs.Own.{known_again, known_more, read_at}
+use Rattle.thorin_check.proofs.Own.{known_again, known_more, places_same, read_at}
 use Rattle.thorin_check.proofs.abbreviations.Remembered.text_of.Goals as goal
 
-pub returns-then-is-clause-text : goal.returns-then-is-clause-text
-returns-then-is-clause-text c =
+pub returns-then-eq-clause-text : goal.returns-then-eq-clause-text
+returns-then-eq-clause-text c =
     rw (known_again c.args.pack.now c.args.object c.args.unit.now _ _ c.requires.is_found
     c.requires.knows.shared c.in-Some.ensures.member
-    (c.is.ensures c.if-is.true ∙ c.of-place.ensures)) at c.own_fault.ensures
+    (places_same _ _ (sym c.eq.ensures ∙ c.if-eq.true) ∙ c.of-place.ensures)) at c.own_fault.ensures
 
 pub returns-then-has_twin-clause-knows : goal.returns-then-has_twin-clause-knows
 returns-then-has_twin-clause-knows c =

@@ -1,6 +1,12 @@
-use Rattle.std.proofs.Common.{refl, arith}
-use Rattle.thorin_check.proofs.SharedStrings.{of_found, read_added, listed_added}
+use Rattle.std.proofs.Common.{refl, arith, sym, ◌∙◌}
+use Rattle.thorin_check.proofs.SharedStrings.{of_found, read_added, listed_added, last_added}
+use Rattle.thorin_check.proofs.SharedStrings.{same_range}
 use Rattle.thorin_check.proofs.strings.UnreadStrings.add.Goals as goal
+
+pub returns-then-eq : goal.returns-then-eq
+returns-then-eq c = λ pack g is.
+    last_added pack c.args.self.now c.args.unit.now c.args.object g is _ c.in-Some.ensures
+    (same_range _ _ (sym c.eq.ensures ∙ c.if-eq.true))
 
 pub returns-then-all_end : goal.returns-then-all_end
 returns-then-all_end c = λ pack g is.
