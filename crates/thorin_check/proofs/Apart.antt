@@ -1,7 +1,7 @@
 -- Ranges that don't overlap, unless they are the same, and are read alike.
 use Rattle.std.proofs.Common.{◌≡◌, ◌⊎◌, ◌∙◌, ℕ, ◌+◌, ◌-◌, ◌^◌, ◌<◌, ◌≤◌, min, true, false, List, []}
 use Rattle.std.proofs.Common.{◌∷◌, length, get_or, take, Option, Some, None, Result, Ok, Err, Bool}
-use Rattle.std.proofs.Common.{◌||◌, not, refl, sym, inl, inr, arith, below_more, nat_eq}
+use Rattle.std.proofs.Common.{◌||◌, ◌&&◌, nat_le, nat_lt, not, refl, sym, inl, inr, arith, below_more, nat_eq}
 use Rattle.std.specs.List.{AllPairs, Contains}
 use Rattle.std.specs.List.Sorted.{IsPermutation}
 use Rattle.std.proofs.lemmas.Bool.Decides.{nat_tests}
@@ -87,6 +87,13 @@ gone_more ranges i e lt farthest further before g here more end = record {
       (rw (get_or_default ranges i d e lt) end) k below;
   last = λ range is. (i, refl, λ d. rw (get_or_default ranges i d e lt) is);
 }
+
+-- a range is the same as the one before, or begins behind all, as its tests tell
+pub is_behind : (twin : Bool) (farthest offset : ℕ)
+    → (twin || (nat_le farthest offset && nat_lt farthest (2 ^ 64 - 1))) ≡ true
+    → (twin ≡ true) ⊎ ((farthest ≤ offset) × (farthest < 2 ^ 64 - 1))
+is_behind true farthest offset e = inl refl
+is_behind false farthest offset e = inr (grind (arith, nat_tests))
 
 pub gone_on : (ranges : List Placed) (i : ℕ) (e : Placed) → i < length ranges
     → (farthest further : ℕ) (before : Option Placed) (any twin behind : Bool)

@@ -1,7 +1,7 @@
 //! Ranges of units that clash with those of others, in `thorin check`: they overlap, or are the
 //! same bytes of units, and their rows have other abbreviations.
 
-ghost use Rattle.std.specs.Prelude.{◌≡◌, ◌⊎◌, ◌≤◌, ◌<◌, ◌+◌, ◌-◌, ◌^◌, min, true, false, IfOk};
+ghost use Rattle.std.specs.Prelude.{◌≡◌, ◌+◌, ◌-◌, ◌^◌, min, true, false, IfOk};
 ghost use Rattle.std.specs.Prelude.{OnOk};
 ghost use Rattle.std.specs.List.{AllPairs};
 ghost use Rattle.std.specs.List.Sorted.{IsPermutation};
@@ -105,7 +105,7 @@ impl Overlaps {
         for range in ranges {
             self.mark_both(kind, before, *range);
             let is_twin = is_last(before, *range);
-            clash |= !is_behind(is_twin, farthest, *range);
+            clash |= !(is_twin | (farthest <= range.offset) & (farthest < u64::MAX));
             farthest = farthest.max(end(*range));
             before = Some(*range);
         }
@@ -333,15 +333,6 @@ fn is_last(before: Option<Placed>, range: Placed) -> bool
         Some(last) => is_same(last, range) && is_same_range(last.tables, range.tables),
         None => false,
     }
-}
-
-/// Whether a range begins behind those before, which end there at the farthest, or is the same as
-/// the one before.
-fn is_behind(is_twin: bool, farthest: u64, range: Placed) -> bool
-    ensures { result ≡ true
-        → (is_twin ≡ true) ⊎ ((farthest ≤ range.offset) × (farthest < 2 ^ 64 - 1)) }
-{
-    is_twin || (farthest <= range.offset && farthest < u64::MAX)
 }
 
 /// Where a range ends, as far as 64 bits go.
