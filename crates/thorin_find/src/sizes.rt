@@ -183,15 +183,11 @@ pub(crate) fn put_totals(totals: &[Total], form: Form, text: &mut String) -> Res
         let size = total.size;
         match (form, total.ranges) {
             (Form::Lines, None) => writeln!(added, "total {name} {size}")?,
-            (Form::Lines, Some(ranges)) => {
-                let once = ranges.once;
-                let shared = ranges.shared;
+            (Form::Lines, Some(RangeTotal { once, shared })) => {
                 writeln!(added, "total {name} {size} units {once} shared {shared}")?;
             }
             (Form::Json, None) => writeln!(added, "{{\"total\":\"{name}\",\"size\":{size}}}")?,
-            (Form::Json, Some(ranges)) => {
-                let once = ranges.once;
-                let shared = ranges.shared;
+            (Form::Json, Some(RangeTotal { once, shared })) => {
                 writeln!(
                     added,
                     "{{\"total\":\"{name}\",\"size\":{size},\"units\":{once},\"shared\":{shared}}}"
