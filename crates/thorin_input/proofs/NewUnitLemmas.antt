@@ -14,7 +14,7 @@ use Rattle.thorin_index.proofs.RowLemmas.{at_least}
 use Rattle.thorin_input.specs.Names.{same_name}
 use Rattle.thorin_input.specs.NewUnits.{kept_bytes, NewUnit, or_held}
 use Rattle.thorin_input.specs.UnitView.{new_unit}
-use Rattle.thorin_input.specs.declared.new_units.NewUnit.{NewUnit as CodeUnit}
+use Rattle.thorin_input.specs.declared.units.NewUnit.{NewUnit as CodeUnit}
 use Rattle.dwp_table.specs.contracts.object.DwarfObjectPartialEq.TheImpl as derived
 
 -- `==` is the same name

@@ -25,8 +25,7 @@ use Rattle.thorin_input.specs.Format.{is_shared}
 use Rattle.dwp_elf.specs.Growing.{Contents, contribution_put}
 use Rattle.thorin_input.specs.Parts.{joined_parts}
 use Rattle.thorin_input.specs.Indexes.{Indexes}
-use Rattle.thorin_input.specs.Rows.{unit_contribution, unit_row, whole_row}
-use Rattle.thorin_input.specs.WholeFits.{EndFits, EndsFit}
+use Rattle.thorin_input.specs.Rows.{EndFits, EndsFit, unit_contribution, unit_row, whole_row}
 
 -- ---- where whole sections come to lie
 

@@ -1,6 +1,6 @@
 -- What the fields of a `ContributionAdjustor` hold.
 use Rattle.std.specs.Option.{option_copied}
-use Rattle.thorin_input.specs.declared.adjustor.ContributionAdjustor.TheInside.{Inside}
+use Rattle.thorin_input.specs.declared.source.ContributionAdjustor.TheInside.{Inside}
 use Rattle.thorin_input.specs.Adjusting.{Adjustor}
 
 abbrev pub indexes_in : Inside → Adjustor

@@ -4,7 +4,6 @@ pub mod Held
 pub mod Indexes
 pub mod Names
 pub mod Rows
-pub mod WholeFits
 pub mod Format
 pub mod InputStrings
 pub mod Parts

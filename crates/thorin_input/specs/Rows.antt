@@ -1,7 +1,8 @@
 -- The rows that units get: each unit's contribution to each section of its input, where it comes
 -- to lie in the package (DWARF 5, 7.3.5.3).
 use Rattle.std.specs.Prelude.{Bool, Err, false, if◌then◌else◌, length, List, None, not, Ok, Option}
-use Rattle.std.specs.Prelude.{Result, Some, true, ℕ, ◌&&◌, ◌==◌}
+use Rattle.std.specs.Prelude.{Result, Some, true, ℕ, ◌&&◌, ◌==◌, ◌≡◌, ◌+◌, ◌<◌, ◌^◌}
+use Rattle.std.specs.Option.{ForSome}
 use Rattle.dwp_base.specs.declared.section.SectionKind.{SectionKind}
 use Rattle.dwp_base.specs.declared.section.SectionKind.TheVariants.{Abbrev}
 use Rattle.dwp_base.specs.declared.section.Contribution.{Contribution}
@@ -28,6 +29,14 @@ use Rattle.dwp_elf.specs.Growing.{Contents, contribution_put}
 use Rattle.thorin_input.specs.Parts.{joined_parts}
 use Rattle.thorin_input.specs.Indexes.{index_for, Indexes, is_package, looked_up, Source}
 use Rattle.thorin_input.specs.Used.{first}
+
+-- the end of a range has 64 bits
+abbrev pub EndFits : Option Contribution → Type 0
+EndFits range = ForSome range (λ c. c.offset.0 + c.size < 2 ^ 64)
+
+-- so have those of a row, but for the unit's own bytes
+abbrev pub EndsFit : IndexEntry → Type 0
+EndsFit row = (kind : SectionKind) → is_shared kind ≡ true → EndFits (contribution_to kind row)
 
 -- where the whole of each section that units share comes to lie, once parts are added to contents:
 -- as the row of a unit that has all of it

@@ -1,8 +1,8 @@
 -- What the units that an input adds, and what they depend on, stand for.
 use Rattle.std.specs.Prelude.{◌≡◌, ℕ, List, map, get_or}
 use Rattle.dwp_base.specs.declared.section.SectionKind.{SectionKind}
-use Rattle.thorin_input.specs.declared.new_units.NewUnit.{NewUnit}
-use Rattle.thorin_input.specs.declared.new_units.NewUnits.{NewUnits}
+use Rattle.thorin_input.specs.declared.units.NewUnit.{NewUnit}
+use Rattle.thorin_input.specs.declared.units.NewUnits.{NewUnits}
 use Rattle.thorin_input.specs.declared.units.Adding.{Adding}
 use Rattle.thorin_input.specs.declared.units.SeenSections.{SeenSections}
 use Rattle.dwp_bytes.specs.Input.{Input}
@@ -10,7 +10,7 @@ use Rattle.dwp_bytes.specs.declared.slice.SliceReader.{SliceReader}
 use Rattle.thorin_input.specs.Held.{held_units}
 use Rattle.thorin_input.specs.Indexes.{Source}
 use Rattle.thorin_input.specs.NewUnits as spec
-use Rattle.thorin_input.specs.declared.held.Held.{Held}
+use Rattle.thorin_input.specs.declared.units.Held.{Held}
 use Rattle.thorin_input.specs.declared.rows.PlacedRows.{PlacedRows}
 use Rattle.dwp_table.specs.declared.object.DwarfObject.{DwarfObject}
 use Rattle.thorin_index.specs.declared.entry.IndexEntry.{IndexEntry}

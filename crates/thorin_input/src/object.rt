@@ -1,14 +1,17 @@
-//! Which sections of an input are used, and what they hold.
+//! Which sections of an input are used, what they hold, and the encoding of its units.
 
-ghost use Rattle.std.specs.Prelude.{◌≡◌, ◌||◌, not, find, option_map};
+ghost use Rattle.std.specs.Prelude.{◌≡◌, ◌&&◌, ◌||◌, not, find, option_map, Some, None};
+ghost use Rattle.std.specs.Prelude.{if◌then◌else◌};
 ghost use Rattle.std.specs.List.{list_any};
 ghost use Rattle.dwp_base.specs.Sections.{same_kind};
 ghost use Rattle.dwp_base.specs.declared.section.SectionKind.TheVariants as kinds;
 ghost use Rattle.dwp_elf_read.specs.View.{elf};
 ghost use Rattle.thorin_errors.specs.Answers.{Gives};
+ghost use Rattle.thorin_input.specs.Encodings as encodings;
 ghost use Rattle.thorin_input.specs.Used as spec;
 
 use dwp_base::{Endianness, SectionKind};
+use dwp_dwarf::{Encoding, Reader, SliceReader, UnitHeaders, UnitSection};
 use dwp_elf_read::{ElfFile, FileKind};
 use thorin_errors::Error;
 
@@ -62,12 +65,10 @@ impl<'a> InputObject<'a> {
     pub fn find(&self, kind: SectionKind) -> Option<UsedSection<'a>>
         ensures { option_map used result ≡ find (spec.has_kind kind) (object self.now).sections }
     {
-        for section in &self.sections {
-            if section.kind.is(kind) {
-                return Some(*section);
-            }
-        }
-        None
+        self.sections
+            .iter()
+            .copied()
+            .find(|section| section.kind.is(kind))
     }
 
     /// The content of the first section of a kind; no bytes where there is none.
@@ -78,5 +79,45 @@ impl<'a> InputObject<'a> {
             Some(section) => section.bytes,
             None => &[],
         }
+    }
+
+    /// The encoding of the input: that of its first unit.
+    ///
+    /// # Errors
+    /// `NoCompilationUnits` where there is none, `ParseUnitHeader` where its header can't be read.
+    #[tactic(auto, unfolding(crate::specs::Encodings::encoding_of))]
+    pub fn encoding(&self) -> Result<Encoding, Error>
+        ensures { Gives (λ encoding. encoding) result (encodings.encoding_of (object self.now)) }
+    {
+        let info = SliceReader::new(self.first(SectionKind::Info), self.order);
+        let mut units = UnitHeaders::new(info, UnitSection::Info);
+        match units.next() {
+            None => Err(Error::NoCompilationUnits),
+            Some(Err(e)) => Err(Error::ParseUnitHeader(e)),
+            Some(Ok(header)) => Ok(header.encoding()),
+        }
+    }
+
+    /// The one encoding of all units of a plain object, whose first unit has this one, where all
+    /// are alike; none of a finished package.
+    pub fn one_encoding(&self, encoding: Encoding, alike: bool) -> Option<Encoding>
+        ensures { result ≡ (if encodings.is_plain (object self.now).sections && alike
+            then Some encoding else None) }
+    {
+        if self.plain && alike {
+            Some(encoding)
+        } else {
+            None
+        }
+    }
+}
+
+/// The one encoding of two groups of units that have one each.
+pub fn common(a: Option<Encoding>, b: Option<Encoding>) -> Option<Encoding>
+    ensures { result ≡ encodings.common a b }
+{
+    match (a, b) {
+        (Some(a), Some(b)) if a == b => Some(a),
+        _ => None,
     }
 }

@@ -62,19 +62,13 @@ struct Gathering<'a> {
     repeats: Repeats,
 }
 
-/// Whether units have contributions to a section of this kind.
-fn is_of_units(kind: SectionKind) -> bool
-    ensures { result ≡ formats.is_of_units kind }
-{
-    CONTRIBUTION_KINDS.iter().any(|other| kind.is(*other))
-}
-
-/// Whether packages of an encoding's version have a section of this kind.
+/// Whether packages of an encoding's version have a section of this kind: of those that units have
+/// contributions to only some.
 fn is_in_format(encoding: Encoding, kind: SectionKind) -> bool
     ensures { result ≡ formats.is_in_format encoding kind }
 {
     let version = encoding.dwarf_package_index_version();
-    !is_of_units(kind) || column_of(version, kind).is_some()
+    !CONTRIBUTION_KINDS.iter().any(|other| kind.is(*other)) || column_of(version, kind).is_some()
 }
 
 /// Whether a section goes to the package whole and as it is.
@@ -93,26 +87,6 @@ pub(crate) fn is_shared(kind: SectionKind) -> bool
     ensures { result ≡ formats.is_shared kind }
 {
     is_copied(kind) || kind.is(SectionKind::StrOffsets)
-}
-
-/// Whether a part of a kind is there.
-fn has_part(parts: &[Part<'_>], kind: SectionKind) -> bool
-    ensures { result ≡ spec.has_part kind (map view.part parts.now) }
-{
-    for part in parts {
-        if part.kind.is(kind) {
-            return true;
-        }
-    }
-    false
-}
-
-/// Whether an input may have one section of a kind alone.
-fn stands_once(source: &Source<'_>, kind: SectionKind) -> bool
-    ensures { result ≡ spec.stands_once (view.source source.now) kind }
-{
-    source.indexes.is_package()
-        || source.encoding.is_std_dwarf_package_format() && kind.is(SectionKind::StrOffsets)
 }
 
 /// String offsets that name their strings in the table: those of a package range by range. An `Err`
@@ -201,7 +175,15 @@ fn add_part<'a>(
     ensures kept { take (length strings.old) strings.new ≡ strings.old }
     ensures known { AreKnown named.now strings.new gathering.new.repeats }
 {
-    if stands_once(source, section.kind) && has_part(&gathering.parts, section.kind) {
+    let is_std = source.encoding.is_std_dwarf_package_format();
+    let stands_once = source.indexes.is_package()
+        | (is_std & section.kind.is(SectionKind::StrOffsets));
+    if stands_once
+        && gathering
+            .parts
+            .iter()
+            .any(|part| part.kind.is(section.kind))
+    {
         return Err(Error::RepeatedSection(section.kind.name()));
     }
     if !is_in_format(source.encoding, section.kind) {

@@ -1,11 +1,10 @@
 //! The rows that units get: each unit's contribution to each section of its input, tested, and put
 //! where the section comes to lie in the package.
 
-ghost use Rattle.std.specs.Prelude.{◌≡◌, length, map, false, None, IfOk, IfErr, if◌then◌else◌};
+ghost use Rattle.std.specs.Prelude.{◌≡◌, take, drop, map, None, IfOk, IfErr, if◌then◌else◌};
 ghost use Rattle.dwp_base.specs.declared.section.SectionKind.TheVariants.{Abbrev};
 ghost use Rattle.dwp_units.specs.Units.{unit_of};
 ghost use Rattle.dwp_elf.specs.Growing.{contribution_put};
-ghost use Rattle.dwp_index.specs.Package.{part_of, is_outside};
 ghost use Rattle.dwp_table.specs.Objects.{identifier_of};
 ghost use Rattle.thorin_errors.specs.Answers.{Gives};
 ghost use Rattle.thorin_input.specs.Adjusting.{GivesExactly};
@@ -14,17 +13,16 @@ ghost use Rattle.thorin_input.specs.Format.{is_shared};
 ghost use Rattle.thorin_input.specs.Indexes.{index_for, looked_up};
 ghost use Rattle.thorin_input.specs.Parts.{joined_parts};
 ghost use Rattle.thorin_input.specs.Rows as spec;
+ghost use Rattle.thorin_input.specs.Rows.{EndFits, EndsFit};
 ghost use Rattle.thorin_input.specs.Used.{first};
 ghost use Rattle.thorin_input.specs.View as view;
-ghost use Rattle.thorin_input.specs.WholeFits.{EndFits, EndsFit};
 
-use crate::adjustor::ContributionAdjustor;
 use crate::parts::{Part, is_shared};
-use crate::source::{Indexes, Source};
+use crate::source::{ContributionAdjustor, Indexes, Source};
 use dwp_base::{ByKind, Contribution, ContributionOffset, Endianness, SectionKind};
 use dwp_dwarf::{Encoding, Reader, SliceReader, UnitHeader, UnitType};
 use dwp_elf::WritableObject;
-use dwp_index::{Row, UnitIndex, lies_inside};
+use dwp_index::{UnitIndex, lies_inside};
 use dwp_table::{Bucketable, DwarfObject, DwoId};
 use std::alloc::Global;
 use thorin_errors::Error;
@@ -42,35 +40,28 @@ pub struct Whole {
     ghost no_types: { row.debug_types ≡ None },
 }
 
-/// How many bytes parts add to the section of a kind. `Memory` where no memory could hold them.
-fn added(parts: &[Part<'_>], kind: SectionKind) -> Result<usize, Error>
-    ensures size { IfOk result (λ size.
-        size ≡ length (joined_parts kind (map view.part parts.now))) }
+/// Where the whole of a section that units share comes to lie once parts are put; None for any other
+/// section. `Memory` where no memory could hold it.
+fn whole_contribution(
+    file: &WritableObject,
+    parts: &[Part<'_>],
+    kind: SectionKind,
+) -> Result<Option<Contribution>, Error>
+    ensures range { IfOk result (λ range. range ≡ (if is_shared kind
+        then contribution_put kind (joined_parts kind (map view.part parts.now)) file.now.contents
+        else None)) }
+    ensures fits { IfOk result EndFits }
     ensures refused { IfErr result (λ e. e ≡ Error.Memory) }
 {
+    if !is_shared(kind) {
+        return Ok(None);
+    }
     let mut size = 0_usize;
     for part in parts {
         if part.kind.is(kind) {
             size = size.checked_add(part.bytes().len()).ok_or(Error::Memory)?;
         }
     }
-    Ok(size)
-}
-
-/// Where the whole of the section of a kind comes to lie once parts are put. `Memory` where no
-/// memory could hold it.
-fn whole_contribution(
-    file: &WritableObject,
-    parts: &[Part<'_>],
-    kind: SectionKind,
-) -> Result<Option<Contribution>, Error>
-    ensures range { IfOk result (λ range.
-        range ≡ contribution_put kind (joined_parts kind (map view.part parts.now))
-        file.now.contents) }
-    ensures fits { IfOk result EndFits }
-    ensures refused { IfErr result (λ e. e ≡ Error.Memory) }
-{
-    let size = added(parts, kind)?;
     if size == 0 {
         return Ok(None);
     }
@@ -84,26 +75,6 @@ fn whole_contribution(
     }))
 }
 
-/// Where the whole of a section that units share comes to lie; None for any other section. `Memory`
-/// where no memory could hold it.
-fn shared_contribution(
-    file: &WritableObject,
-    parts: &[Part<'_>],
-    kind: SectionKind,
-) -> Result<Option<Contribution>, Error>
-    ensures range { IfOk result (λ range. range ≡ (if is_shared kind
-        then contribution_put kind (joined_parts kind (map view.part parts.now)) file.now.contents
-        else None)) }
-    ensures fits { IfOk result EndFits }
-    ensures refused { IfErr result (λ e. e ≡ Error.Memory) }
-{
-    if is_shared(kind) {
-        whole_contribution(file, parts, kind)
-    } else {
-        Ok(None)
-    }
-}
-
 impl Whole {
     /// Where the whole of each section comes to lie once parts are put behind the contents of a
     /// file.
@@ -115,35 +86,10 @@ impl Whole {
             whole.row ≡ spec.whole_row encoding file.now.contents (map view.part parts.now)) }
         ensures refused { IfErr result (λ e. e ≡ Error.Memory) }
     {
-        let ranges = ByKind::read(None, |kind| shared_contribution(file, parts, kind))?;
+        let ranges = ByKind::read(None, |kind| whole_contribution(file, parts, kind))?;
         let row = IndexEntry::by_kind(encoding, DwarfObject::Compilation(DwoId(0)), &ranges);
         Ok(Whole { row })
     }
-}
-
-/// A unit, and the number of its row; none where its index is missing, or doesn't name it.
-#[derive(Clone, Copy)]
-struct Numbered {
-    name: DwarfObject,
-    number: Option<u32>,
-}
-
-/// A unit's contribution to a section which as a whole lies there in the package.
-fn adjusted_contribution(
-    indexes: &Indexes<'_>,
-    unit: Numbered,
-    kind: SectionKind,
-    whole: Option<Contribution>,
-) -> Result<Option<Contribution>, Error>
-    requires number { unit.number
-        ≡ looked_up (index_for (view.indexes indexes.now) unit.name) (identifier_of unit.name) }
-    requires whole { EndFits whole }
-    ensures { GivesExactly result
-        (spec.adjusted_contribution (view.indexes indexes.now) unit.name kind whole) }
-{
-    let compilations = indexes.compilations.as_ref();
-    let types = indexes.types.as_ref();
-    ContributionAdjustor::new(compilations, types, kind).adjust_row(unit.name, unit.number, whole)
 }
 
 /// A unit's contribution to a section: adjusted where units share the section, else that of the
@@ -151,20 +97,21 @@ fn adjusted_contribution(
 fn unit_contribution(
     indexes: &Indexes<'_>,
     whole: &Whole,
-    unit: Numbered,
+    name: DwarfObject,
+    number: Option<u32>,
     kind: SectionKind,
 ) -> Result<Option<Contribution>, Error>
-    requires number { unit.number
-        ≡ looked_up (index_for (view.indexes indexes.now) unit.name) (identifier_of unit.name) }
-    ensures { GivesExactly result (spec.unit_contribution (view.indexes indexes.now) unit.name kind
+    requires number { number
+        ≡ looked_up (index_for (view.indexes indexes.now) name) (identifier_of name) }
+    ensures { GivesExactly result (spec.unit_contribution (view.indexes indexes.now) name kind
         (contribution_to kind whole.now.row)) }
 {
     let all = whole.row.contribution(kind);
-    if is_shared(kind) {
-        adjusted_contribution(indexes, unit, kind, all)
-    } else {
-        Ok(all)
+    if !is_shared(kind) {
+        return Ok(all);
     }
+    let (compilations, types) = (indexes.compilations.as_ref(), indexes.types.as_ref());
+    ContributionAdjustor::new(compilations, types, kind).adjust_row(name, number, all)
 }
 
 /// The row of a unit but for its own bytes: its contribution to each section that units share.
@@ -184,26 +131,16 @@ pub fn unit_row(
         (spec.unit_row (view.indexes indexes.now) whole.now.row name) }
     ensures name { IfOk result (λ row. row.id ≡ name) }
 {
-    match (&indexes.compilations, &indexes.types) {
-        (None, None) => {
-            let mut row = whole.row;
-            row.id = name;
-            Ok(row)
-        }
-        _ => packaged_row(indexes, whole, Numbered { name, number }),
+    if let (None, None) = (&indexes.compilations, &indexes.types) {
+        let mut row = whole.row;
+        row.id = name;
+        return Ok(row);
     }
-}
-
-/// The row of a unit of a package, as `unit_row` says.
-fn packaged_row(indexes: &Indexes<'_>, whole: &Whole, unit: Numbered) -> Result<IndexEntry, Error>
-    requires number { unit.number
-        ≡ looked_up (index_for (view.indexes indexes.now) unit.name) (identifier_of unit.name) }
-    ensures meaning { Gives (λ row. row) result
-        (spec.unit_row (view.indexes indexes.now) whole.now.row unit.name) }
-    ensures name { IfOk result (λ row. row.id ≡ unit.name) }
-{
-    let contributions = ByKind::read(None, |kind| unit_contribution(indexes, whole, unit, kind))?;
-    Ok(IndexEntry::by_kind(whole.row.encoding, unit.name, &contributions))
+    let contributions = ByKind::read(
+        None,
+        |kind| unit_contribution(indexes, whole, name, number, kind),
+    )?;
+    Ok(IndexEntry::by_kind(whole.row.encoding, name, &contributions))
 }
 
 /// A unit's contribution to the section that it stands in.
@@ -292,55 +229,36 @@ pub fn test_row<'a>(
     }
 }
 
-/// Where the abbreviations of a row stand; none where it has none. `BadContribution` where they are
-/// outside the section.
-#[tactic(auto, unfolding(crate::specs::Rows::row_abbreviations))]
-fn row_abbreviations(bytes: &[u8], row: &Row<'_>) -> Result<Option<Contribution>, Error>
-    ensures part { Gives (part_of bytes.now) result (spec.row_abbreviations bytes.now row.now) }
-    ensures inside { IfOk result (λ range. is_outside bytes.now range ≡ false) }
-{
-    let Some(range) = row.range(SectionKind::Abbrev) else {
-        return Ok(None);
-    };
-    if !lies_inside(bytes, range) {
-        return Err(Error::BadContribution(SectionKind::Abbrev.name(), 0));
-    }
-    Ok(Some(range))
-}
-
-/// The abbreviations of the row with that number.
-#[tactic(auto, unfolding(crate::specs::Rows::numbered_abbreviations))]
+/// Where the abbreviations of the row with that number begin and end; none where it has none.
+/// `BadContribution` where they are outside the section.
+#[tactic(auto, using(crate::proofs::Ends::part_of_range), unfolding(crate::specs::Rows::numbered_abbreviations, crate::specs::Rows::row_abbreviations))]
 fn numbered_abbreviations(
     bytes: &[u8],
     index: &Option<UnitIndex<'_>>,
     number: Option<u32>,
-) -> Result<Option<Contribution>, Error>
-    ensures part { Gives (part_of bytes.now) result
+) -> Result<(usize, usize), Error>
+    ensures { Gives (λ range. drop range.0 (take range.1 bytes.now)) result
         (spec.numbered_abbreviations bytes.now index.now number) }
-    ensures inside { IfOk result (λ range. is_outside bytes.now range ≡ false) }
 {
-    match (index, number) {
-        (Some(index), Some(number)) => match index.row(number) {
-            Ok(row) => row_abbreviations(bytes, &row),
-            Err(e) => Err(Error::RowNotInIndex(e, number)),
-        },
-        _ => Err(Error::UnitNotInIndex(0)),
+    let (Some(index), Some(number)) = (index, number) else {
+        return Err(Error::UnitNotInIndex(0));
+    };
+    let row = match index.row(number) {
+        Ok(row) => row,
+        Err(e) => return Err(Error::RowNotInIndex(e, number)),
+    };
+    let Some(range) = row.range(SectionKind::Abbrev) else {
+        return Ok((0, 0));
+    };
+    if !lies_inside(bytes, range) {
+        return Err(Error::BadContribution(SectionKind::Abbrev.name(), 0));
     }
+    let start = range.offset.0 as usize;
+    Ok((start, start + range.size as usize))
 }
 
-/// The contribution that is all bytes.
-fn contribution_of_all(bytes: &[u8]) -> Option<Contribution>
-    ensures part { part_of bytes.now result ≡ bytes.now }
-    ensures inside { is_outside bytes.now result ≡ false }
-{
-    Some(Contribution {
-        offset: ContributionOffset(0),
-        size: bytes.len() as u64,
-    })
-}
-
-/// The range of the first section of abbreviations that a unit's identity is read with: all of it,
-/// or for a compile unit of a package the range of its row by place.
+/// Where the part of the first section of abbreviations begins and ends that a unit's identity is
+/// read with: all of it, or for a compile unit of a package the range of its row by place.
 ///
 /// # Errors
 /// `UnitNotInIndex` where there is no such row, `BadContribution` where they are outside the
@@ -352,18 +270,18 @@ pub fn abbreviations_for<'a>(
     placed: &PlacedRows<'_, '_>,
     kind: SectionKind,
     header: &UnitHeader<SliceReader<'a>>,
-) -> Result<Option<Contribution>, Error>
+) -> Result<(usize, usize), Error>
     requires placed { placed.now.compilations
         ≡ record { index = (view.source source.now).indexes.compilations; section = kind } }
     requires bytes { bytes.now ≡ first Abbrev (view.source source.now).object.sections }
-    ensures part { Gives (part_of bytes.now) result (spec.abbreviations_for (view.source source.now)
-        kind (unit_of ⟦<SliceReader<'a> as Reader>⟧.input header.now)) }
-    ensures inside { IfOk result (λ range. is_outside bytes.now range ≡ false) }
+    ensures { Gives (λ range. drop range.0 (take range.1 bytes.now)) result
+        (spec.abbreviations_for (view.source source.now) kind
+        (unit_of ⟦<SliceReader<'a> as Reader>⟧.input header.now)) }
 {
     if source.indexes.is_package() && matches!(header.unit_type(), UnitType::Compilation) {
         let number = placed.compilations.find(own_contribution(header));
         numbered_abbreviations(bytes, &source.indexes.compilations, number)
     } else {
-        Ok(contribution_of_all(bytes))
+        Ok((0, bytes.len()))
     }
 }

@@ -1,27 +1,70 @@
-//! The units that an input adds to a package, each with its row.
+//! The units that an input adds to a package, each with its row, and those that a package has.
 
-ghost use Rattle.std.specs.Prelude.{◌≡◌, ◌&&◌, option_map, Ok, Some, None, IfOk, OnOk};
+ghost use Rattle.std.specs.Prelude.{◌≡◌, ◌<◌, ◌&&◌, All, length, map, option_map, Some, None};
+ghost use Rattle.std.specs.Prelude.{IfOk, OnOk};
+ghost use Rattle.std.specs.Map.{lookup};
 ghost use Rattle.dwp_units.specs.Units.{unit_of, unit_seen};
 ghost use Rattle.thorin_errors.specs.Answers.{Gives};
-ghost use Rattle.thorin_input.specs.Encodings.{has_encoding, all_have, section_has, are_alike};
+ghost use Rattle.thorin_input.specs.Encodings.{has_encoding, section_has, are_alike};
+ghost use Rattle.thorin_input.specs.Held as held;
+ghost use Rattle.thorin_input.specs.Names.{same_name};
 ghost use Rattle.thorin_input.specs.NewUnits as spec;
 ghost use Rattle.thorin_input.specs.UnitView.{ArePlacedIn, adding_of, held_in, met_of, new_of};
 ghost use Rattle.thorin_input.specs.View.{tables_in};
 ghost use Rattle.thorin_input.specs.View as view;
 
-use crate::held::Held;
-use crate::new_units::{NewUnit, NewUnits};
 use crate::object::UsedSection;
 use crate::rows::{PlacedRows, Whole, abbreviations_for, test_row, unit_row};
 use crate::source::Source;
-use crate::tables::Tables;
 use dwp_base::SectionKind;
-use dwp_dwarf::{Encoding, ReadError, Reader, SliceReader, UnitHeader, UnitHeaders, UnitSection};
+use dwp_dwarf::{ReadError, Reader, SliceReader, UnitHeader, UnitHeaders, UnitSection};
+use dwp_elf::WritableObject;
+use dwp_index::part_of;
 use dwp_table::{Bucketable, DebugTypeSignature, DwarfObject};
-use indexmap::IndexMap;
+use indexmap::{IndexMap, IndexSet};
 use std::alloc::Global;
 use thorin_errors::Error;
-use thorin_index::share;
+use thorin_identity::RangeTables;
+use thorin_index::{IndexEntry, IndexRows, share};
+
+/// What a package has: its sections, and the name and row of each unit, in one order. A row whose
+/// range lies outside its section has no bytes.
+#[derive(Clone, Copy)]
+pub struct Held<'p> {
+    /// The sections so far.
+    pub object: &'p WritableObject,
+    /// The names of the units.
+    pub names: &'p IndexSet<DwarfObject>,
+    /// Their rows.
+    pub rows: &'p IndexRows,
+    ghost named: { names.now.keys ≡ map (λ row. row.id) rows.now },
+}
+
+/// A unit that is added: whether it goes to info or to types, its bytes, and the number of its row
+/// without the range of these bytes.
+#[derive(Clone, Copy)]
+pub struct NewUnit<'a> {
+    /// Whether it goes to info or to types.
+    pub place: UnitSection,
+    /// Its bytes.
+    pub bytes: &'a [u8],
+    /// The number of its row among those of what is added.
+    pub row_number: usize,
+}
+
+/// What an input adds to the package: its units that aren't contained yet, in file order.
+#[derive(Drop)]
+pub struct NewUnits<'a> {
+    /// The units by their names.
+    pub units: IndexMap<DwarfObject, NewUnit<'a>>,
+    /// The rows of these units, but for their names: neighbouring units share one, where they can.
+    pub rows: Vec<IndexEntry>,
+    /// The signatures of type units that were passed over and differ from those that are kept.
+    pub differing: Vec<DebugTypeSignature>,
+    /// Whether each unit of the input, one that was passed over too, has the input's encoding.
+    pub alike: bool,
+    ghost numbered: { All (λ e. e.1.row_number < length rows.items) units.entries },
+}
 
 /// What the units that an input adds depend on: the input, where the whole of each of its sections
 /// comes to lie, and what the package has.
@@ -35,12 +78,42 @@ pub struct Adding<'i, 'a, 'p> {
     pub held: Held<'p>,
 }
 
+/// The bytes of the unit of a row: its range of types, where it is a type unit and has one, else of
+/// info.
+fn unit_bytes<'p>(object: &'p WritableObject, row: &IndexEntry) -> &'p [u8]
+    ensures { result.now ≡ held.unit_bytes object.now.contents row.now }
+{
+    match (row.id, row.contribution(SectionKind::Types)) {
+        (DwarfObject::TypeUnit(_), Some(range)) => {
+            part_of(object.content(SectionKind::Types), Some(range))
+        }
+        _ => part_of(
+            object.content(SectionKind::Info),
+            row.contribution(SectionKind::Info),
+        ),
+    }
+}
+
+impl<'p> Held<'p> {
+    /// The bytes of the unit of a name; none where the package has no such unit.
+    pub fn bytes_of(&self, name: DwarfObject) -> Option<&'p [u8]>
+        ensures { option_map (λ bytes. bytes.now) result
+            ≡ lookup (same_name name)
+            (held.held_units self.now.object.now.contents self.now.rows.now) }
+    {
+        let Some(position) = self.names.get_index_of(&name) else {
+            return None;
+        };
+        Some(unit_bytes(self.object, &self.rows.entry(position)))
+    }
+}
+
 /// Which sections of units came before, and what was read of abbreviations.
 #[derive(Drop)]
 struct SeenSections<'a> {
     info: bool,
     types: bool,
-    tables: Tables<'a>,
+    tables: RangeTables<'a>,
 }
 
 /// Type units go where they stand, every other unit to info.
@@ -85,33 +158,6 @@ fn test_once(
     }
 }
 
-/// Whether the units so far have an encoding, and this one has it too.
-fn stay_alike<'a>(alike: bool, encoding: Encoding, header: &UnitHeader<SliceReader<'a>>) -> bool
-    ensures { result ≡ (alike
-        && has_encoding encoding (Ok (unit_of ⟦<SliceReader<'a> as Reader>⟧.input header.now))) }
-{
-    alike && header.encoding() == encoding
-}
-
-/// The name of a unit that was read in a section.
-#[tactic(auto, unfolding(crate::specs::NewUnits::name_for))]
-fn name_for<'a>(
-    source: &Source<'a>,
-    placed: &PlacedRows<'_, '_>,
-    tables: &mut Tables<'a>,
-    kind: SectionKind,
-    header: &UnitHeader<SliceReader<'a>>,
-) -> Result<DwarfObject, Error>
-    requires placed { ArePlacedIn (view.source source.now) kind placed.now }
-    requires tables { tables.old ≡ tables_in (view.source source.now).object }
-    ensures meaning { Gives (λ name. name) result (spec.name_for (view.source source.now) kind
-        (unit_of ⟦<SliceReader<'a> as Reader>⟧.input header.now)) }
-    ensures tables { tables.new ≡ tables.old }
-{
-    let range = abbreviations_for(source, tables.bytes(), placed, kind, header)?;
-    tables.identifier(range, header)?.ok_or(Error::NotSplitUnit)
-}
-
 impl<'a> NewUnits<'a> {
     /// The units that an input adds to what is there, or its first error: of a package a second
     /// section of units (`MultipleDebugInfoSection`, `MultipleDebugTypesSection`); unit by unit
@@ -130,19 +176,20 @@ impl<'a> NewUnits<'a> {
             differing: Vec::new(alloc),
             alike: true,
         };
+        let object = &adding.source.object;
         let mut met = SeenSections {
             info: false,
             types: false,
-            tables: Tables::new(alloc, &adding.source.object),
+            tables: RangeTables::new(alloc, object.first(SectionKind::Abbrev), object.order),
         };
-        for section in &adding.source.object.sections {
+        for section in &object.sections {
             new.add_section(alloc, adding, &mut met, *section)?;
         }
         Ok(new)
     }
 
-    /// Adds the units of a section.
-    #[tactic(auto, unfolding(crate::specs::NewUnits::with_section))]
+    /// Adds the units of a section, where units stand in it.
+    #[tactic(auto, unfolding(crate::specs::NewUnits::with_section, crate::specs::NewUnits::with_section_at, crate::specs::NewUnits::with_each_read))]
     fn add_section(
         &mut self,
         alloc: Global,
@@ -158,31 +205,9 @@ impl<'a> NewUnits<'a> {
             ≡ (self.old.alike && section_has adding.now.source.now.encoding
             adding.now.source.now.object.order (view.used section.entry))) }
     {
-        match unit_section(section.kind) {
-            Some(place) => self.add_section_at(alloc, adding, met, section, place),
-            None => Ok(()),
-        }
-    }
-
-    /// Adds the units of a section of units.
-    #[tactic(auto, unfolding(crate::specs::NewUnits::with_section_at, crate::specs::NewUnits::with_each_read))]
-    fn add_section_at(
-        &mut self,
-        alloc: Global,
-        adding: &Adding<'_, 'a, '_>,
-        met: &mut SeenSections<'a>,
-        section: UsedSection<'a>,
-        place: UnitSection,
-    ) -> Result<(), Error>
-        requires tables { met.old.tables ≡ tables_in (view.source adding.now.source.now).object }
-        ensures meaning { Gives (λ _.
-            (met_of met.new, new_of self.new)) result (spec.with_section_at (adding_of adding.now)
-            (view.used section.entry) place (met_of met.old, new_of self.old)) }
-        ensures tables { met.new.tables ≡ met.old.tables }
-        ensures alike { OnOk result (self.new.alike
-            ≡ (self.old.alike && all_have adding.now.source.now.encoding
-            adding.now.source.now.object.order section.entry.bytes.now (Some place))) }
-    {
+        let Some(place) = unit_section(section.kind) else {
+            return Ok(());
+        };
         test_once(adding, place, met)?;
         match place {
             UnitSection::Info => met.info = true,
@@ -197,12 +222,12 @@ impl<'a> NewUnits<'a> {
     }
 
     /// Adds the unit that was read next.
-    #[tactic(auto, unfolding(crate::specs::NewUnits::with_read))]
+    #[tactic(auto, unfolding(crate::specs::NewUnits::with_read, crate::specs::NewUnits::name_for))]
     fn add_read(
         &mut self,
         adding: &Adding<'_, 'a, '_>,
         placed: &PlacedRows<'_, '_>,
-        tables: &mut Tables<'a>,
+        tables: &mut RangeTables<'a>,
         section: UsedSection<'a>,
         read: Result<UnitHeader<SliceReader<'a>>, ReadError>,
     ) -> Result<(), Error>
@@ -217,8 +242,17 @@ impl<'a> NewUnits<'a> {
             (unit_seen ⟦<SliceReader<'a> as Reader>⟧.input read.entry))) }
     {
         let header = read.map_err(Error::ParseUnitHeader)?;
-        let alike = stay_alike(self.alike, adding.source.encoding, &header);
-        let name = name_for(adding.source, placed, tables, section.kind, &header)?;
+        let alike = self.alike && header.encoding() == adding.source.encoding;
+        let (start, end) = abbreviations_for(
+            adding.source,
+            tables.bytes(),
+            placed,
+            section.kind,
+            &header,
+        )?;
+        let name = tables
+            .identifier(start, end, &header)?
+            .ok_or(Error::NotSplitUnit)?;
         self.add_unit(adding, placed, section, name, &header)?;
         self.alike = alike;
         Ok(())

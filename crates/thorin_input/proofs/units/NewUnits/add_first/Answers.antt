@@ -1,0 +1,45 @@
+use Rattle.std.proofs.Common.{ap, rules, sym, ◌∙◌}
+use Rattle.dwp_table.specs.declared.object.DwarfObject.{DwarfObject}
+use Rattle.thorin_input.specs.NewUnits.{with_first}
+use Rattle.indexmap.proofs.CallerLemmas.{insert_entry-new}
+use Rattle.thorin_input.specs.UnitView.{adding_of}
+use Rattle.thorin_input.proofs.NewUnitLemmas.{added_last, AreNumbered, either_way, not_added}
+use Rattle.thorin_input.proofs.NewUnitLemmas.{numbered_last, numbered_still}
+use Rattle.thorin_input.proofs.units.NewUnits.add_first.Goals as goal
+
+pub invariant_of-self-2 : goal.invariant_of-self-2
+invariant_of-self-2 c =
+    let rows = c.args.self.now.rows.items in
+    let more = c.share.new.entries.items in
+    let units = c.args.self.now.units.entries in
+    let last = insert_entry-new _ c.args.self.now.units c.args.name _
+    (not_added (adding_of c.args.adding.now).held rows units c.args.name c.requires.absent) in
+    record {
+      numbered = either_way c.insert.result _ _ (AreNumbered more c.insert.new.self.entries)
+          c.insert.ensures.entries c.insert.ensures.err
+          (λ entries. rw (entries ∙ last) (numbered_last rows more c.share.ensures.kept units
+          c.args.self.now.numbered _ _ c.in_ok-row_number.ensures.there))
+          (λ same. rw same (numbered_still rows more c.share.ensures.kept units
+          c.args.self.now.numbered));
+    }
+
+pub returns : goal.returns
+unfolding with_first
+returns c =
+    let rows = c.args.self.now.rows.items in
+    let units = c.args.self.now.units.entries in
+    let last = insert_entry-new _ c.args.self.now.units c.args.name _
+    (not_added (adding_of c.args.adding.now).held rows units c.args.name c.requires.absent) in
+    let added = added_last rows c.share.new.entries.items c.share.ensures.kept units
+    c.args.self.now.numbered _ _ c.in_ok-row_number.ensures.there c.in_ok-row.row
+    c.insert.new.self.entries (ap (λ (name : DwarfObject). record c.in_ok-row.row { id = name })
+    (sym c.in_ok-row.ensures.name)) (c.in_ok-insert.ensures.entries ∙ last) in
+    rw (added, c.place_for-place.ensures) (search rules)
+
+pub returns-in_err-number : goal.returns-in_err-number
+unfolding with_first
+returns-in_err-number c = search rules
+
+pub returns-in_err-row : goal.returns-in_err-row
+unfolding with_first
+returns-in_err-row c = search rules
