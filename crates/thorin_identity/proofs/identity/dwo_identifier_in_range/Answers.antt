@@ -3,10 +3,10 @@ use Rattle.dwp_units.specs.Units.{unit_of}
 use Rattle.thorin_errors.specs.Answers.{Gives}
 use Rattle.thorin_identity.specs.Identity.{part_between}
 use Rattle.thorin_identity.proofs.Parts.{root_alike}
-use Rattle.thorin_identity.proofs.identity.root_identifier_in_range.Goals as goal
+use Rattle.thorin_identity.proofs.identity.dwo_identifier_in_range.Goals as goal
 
-pub returns-in-None-clause-meaning : goal.returns-in-None-clause-meaning
-returns-in-None-clause-meaning g c =
+pub returns-in-Compilation-None-clause-meaning : goal.returns-in-Compilation-None-clause-meaning
+returns-in-Compilation-None-clause-meaning g c =
     let input = g.R.Reader.input in
     let whole = input c.args.debug_abbrev.now in
     let part = part_between c.args.start c.args.end whole in
