@@ -63,7 +63,7 @@ pub fn dwo_identifier_remembering<R: Reader>(
     ensures kept { debug_abbrev.new ≡ debug_abbrev.old }
 {
     match header.unit_type() {
-        UnitType::Compilation => root_identifier_remembering(debug_abbrev, header),
+        UnitType::Compilation => root_identifier_at(debug_abbrev, header.abbrev_offset(), header),
         unit_type => Ok(header_identifier(unit_type)),
     }
 }
@@ -93,7 +93,10 @@ pub fn dwo_identifier_in_range<R: Reader>(
     ensures kept { debug_abbrev.new ≡ debug_abbrev.old }
 {
     match header.unit_type() {
-        UnitType::Compilation => root_identifier_in_range(debug_abbrev, start, end, header),
+        UnitType::Compilation => match offset_within(debug_abbrev, start, end, header) {
+            Some(offset) => root_identifier_at(debug_abbrev, offset, header),
+            None => root_identifier(&part_of(debug_abbrev.section(), start, end), header),
+        },
         unit_type => Ok(header_identifier(unit_type)),
     }
 }
@@ -132,37 +135,6 @@ fn root_identifier<R: Reader>(
         .map_err(Error::ParseUnitAbbreviations)?
         .ok_or(Error::GimliRead(ReadError::UnknownCode))?;
     entry_identifier(abbreviation.entry(header.encoding(), values))
-}
-
-/// The identifier in the root entry of a compile unit, by the abbreviations that are remembered.
-fn root_identifier_remembering<R: Reader>(
-    debug_abbrev: &mut AbbreviationCache<R>,
-    header: &UnitHeader<R>,
-) -> Result<Option<DwarfObject>, Error>
-    ensures meaning { Gives (λ name. name) result
-        (root_identity (R.input debug_abbrev.old) (unit_of R.input header.now)) }
-    ensures memory { IfErr result (λ e. e ≢ Error.Memory) }
-    ensures kept { debug_abbrev.new ≡ debug_abbrev.old }
-{
-    root_identifier_at(debug_abbrev, header.abbrev_offset(), header)
-}
-
-/// The identifier in the root entry of a compile unit whose abbreviations are a part of a section.
-fn root_identifier_in_range<R: Reader>(
-    debug_abbrev: &mut AbbreviationCache<R>,
-    start: usize,
-    end: usize,
-    header: &UnitHeader<R>,
-) -> Result<Option<DwarfObject>, Error>
-    ensures meaning { Gives (λ name. name) result (root_identity
-        (part_between start end (R.input debug_abbrev.old)) (unit_of R.input header.now)) }
-    ensures memory { IfErr result (λ e. e ≢ Error.Memory) }
-    ensures kept { debug_abbrev.new ≡ debug_abbrev.old }
-{
-    match offset_within(debug_abbrev, start, end, header) {
-        Some(offset) => root_identifier_at(debug_abbrev, offset, header),
-        None => root_identifier(&part_of(debug_abbrev.section(), start, end), header),
-    }
 }
 
 /// The offset in the section at which the unit's table begins, where it is known that the table

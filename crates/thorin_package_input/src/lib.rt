@@ -2,7 +2,6 @@
 #![tactic(auto)]
 
 pub mod laws;
-mod offset_ranges;
 mod packaged_offsets;
 mod row_places;
 

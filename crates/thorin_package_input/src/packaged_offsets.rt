@@ -1,15 +1,20 @@
-//! The string offsets of a finished package, rewritten into a table of strings.
+//! The string offsets of a finished package, rewritten into a table of strings: the ranges that its
+//! rows have, one after another.
 
-ghost use Rattle.std.specs.Prelude.{◌≡◌, length, take};
+ghost use Rattle.std.specs.Prelude.{◌≡◌, ◌≢◌, length, map, take, OnOk, IfOk, IfErr};
 ghost use Rattle.std.specs.Option.{option_copied};
 ghost use Rattle.thorin_errors.specs.Answers.{Gives};
+ghost use Rattle.thorin_package_input.specs.PackagedOffsets.{is_whole_range, offset_ranges};
 ghost use Rattle.thorin_package_input.specs.PackagedOffsets.{packaged_offsets, ranges_test};
-ghost use Rattle.thorin_package_input.specs.PackagedOffsets.{rewritten_from};
+ghost use Rattle.thorin_package_input.specs.PackagedOffsets.{rewritten_from, with_rows};
+ghost use Rattle.thorin_package_input.specs.RangeKeys.{range_at};
 
-use crate::offset_ranges::{offset_ranges, test_ranges};
-use dwp_base::Contribution;
+use crate::row_places::range_of_row;
+use dwp_base::{Contribution, ContributionOffset, SectionKind};
+use dwp_bytes::Encoding;
 use dwp_index::UnitIndex;
-use std::alloc::Global;
+use std::alloc::{AllocError, Global};
+use std::collections::BTreeSet;
 use thorin_errors::Error;
 use thorin_strings::{PackageStringTable, Repeats, StringOffsets};
 
@@ -74,4 +79,77 @@ fn rewritten(
     }
     out.extend_from_slice(&offsets[at..])?;
     Ok(out)
+}
+
+/// The ranges of both indexes' rows in order of place, then of size, none twice.
+#[tactic(auto, unfolding(crate::specs::PackagedOffsets::offset_ranges))]
+fn offset_ranges(
+    alloc: Global,
+    cu_index: Option<&UnitIndex<'_>>,
+    tu_index: Option<&UnitIndex<'_>>,
+) -> Result<Vec<Contribution>, AllocError>
+    ensures { IfOk result (λ ranges. ranges.items
+        ≡ offset_ranges (option_copied cu_index.entry) (option_copied tu_index.entry)) }
+{
+    let mut keys = BTreeSet::new(alloc);
+    add_rows(&mut keys, cu_index)?;
+    add_rows(&mut keys, tu_index)?;
+    let mut ranges = Vec::with_capacity(alloc, keys.len())?;
+    for (offset, size) in keys {
+        ranges.push(Contribution {
+            offset: ContributionOffset(offset),
+            size,
+        })?;
+    }
+    Ok(ranges)
+}
+
+/// Adds place and size of the range of each row of an index.
+fn add_rows(
+    keys: &mut BTreeSet<(u64, u64)>,
+    index: Option<&UnitIndex<'_>>,
+) -> Result<(), AllocError>
+    ensures { OnOk result (map range_at keys.new.keys
+        ≡ with_rows (option_copied index.entry) (map range_at keys.old.keys)) }
+{
+    let Some(index) = index else {
+        return Ok(());
+    };
+    for number in 0..index.unit_count() {
+        if let Some(range) = range_of_row(index, SectionKind::StrOffsets, number + 1) {
+            keys.insert((range.offset.0, range.size))?;
+        }
+    }
+    Ok(())
+}
+
+/// Whether a range lies inside a section of so many bytes, isn't shorter than its header, and has
+/// whole entries.
+fn is_whole_range(range: Contribution, encoding: Encoding, size: u64) -> bool
+    ensures { result ≡ is_whole_range encoding size range }
+{
+    let header = encoding.string_offsets_header_size() as u64;
+    range.offset.0 <= size
+        && range.size <= size - range.offset.0
+        && header <= range.size
+        && (range.size - header) % encoding.format.offset_size() as u64 == 0
+}
+
+/// Tests that each range is whole, and that none begins inside the one before it.
+#[tactic(auto, unfolding(crate::specs::PackagedOffsets::ranges_test))]
+fn test_ranges(ranges: &[Contribution], encoding: Encoding, size: u64) -> Result<(), Error>
+    ensures meaning { Gives (λ x. x) result (ranges_test encoding size 0 ranges.now) }
+    ensures memory { IfErr result (λ e. e ≢ Error.Memory) }
+{
+    let mut last_end = 0;
+    for range in ranges {
+        if !is_whole_range(*range, encoding, size) {
+            return Err(Error::BadStringOffsets(range.offset.0));
+        }
+        if range.offset.0 < last_end {
+            return Err(Error::OverlappingStringOffsets(range.offset.0));
+        }
+        last_end = range.offset.0 + range.size;
+    }
+    Ok(())
 }

@@ -1,6 +1,6 @@
 use Rattle.thorin_package_input.proofs.Terms.{range_at, ranges_of, StrOffsets, with_ranges}
 use Rattle.std.proofs.Common.{◌≡◌, drop, map}
-use Rattle.thorin_package_input.proofs.offset_ranges.add_rows.Given as goal
+use Rattle.thorin_package_input.proofs.packaged_offsets.add_rows.Given as goal
 
 -- those so far with those of the rows that are left are all
 abbrev pub invariant-loop-number : goal.invariant-loop-number

@@ -1,11 +1,12 @@
 use Rattle.std.proofs.Common.{◌≡◌, rules, ap, subst, drop, take}
 use Rattle.dwp_units.specs.Units.{unit_of}
 use Rattle.thorin_errors.specs.Answers.{Gives}
-use Rattle.thorin_identity.specs.Identity.{part_between}
+use Rattle.thorin_identity.specs.Identity.{identity, part_between}
 use Rattle.thorin_identity.proofs.Parts.{root_alike}
-use Rattle.thorin_identity.proofs.identity.root_identifier_in_range.Goals as goal
+use Rattle.thorin_identity.proofs.identity.dwo_identifier_in_range.Goals as goal
 
 pub returns-in-None-clause-meaning : goal.returns-in-None-clause-meaning
+unfolding identity
 returns-in-None-clause-meaning g c =
     let input = g.R.Reader.input in
     let whole = input c.args.debug_abbrev.now in
@@ -14,6 +15,7 @@ returns-in-None-clause-meaning g c =
     search (rules, c.section.ensures, c.offset_within.ensures.kept) in
     let held : (input c.part_of.result).bytes ≡ part.bytes =
     rw c.part_of.ensures (ap (λ bytes. drop c.args.start (take c.args.end bytes)) same) in
-    subst (Gives (λ name. name) c.root_identifier.result)
+    let meant = subst (Gives (λ name. name) c.root_identifier.result)
     (root_alike (input c.part_of.result) part (unit_of input c.args.header.now) held)
-    c.root_identifier.ensures.meaning
+    c.root_identifier.ensures.meaning in
+    search (rules, meant)
