@@ -70,7 +70,7 @@ first_needed name encoding unmet (s ∷ ss) i = by-bool _ (is_needed unmet s)
     (λ x is. rw (is, first_needed name encoding (met unmet s.name) ss x.1) refl)
     (λ e is. rw is refl)))
     (λ none. let empty = is_empty encoding s i (neither _ _ none).0 in
-    rw (none, empty.read) (first_needed name encoding unmet ss i
+    rw (none, empty.read) (first_needed name encoding (met unmet s.name) ss i
     ∙ sym (numberless_or name _ _ empty.numberless)))
 
 -- ---- of each name that may name a split object the first attribute
@@ -185,10 +185,12 @@ after_needed format encoding before (s ∷ ss) i = by-bool _ (is_needed (unmet_o
     (λ e is. rw is refl)))
     (λ none. let needless = neither (has_bytes s) _ none in
     let is = is_empty encoding s i needless.0 in
-    rw (none, is.read) (after_needed format encoding before ss i
+    let same = passed_over format before (empty s i) (is.placeless format) needless.1 in
+    let unmet : met (unmet_of before) s.name ≡ unmet_of before =
+    sym (unmet_behind format before (empty s i)) ∙ ap unmet_of same in
+    rw (none, is.read, unmet) (after_needed format encoding before ss i
     ∙ sym (after-first format before (empty s i) (attributes encoding ss i)
-    ∙ ap (λ (b : SplitAttributes). after format b (attributes encoding ss i))
-    (passed_over format before (empty s i) (is.placeless format) needless.1))))
+    ∙ ap (λ (b : SplitAttributes). after format b (attributes encoding ss i)) same)))
 
 -- what names the split object is found among the attributes that are needed
 pub split_needed : (format : Format) (encoding : Encoding) (ss : List Specification) (i : Input)

@@ -36,7 +36,6 @@ unfoldable pub use Rattle.dwp_dwarf.specs.Grammar.{next_at}
 pub use Rattle.dwp_dwarf.specs.Needed.{ListsNeeded, is_needed, is_unmet, met, needed, none_met}
 pub use Rattle.dwp_dwarf.specs.Numbers.{first_number, has_bytes, named_number, number_or}
 unfoldable pub use Rattle.dwp_dwarf.specs.Offsets.{from_at}
-pub use Rattle.dwp_dwarf.specs.Remembered.{known_or, remembered}
 pub use Rattle.dwp_dwarf.specs.Split.{SplitAttributes, attributes_of}
 unfoldable pub use Rattle.dwp_dwarf.specs.Split.{split_in}
 pub use Rattle.dwp_units.specs.Units.{Unit}

@@ -8,14 +8,12 @@ use Rattle.dwp_base.specs.Reading.{◌>>=◌}
 use Rattle.dwp_bytes.specs.Input.{Input, front}
 use Rattle.dwp_bytes.specs.declared.error.ReadError.{ReadError}
 use Rattle.dwp_dwarf.specs.Abbreviations.{Declaration, declaration}
-use Rattle.dwp_dwarf.specs.Versions.{Numbered}
 use Rattle.dwp_dwarf.specs.Grammar.{next_at}
 use Rattle.dwp_dwarf.specs.Needed.{HasLists}
 use Rattle.dwp_dwarf.specs.Offsets.{from_at}
 use Rattle.dwp_dwarf.specs.Versions.{value_in}
 use Rattle.dwp_dwarf.specs.declared.chains.Chains.{Chains}
 use Rattle.dwp_dwarf.specs.declared.chains.Place.{Place}
-use Rattle.dwp_dwarf.specs.declared.versions.Codes.{Codes}
 use Rattle.dwp_dwarf.specs.declared.versions.Node.{Node}
 
 -- what stands so many bytes before the end of a section
@@ -53,15 +51,6 @@ abbrev pub SaidBy : Input → Option ReadError → Option ℕ → Result (Option
 SaidBy section error None said = said ≡ absent_by error
 SaidBy section error (Some left) said = DeclaredAt section left said
 
--- the value that a version has for a number, if there is one
-abbrev pub first_by : Option ℕ → List Node → ℕ → Option ℕ
-first_by None nodes version = None
-first_by (Some number) nodes version = value_in nodes version number
-
--- the place of the first declaration of a code, in a version that has it by the code's number
-abbrev pub first_in : Codes → List Node → ℕ → ℕ → Option ℕ
-first_in codes nodes version code = first_by (get nat_cmp codes.numbers code) nodes version
-
 -- a table has a declaration of a code
 abbrev pub IsDeclared : ℕ → Input → Type 0
 IsDeclared code table = (declared : Declaration) × (declaration code table ≡ Ok (Some declared))
@@ -84,26 +73,23 @@ StaysBehind section table code first =
     × StaysBefore table code (length stands.behind.bytes)
 
 -- what is remembered of a place says of each code what the table says that begins there, and that
--- its first declaration is all that this needs; where the declaration at the place ends; it has no
--- number that wasn't given
-pub record RemembersPlace (section : Input) (codes : Codes) (nodes : List Node) (left : ℕ)
-    (place : Place) : Type 0 where
+-- its first declaration is all that this needs; and where the declaration at the place ends
+pub record RemembersPlace (section : Input) (nodes : List Node) (left : ℕ) (place : Place) :
+    Type 0 where
   pub table : Input
   pub is : from_end left section ≡ Ok table
   pub fits : place.version ≤ length nodes
-  pub none : (number : ℕ) → codes.count ≤ number → value_in nodes place.version number ≡ None
-  pub same : (code : ℕ) → SaidBy section place.error (first_in codes nodes place.version code)
+  pub same : (code : ℕ) → SaidBy section place.error (value_in nodes place.version code)
       (declaration code table)
-  pub ends : (code : ℕ) → IfSome (first_in codes nodes place.version code)
+  pub ends : (code : ℕ) → IfSome (value_in nodes place.version code)
       (StaysBehind section table code)
   pub behind : (next : (ℕ × Declaration) × Input) → next_at table ≡ Ok (Some next)
       → place.behind ≡ length next.1.bytes
 
 -- each place that is remembered is remembered so
-pub record RemembersPlaces (section : Input) (chains : Chains) : Type 0 where
-  pub numbered : Numbered chains.codes
-  pub each : (left : ℕ) → IfSome (get nat_cmp chains.places left)
-      (RemembersPlace section chains.codes chains.firsts.nodes.items left)
+abbrev pub RemembersPlaces : Input → Chains → Type 0
+RemembersPlaces section chains = (left : ℕ) → IfSome (get nat_cmp chains.places left)
+    (RemembersPlace section chains.firsts.nodes.items left)
 
 -- all that is remembered of a section by places
 pub record RemembersChains (section : Input) (chains : Chains) : Type 0 where

@@ -1,5 +1,5 @@
 -- What the readers of abbreviations show.
-use Rattle.std.specs.Prelude.{Option, Some, None}
+use Rattle.std.specs.Prelude.{ℕ, Option, Some, None}
 use Rattle.dwp_bytes.specs.Input.{Input}
 use Rattle.dwp_dwarf.specs.Abbreviations.{Specification, Declaration, pairs_in}
 use Rattle.dwp_dwarf.specs.declared.abbrev.Abbreviation.{Abbreviation}
@@ -26,3 +26,9 @@ table_of input t = input t.table
 abbrev pub found_of : {R : Type 0} → (R → Input) → Option (Abbreviation R) → Option Declaration
 found_of input (Some a) = Some (declaration_of input a)
 found_of input None = None
+
+-- the next declaration with its code, as it was read from an input, and what is left
+abbrev pub next_of : {R : Type 0} → (R → Input) → Option (ℕ × Abbreviation R × R)
+    → Option ((ℕ × Declaration) × Input)
+next_of input (Some x) = Some ((x.0, declaration_of input x.1), input x.2)
+next_of input None = None

@@ -8,7 +8,6 @@ pub mod Grammar
 pub mod Needed
 pub mod Numbers
 pub mod Offsets
-pub mod Remembered
 pub mod Sections
 pub mod Split
 pub mod Strings

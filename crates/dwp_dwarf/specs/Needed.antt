@@ -40,7 +40,7 @@ is_needed unmet s = has_bytes s || is_unmet unmet s.name
 abbrev pub needed : UnmetNames → List Specification → List Specification
 needed unmet [] = []
 needed unmet (s ∷ ss) = if is_needed unmet s then s ∷ needed (met unmet s.name) ss
-    else needed unmet ss
+    else needed (met unmet s.name) ss
 
 -- a list of the attributes that are needed of the declaration that is said to be a key's
 pub record ListsNeeded (said : ℕ → Result (Option Declaration) ReadError) (key : ℕ)

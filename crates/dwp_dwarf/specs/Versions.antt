@@ -1,12 +1,9 @@
 -- A map from numbers to numbers whose versions share what they have alike: it has the declarations
--- of tables of abbreviations by the numbers of their codes (DWARF 5, 7.5.3). Each version is made
+-- of tables of abbreviations by their codes (DWARF 5, 7.5.3). Each version is made
 -- by path copying (Driscoll, Sarnak, Sleator and Tarjan 1989, Making Data Structures Persistent).
 -- It is 0, which has nothing, or the number of a node, counted from 1.
 use Rattle.std.specs.Prelude.{◌≡◌, ◌<◌, ◌≤◌, ℕ, zero, suc, ◌%◌, ◌/◌, ◌-◌, ◌++◌, List, Option, Some}
-use Rattle.std.specs.Prelude.{None, IfSome, slice_get, nat_lt, ◌==◌, if◌then◌else◌}
-use Rattle.std.specs.Ordering.{nat_cmp}
-use Rattle.std.specs.BTreeMap.{get}
-use Rattle.dwp_dwarf.specs.declared.versions.Codes.{Codes}
+use Rattle.std.specs.Prelude.{None, slice_get, nat_lt, ◌==◌, if◌then◌else◌}
 use Rattle.dwp_dwarf.specs.declared.versions.Node.{Node}
 
 -- the node of a version
@@ -58,31 +55,11 @@ value_below zero nodes version key = None
 value_below (suc n) nodes version key = value_by (node_of nodes version) key
     (λ node. value_below n nodes (older version (side_of node key)) (half key))
 
--- the value of a key in a version: a key has 32 bits
+-- the value of a key in a version: a key has 64 bits
 abbrev pub value_in : List Node → ℕ → ℕ → Option ℕ
-value_in nodes version key = value_below 33 nodes version key
+value_in nodes version key = value_below 65 nodes version key
 
 -- the second has the nodes of the first, and more
 pub record Grows (old new : List Node) : Type 0 where
   pub more : List Node
   pub is : new ≡ old ++ more
-
--- ---- codes of abbreviations and their numbers, each below a count and of one code
-
--- each number is one of so many, and of one code
-pub record Numbered (codes : Codes) : Type 0 where
-  pub below : (code number : ℕ) → get nat_cmp codes.numbers code ≡ Some number
-      → number < codes.count
-  pub apart : (code other number : ℕ) → get nat_cmp codes.numbers code ≡ Some number
-      → get nat_cmp codes.numbers other ≡ Some number → code ≡ other
-
--- a number that was there stays, and one that wasn't is past so many
-abbrev pub KeptOrNew : ℕ → Option ℕ → Option ℕ → Type 0
-KeptOrNew count (Some number) now = now ≡ Some number
-KeptOrNew count None now = IfSome now (λ number. count ≤ number)
-
--- the second has the numbers of the first, and maybe more
-pub record GrowsCodes (old new : Codes) : Type 0 where
-  pub count : old.count ≤ new.count
-  pub kept : (code : ℕ) → KeptOrNew old.count (get nat_cmp old.numbers code)
-      (get nat_cmp new.numbers code)

@@ -5,11 +5,10 @@ ghost use Rattle.std.specs.Ordering.{nat_cmp};
 ghost use Rattle.std.specs.BTreeMap.{get};
 ghost use Rattle.dwp_base.specs.Reading.{Answers};
 ghost use Rattle.dwp_bytes.specs.Input.{Input};
-ghost use Rattle.dwp_dwarf.specs.Abbreviations.{Declaration, declaration};
-ghost use Rattle.dwp_dwarf.specs.Chains.{from_end, StandsAt, RemembersPlace, RemembersPlaces};
-ghost use Rattle.dwp_dwarf.specs.Chains.{RemembersChains, FirstAt, first_in, EndsBefore};
-ghost use Rattle.dwp_dwarf.specs.Versions.{Numbered, GrowsCodes};
-ghost use Rattle.dwp_dwarf.specs.Declarations.{declaration_of, found_of};
+ghost use Rattle.dwp_dwarf.specs.Abbreviations.{declaration};
+ghost use Rattle.dwp_dwarf.specs.Chains.{from_end, RemembersPlace, RemembersPlaces};
+ghost use Rattle.dwp_dwarf.specs.Chains.{RemembersChains, FirstAt, EndsBefore};
+ghost use Rattle.dwp_dwarf.specs.Declarations.{found_of};
 ghost use Rattle.dwp_dwarf.specs.Offsets.{from_at};
 ghost use Rattle.dwp_dwarf.specs.Versions.{Grows};
 
@@ -17,7 +16,7 @@ use crate::abbrev::{
     Abbreviation, SPECIFICATION_SIZE, from_offset, known_declaration, next_declaration,
 };
 use crate::needed::NeededLists;
-use crate::versions::{Codes, Versions, put};
+use crate::versions::{Versions, put};
 use dwp_bytes::{ReadError, Reader};
 use std::alloc::Global;
 use std::collections::BTreeMap;
@@ -34,9 +33,9 @@ pub(crate) struct Place {
 }
 
 /// Once the versions have so many nodes for each byte of the section, none are added. A declaration
-/// takes as many as the number behind its code's number has bits: 20 where there are a million
-/// codes, for at least 5 bytes.
-const NODES_FOR_A_BYTE: usize = 4;
+/// has 4 bytes and its code's, which has seven bits in a byte, and takes a node for each bit of the
+/// code and one more.
+const NODES_FOR_A_BYTE: usize = 5;
 
 /// What tables say that go on at places of a section: where they meet they go on alike, so each
 /// declaration is read for all of them.
@@ -45,8 +44,7 @@ pub(crate) struct Chains {
     alloc: Global,
     // By how many bytes of the section are left there.
     pub(crate) places: BTreeMap<u64, Place>,
-    pub(crate) codes: Codes,
-    // By the numbers of codes.
+    // By codes.
     pub(crate) firsts: Versions,
     // Of the declarations at some places the attributes that are needed.
     pub(crate) lists: NeededLists,
@@ -56,13 +54,11 @@ impl Chains {
     /// Nothing is remembered, and no memory is taken.
     pub(crate) fn new(alloc: Global) -> Chains
         ensures places { result.places.entries ≡ [] }
-        ensures codes { result.codes.numbers.entries ≡ [] }
         ensures lists { result.lists.by_key.entries ≡ [] }
     {
         Chains {
             alloc,
             places: BTreeMap::new(alloc),
-            codes: Codes::new(alloc),
             firsts: Versions::new(alloc),
             lists: NeededLists::new(alloc),
         }
@@ -84,10 +80,10 @@ impl Chains {
     {
         let left = self.learn_table(section, offset)?;
         let place = self.place_of(left)?;
-        match self.first_in(place.version, code) {
+        match self.firsts.get(place.version, code) {
             Some(first) => {
-                let declared = declared_at(section, first)?;
-                Some(Ok(Some(declared)))
+                let at = from_end(section, u64::from(first))?;
+                Some(Ok(Some(known_declaration(at).ok()?)))
             }
             None => match place.error {
                 Some(error) => Some(Err(error)),
@@ -113,8 +109,8 @@ impl Chains {
     {
         let left = self.learn_table(section, offset)?;
         let place = self.place_of(left)?;
-        let first = self.first_in(place.version, code)?;
-        let declared = self.place_of(first)?;
+        let first = self.firsts.get(place.version, code)?;
+        let declared = self.place_of(u64::from(first))?;
         Some(u64::from(declared.behind))
     }
 
@@ -138,7 +134,7 @@ impl Chains {
         }
         let mut lefts = self.lefts(section, left);
         while let Some(next) = lefts.pop() {
-            self.learn(section, next);
+            self.learn(section, next)?;
         }
         Some(left)
     }
@@ -154,7 +150,7 @@ impl Chains {
             return None;
         }
         let place = self.place_of(length - offset)?;
-        let first = self.first_in(place.version, code)?;
+        let first = u64::from(self.firsts.get(place.version, code)?);
         let lists = &self.lists.by_key;
         let listed = self.lists.listed.saturating_add(lists.len());
         if listed >= section.len() / SPECIFICATION_SIZE && !lists.contains_key(&first) {
@@ -176,15 +172,6 @@ impl Chains {
         self.places.get(&left).copied()
     }
 
-    /// The place of the first declaration of a code, in a version.
-    fn first_in(&self, version: u32, code: u64) -> Option<u64>
-        ensures { result ≡ first_in self.now.codes self.now.firsts.nodes.items version code }
-    {
-        let number = self.codes.number(code)?;
-        let first = self.firsts.get(version, number)?;
-        Some(u64::from(first))
-    }
-
     /// How many bytes are left at the places of the table that begins where so many are, up to one
     /// that is remembered.
     fn lefts<R: Reader>(&self, section: R, left: u64) -> Vec<u64> {
@@ -201,49 +188,42 @@ impl Chains {
         lefts
     }
 
-    /// Remembers a place, where so many bytes are left. It isn't remembered where there is no
-    /// memory, or as much was taken as may be.
-    fn learn<R: Reader>(&mut self, section: R, left: u64)
+    /// Remembers a place, where so many bytes are left. None where there is no memory, or as much
+    /// was taken as may be: then it isn't remembered.
+    fn learn<R: Reader>(&mut self, section: R, left: u64) -> Option<()>
         ensures places { RemembersPlaces (R.input section) self.old
             → RemembersPlaces (R.input section) self.new }
         ensures lists { self.new.lists ≡ self.old.lists }
     {
         if self.is_full(section) {
-            return;
+            return None;
         }
-        let Some(at) = from_end(section, left) else {
-            return;
-        };
-        let Some(place) = self.place_at(at, left) else {
-            return;
-        };
-        let _is_put = put(&mut self.places, left, place);
+        let at = from_end(section, left)?;
+        let place = self.place_at(at, left)?;
+        put(&mut self.places, left, place).then_some(())
     }
 
     /// What is to be remembered of a place, where so many bytes are left. None where there is no
     /// memory, or the next place isn't remembered.
     fn place_at<R: Reader>(&mut self, at: R, left: u64) -> Option<Place>
         ensures grows { Grows self.old.firsts.nodes.items self.new.firsts.nodes.items }
-        ensures codes { GrowsCodes self.old.codes self.new.codes }
-        ensures numbered { Numbered self.old.codes → Numbered self.new.codes }
         ensures places { self.new.places ≡ self.old.places }
         ensures lists { self.new.lists ≡ self.old.lists }
         ensures place { IfSome result (λ place. (section : Input)
             → RemembersPlaces section self.old → from_end left section ≡ Ok (R.input at)
-            → RemembersPlace section self.new.codes self.new.firsts.nodes.items left place) }
+            → RemembersPlace section self.new.firsts.nodes.items left place) }
     {
         match next_declaration(at) {
             Ok(Some((code, _, behind))) => {
                 let rest = behind.len() as u64;
                 let next = self.place_of(rest)?;
                 let first = in_32_bits(left)?;
-                let end = in_32_bits(rest)?;
-                let number = self.codes.number_or_next(code)?;
-                let version = self.firsts.insert(next.version, number, first)?;
+                let behind = in_32_bits(rest)?;
+                let version = self.firsts.insert(next.version, code, first)?;
                 Some(Place {
                     version,
                     error: next.error,
-                    behind: end,
+                    behind,
                 })
             }
             Ok(None) => Some(Place {
@@ -273,13 +253,4 @@ fn from_end<R: Reader>(section: R, left: u64) -> Option<R>
 {
     let start = (section.len() as u64).saturating_sub(left);
     from_offset(section, start).ok()
-}
-
-/// The declaration that is known to stand where so many bytes of a section are left.
-fn declared_at<R: Reader>(section: R, left: u64) -> Option<Abbreviation<R>>
-    ensures { IfSome result (λ found. (declared : Declaration)
-        → StandsAt (R.input section) left declared → declared ≡ declaration_of R.input found) }
-{
-    let at = from_end(section, left)?;
-    known_declaration(at).ok()
 }

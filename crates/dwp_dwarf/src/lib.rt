@@ -8,7 +8,6 @@ mod chains;
 mod entry;
 pub mod laws;
 mod needed;
-mod read_table;
 mod split;
 mod value;
 mod versions;

@@ -22,6 +22,7 @@ use crate::versions::put;
 use dwp_bytes::{Encoding, ReadError, Reader};
 use std::alloc::Global;
 use std::collections::BTreeMap;
+use std::mem;
 
 /// Of some declarations the attributes that are needed.
 #[derive(Drop)]
@@ -122,27 +123,16 @@ pub(crate) struct UnmetNames {
 }
 
 impl UnmetNames {
-    /// Whether a name is one of them.
-    fn contains(&self, name: u64) -> bool
-        ensures { result ≡ is_unmet self.now name }
+    /// Whether a name is one of them. Takes it out.
+    fn meet(&mut self, name: u64) -> bool
+        ensures first { result ≡ is_unmet self.old name }
+        ensures met { self.new ≡ met self.old name }
     {
         match name {
-            DW_AT_DWO_NAME => self.dwo_name,
-            DW_AT_GNU_DWO_NAME => self.gnu_dwo_name,
-            DW_AT_COMP_DIR => self.comp_dir,
+            DW_AT_DWO_NAME => mem::replace(&mut self.dwo_name, false),
+            DW_AT_GNU_DWO_NAME => mem::replace(&mut self.gnu_dwo_name, false),
+            DW_AT_COMP_DIR => mem::replace(&mut self.comp_dir, false),
             _ => false,
-        }
-    }
-
-    /// Takes a name out.
-    fn meet(&mut self, name: u64)
-        ensures { self.new ≡ met self.old name }
-    {
-        match name {
-            DW_AT_DWO_NAME => self.dwo_name = false,
-            DW_AT_GNU_DWO_NAME => self.gnu_dwo_name = false,
-            DW_AT_COMP_DIR => self.comp_dir = false,
-            _ => {}
         }
     }
 }
@@ -172,8 +162,8 @@ fn list_needed<R: Reader>(
         comp_dir: true,
     };
     while let Some(specification) = next_specification(&mut specifications) {
-        if specification.has_bytes() || unmet.contains(specification.name) {
-            unmet.meet(specification.name);
+        let is_first = unmet.meet(specification.name);
+        if specification.has_bytes() || is_first {
             list.push(specification).ok()?;
         }
     }

@@ -1,13 +1,12 @@
 //! The attributes of an entry that name its split object (DWARF 5, 3.1.2 and 7.5.4).
 
-ghost use Rattle.std.specs.Prelude.{◌≡◌, Result, map, option_map};
+ghost use Rattle.std.specs.Prelude.{◌≡◌, map, option_map};
 ghost use Rattle.dwp_base.specs.Reading.{Answers};
-ghost use Rattle.dwp_bytes.specs.declared.error.ReadError.{ReadError};
 ghost use Rattle.dwp_dwarf.specs.Attributes.{attribute_of, entry_of};
 ghost use Rattle.dwp_dwarf.specs.Declarations.{specification_of};
 ghost use Rattle.dwp_dwarf.specs.Entries.{attributes};
 ghost use Rattle.dwp_dwarf.specs.Split as spec;
-ghost use Rattle.dwp_dwarf.specs.Split.{attributes_of, none_found, some_split, split_in};
+ghost use Rattle.dwp_dwarf.specs.Split.{attributes_of, none_found, split_in};
 ghost use Rattle.dwp_dwarf.specs.Split.{with_attribute};
 
 use crate::abbrev::AttributeSpecification;
@@ -108,15 +107,4 @@ pub(crate) fn split_listed<R: Reader>(
         found.add(attribute, encoding.format);
     }
     Ok(found)
-}
-
-/// What was found of an entry whose code the table has.
-pub(crate) fn found_split<R: Reader>(
-    split: Result<SplitAttributes<R>, ReadError>,
-) -> Result<Option<SplitAttributes<R>>, ReadError>
-    ensures { (read : Result spec.SplitAttributes ReadError)
-        → Answers (attributes_of R.input) split read
-        → Answers (option_map (attributes_of R.input)) result (some_split read) }
-{
-    Ok(Some(split?))
 }

@@ -4,7 +4,7 @@ ghost use Rattle.std.specs.Prelude.{◌≡◌, ◌+◌, ◌*◌};
 ghost use Rattle.dwp_base.specs.Reading.{Reads, Answers};
 ghost use Rattle.dwp_bytes.specs.Encoding.{offset_size};
 ghost use Rattle.dwp_dwarf.specs.Attributes.{attribute_of};
-ghost use Rattle.dwp_dwarf.specs.Forms.{fixed_size, unit_size, layout_of, block_length_at, text_at};
+ghost use Rattle.dwp_dwarf.specs.Forms.{layout_of, block_length_at, text_at};
 ghost use Rattle.dwp_dwarf.specs.Forms.{past_value, value_at, named_form_at};
 ghost use Rattle.dwp_dwarf.specs.Offsets.{from_at};
 ghost use Rattle.dwp_dwarf.specs.Sections.{strings_of};
@@ -137,57 +137,34 @@ pub(crate) const GNU_REF_ALT: u64 = 0x1f20;
 
 pub(crate) const GNU_STRP_ALT: u64 = 0x1f21;
 
-/// The size of a value that has one of its own.
-fn fixed_size(form: u64) -> Option<u8>
-    ensures { result ≡ fixed_size form }
-{
-    match form {
-        FLAG_PRESENT | IMPLICIT_CONST => Some(0),
-        DATA1 | FLAG | REF1 | STRX1 | ADDRX1 => Some(1),
-        DATA2 | REF2 | STRX2 | ADDRX2 => Some(2),
-        STRX3 | ADDRX3 => Some(3),
-        DATA4 | REF4 | REF_SUP4 | STRX4 | ADDRX4 => Some(4),
-        DATA8 | REF8 | REF_SIG8 | REF_SUP8 => Some(8),
-        DATA16 => Some(16),
-        _ => None,
-    }
-}
-
-/// The size of a value that is as wide as the unit's addresses or offsets.
-fn unit_size(form: u64, encoding: Encoding) -> Option<u8>
-    ensures { result ≡ unit_size encoding form }
-{
-    let offset_size = encoding.format.offset_size() as u8;
-    match form {
-        ADDR => Some(encoding.address_size),
-        STRP | SEC_OFFSET | STRP_SUP | LINE_STRP | GNU_REF_ALT | GNU_STRP_ALT => Some(offset_size),
-        REF_ADDR if encoding.version == 2 => Some(encoding.address_size),
-        REF_ADDR => Some(offset_size),
-        _ => None,
-    }
-}
-
 /// How the value of a form is laid out.
 fn layout_of(form: u64, encoding: Encoding) -> Option<Layout>
     ensures { result ≡ layout_of encoding form }
 {
-    if let Some(size) = fixed_size(form) {
-        return Some(Layout::Fixed(size));
-    }
-    if let Some(size) = unit_size(form, encoding) {
-        return Some(Layout::Fixed(size));
-    }
-    match form {
-        BLOCK1 => Some(Layout::Block(BlockLength::One)),
-        BLOCK2 => Some(Layout::Block(BlockLength::Two)),
-        BLOCK4 => Some(Layout::Block(BlockLength::Four)),
-        BLOCK | EXPRLOC => Some(Layout::Block(BlockLength::Leb)),
-        STRING => Some(Layout::Text),
-        SDATA => Some(Layout::Signed),
+    let offset = Layout::Fixed(encoding.format.offset_size() as u8);
+    let address = Layout::Fixed(encoding.address_size);
+    Some(match form {
+        FLAG_PRESENT | IMPLICIT_CONST => Layout::Fixed(0),
+        DATA1 | FLAG | REF1 | STRX1 | ADDRX1 => Layout::Fixed(1),
+        DATA2 | REF2 | STRX2 | ADDRX2 => Layout::Fixed(2),
+        STRX3 | ADDRX3 => Layout::Fixed(3),
+        DATA4 | REF4 | REF_SUP4 | STRX4 | ADDRX4 => Layout::Fixed(4),
+        DATA8 | REF8 | REF_SIG8 | REF_SUP8 => Layout::Fixed(8),
+        DATA16 => Layout::Fixed(16),
+        ADDR => address,
+        STRP | SEC_OFFSET | STRP_SUP | LINE_STRP | GNU_REF_ALT | GNU_STRP_ALT => offset,
+        REF_ADDR if encoding.version == 2 => address,
+        REF_ADDR => offset,
+        BLOCK1 => Layout::Block(BlockLength::One),
+        BLOCK2 => Layout::Block(BlockLength::Two),
+        BLOCK4 => Layout::Block(BlockLength::Four),
+        BLOCK | EXPRLOC => Layout::Block(BlockLength::Leb),
+        STRING => Layout::Text,
+        SDATA => Layout::Signed,
         UDATA | REF_UDATA | STRX | ADDRX | LOCLISTX | RNGLISTX | GNU_ADDR_INDEX | GNU_STR_INDEX =>
-            Some(Layout::Unsigned),
-        _ => None,
-    }
+            Layout::Unsigned,
+        _ => return None,
+    })
 }
 
 #[tactic(auto, unfolding(crate::specs::Forms::block_length_at))]

@@ -1,12 +1,10 @@
-//! Maps from numbers: the numbers of the codes of abbreviations (DWARF 5, 7.5.3), and a map whose
-//! versions share what they have alike.
+//! Maps from numbers, among them one whose versions share what they have alike.
 
 ghost use Rattle.std.specs.Prelude.{◌≡◌, ◌≢◌, ◌≤◌, ◌<◌, ◌-◌, ◌/◌, ℕ, [], length, true, false, Some};
 ghost use Rattle.std.specs.Prelude.{IfSome};
 ghost use Rattle.std.specs.Ordering.{nat_cmp};
 ghost use Rattle.std.specs.BTreeMap.{get};
-ghost use Rattle.dwp_dwarf.specs.Versions.{Numbered, GrowsCodes};
-ghost use Rattle.dwp_dwarf.specs.Versions.{node_of, held, side_of, with_side, half, older, copy_of};
+ghost use Rattle.dwp_dwarf.specs.Versions.{node_of, side_of, with_side, half, older, copy_of};
 ghost use Rattle.dwp_dwarf.specs.Versions.{value_below, value_in, Grows};
 
 use std::alloc::Global;
@@ -21,52 +19,6 @@ pub(crate) fn put<V: Drop>(map: &mut BTreeMap<u64, V>, key: u64, value: V) -> bo
         → get nat_cmp map.new other ≡ get nat_cmp map.old other }
 {
     map.insert(key, value).is_ok()
-}
-
-/// Codes and their numbers: each new code gets the next number, from 0 on.
-#[derive(Drop)]
-pub(crate) struct Codes {
-    pub(crate) numbers: BTreeMap<u64, u32>,
-    // How many numbers were given.
-    pub(crate) count: u32,
-}
-
-impl Codes {
-    /// No code has a number, and no memory is taken.
-    pub(crate) fn new(alloc: Global) -> Codes
-        ensures { result.numbers.entries ≡ [] }
-    {
-        Codes {
-            numbers: BTreeMap::new(alloc),
-            count: 0,
-        }
-    }
-
-    /// The number of a code.
-    pub(crate) fn number(&self, code: u64) -> Option<u32>
-        ensures { result ≡ get nat_cmp self.now.numbers code }
-    {
-        self.numbers.get(&code).copied()
-    }
-
-    /// The number of a code: the next one where it has none yet. None where there is no memory.
-    pub(crate) fn number_or_next(&mut self, code: u64) -> Option<u32>
-        ensures number { IfSome result (λ number. get nat_cmp self.new.numbers code ≡ Some number) }
-        ensures numbered { Numbered self.old → Numbered self.new }
-        ensures grows { GrowsCodes self.old self.new }
-    {
-        if let Some(number) = self.number(code) {
-            return Some(number);
-        }
-        let number = self.count;
-        let count = number.checked_add(1)?;
-        if put(&mut self.numbers, code, number) {
-            self.count = count;
-            Some(number)
-        } else {
-            None
-        }
-    }
 }
 
 /// The value of a key, and where the others are.
@@ -88,7 +40,7 @@ pub(crate) struct Versions {
 }
 
 /// The nodes on a way, at most: one for each bit of a key, and one below them.
-const LEVELS: u32 = 33;
+const LEVELS: u32 = 65;
 
 /// What a version without a node has.
 const EMPTY: Node = Node {
@@ -106,16 +58,16 @@ impl Versions {
     }
 
     /// The value of a key in a version.
-    pub(crate) fn get(&self, version: u32, key: u32) -> Option<u32>
+    pub(crate) fn get(&self, version: u32, key: u64) -> Option<u32>
         ensures { result ≡ value_in self.now.nodes.items version key }
     {
         value_below(&self.nodes, LEVELS, version, key)
     }
 
     /// A version that has this value for the key, and else what that version has. It takes as many
-    /// nodes as the number behind the key has bits, at most 33. None for the value 0, or where
+    /// nodes as the number behind the key has bits, at most 65. None for the value 0, or where
     /// there is no memory.
-    pub(crate) fn insert(&mut self, version: u32, key: u32, value: u32) -> Option<u32>
+    pub(crate) fn insert(&mut self, version: u32, key: u64, value: u32) -> Option<u32>
         ensures grows { Grows self.old.nodes.items self.new.nodes.items }
         ensures fits { IfSome result (λ added. added ≤ length self.new.nodes.items) }
         ensures value { IfSome result (λ added. value_in self.new.nodes.items added key
@@ -131,14 +83,14 @@ impl Versions {
 }
 
 impl Node {
-    fn side(&self, key: u32) -> u32
+    fn side(&self, key: u64) -> u32
         ensures { result ≡ side_of self.now key }
     {
         if key % 2 == 0 { self.even } else { self.odd }
     }
 
     /// The node with another version on the side of a key.
-    fn with_side(self, key: u32, version: u32) -> Node
+    fn with_side(self, key: u64, version: u32) -> Node
         ensures { result ≡ with_side self key version }
     {
         if key % 2 == 0 {
@@ -153,17 +105,6 @@ impl Node {
             }
         }
     }
-
-    /// The value, where there is one.
-    fn held(&self) -> Option<u32>
-        ensures { result ≡ held self.now.value }
-    {
-        if self.value == 0 {
-            None
-        } else {
-            Some(self.value)
-        }
-    }
 }
 
 fn older(version: u32, other: u32) -> u32
@@ -173,7 +114,7 @@ fn older(version: u32, other: u32) -> u32
 }
 
 /// What is left of a key on its side.
-fn half(key: u32) -> u32
+fn half(key: u64) -> u64
     ensures { result ≡ half key }
 {
     key.saturating_sub(1) / 2
@@ -204,7 +145,7 @@ fn copy_of(nodes: &[Node], version: u32) -> Node
 }
 
 /// The value of a key in a version, of so many nodes on the way at most.
-fn value_below(nodes: &[Node], levels: u32, version: u32, key: u32) -> Option<u32>
+fn value_below(nodes: &[Node], levels: u32, version: u32, key: u64) -> Option<u32>
     ensures { result ≡ value_below levels nodes.now version key }
 {
     if levels == 0 {
@@ -214,7 +155,7 @@ fn value_below(nodes: &[Node], levels: u32, version: u32, key: u32) -> Option<u3
         return None;
     };
     if key == 0 {
-        return node.held();
+        return (node.value != 0).then_some(node.value);
     }
     value_below(nodes, levels - 1, older(version, node.side(key)), half(key))
 }
@@ -236,7 +177,7 @@ fn insert_below(
     nodes: &mut Vec<Node>,
     levels: u32,
     version: u32,
-    key: u32,
+    key: u64,
     value: u32,
 ) -> Option<u32>
     requires { value ≢ 0 }

@@ -1,13 +1,18 @@
-use Rattle.dwp_dwarf.proofs.Terms.{rules}
-use Rattle.dwp_dwarf.proofs.Places.{places_stay, place_put}
+use Rattle.dwp_dwarf.specs.Chains.{RemembersPlace}
+use Rattle.dwp_dwarf.proofs.Keys.{put_keeps}
+use Rattle.dwp_dwarf.proofs.Places.{places_stay}
 use Rattle.dwp_dwarf.proofs.chains.Chains.learn.Goals as goal
 
-pub returns-in_default-place_at-clause-places : goal.returns-in_default-place_at-clause-places
-returns-in_default-place_at-clause-places g c = search (rules, places_stay)
+pub returns-in_err-place-clause-places : goal.returns-in_err-place-clause-places
+returns-in_err-place-clause-places g c = places_stay _ c.args.self.now c.place_at.new.self
+    c.place_at.ensures.places c.place_at.ensures.grows
 
 pub returns-clause-places : goal.returns-clause-places
-returns-clause-places g c = λ r. place_put c.place_at.new.self c.put-is_put.ensures.added
-    c.put-is_put.ensures.others c.put-is_put.ensures.refused
-    (c.in-Some-place_at.ensures.place (g.R.Reader.input c.args.section) r c.in-Some.ensures)
-    (places_stay c.place_at.ensures.places c.place_at.ensures.grows c.place_at.ensures.codes
-    c.place_at.ensures.numbered r)
+returns-clause-places g c = λ r.
+    let section = g.R.Reader.input c.args.section in
+    let others = places_stay section c.args.self.now c.place_at.new.self c.place_at.ensures.places
+    c.place_at.ensures.grows r in
+    put_keeps (RemembersPlace section c.place_at.new.self.firsts.nodes.items)
+    c.place_at.new.self.places c.put.new.map c.args.left c.in_ok-place.place c.put.result
+    (c.in_ok-place.ensures.place section r c.in_ok-at.ensures) c.put.ensures.added
+    c.put.ensures.others c.put.ensures.refused others

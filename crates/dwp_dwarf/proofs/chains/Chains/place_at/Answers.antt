@@ -1,6 +1,5 @@
 use Rattle.dwp_dwarf.proofs.Terms.{length, refl, sym, ◌∙◌}
-use Rattle.dwp_dwarf.proofs.Places.{place_stays, place_end, place_next}
-use Rattle.dwp_dwarf.proofs.NewVersions.{grows_none}
+use Rattle.dwp_dwarf.proofs.Places.{place_end, place_next}
 use Rattle.dwp_dwarf.proofs.Tables.{look_up-end, look_up-error}
 use Rattle.dwp_dwarf.proofs.chains.Chains.place_at.Goals as goal
 
@@ -9,10 +8,8 @@ pub returns-in_ok-version-in-Ok-Some-clause-place :
 returns-in_ok-version-in-Ok-Some-clause-place g c = λ section all is.
     let e = rw c.len-rest.ensures at c.in_ok-next-in-Ok-Some.ensures in
     let left = length (g.R.Reader.input c.in-Ok-Some.behind).bytes in
-    place_next is (rw c.in-Ok-Some.field-0-is at c.in-Ok-Some.ensures)
-    (c.number_or_next.ensures.numbered all.numbered) c.in_ok-number-in-Ok-Some.ensures.number
-    (place_stays c.number_or_next.ensures.grows (grows_none _) (rw (sym e) at (all.each left)))
-    refl (c.in_ok-end-in-Ok-Some.ensures ∙ c.len-rest.ensures)
+    place_next is (rw c.in-Ok-Some.field-0-is at c.in-Ok-Some.ensures) (rw (sym e) at (all left))
+    refl (c.in_ok-behind-in-Ok-Some.ensures ∙ c.len-rest.ensures)
     c.in_ok-version-in-Ok-Some.ensures.fits
     (rw c.in_ok-first-in-Ok-Some.ensures at c.in_ok-version-in-Ok-Some.ensures.value)
     c.in_ok-version-in-Ok-Some.ensures.others
