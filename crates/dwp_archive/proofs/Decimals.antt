@@ -3,6 +3,7 @@ use Rattle.std.proofs.Common.{◌≡◌, ℕ, ◌+◌, ◌-◌, ◌*◌, ◌^◌
 use Rattle.std.proofs.Common.{List, length, drop, get_or, Some, None, Option, sym, ap, refl, ◌∙◌}
 use Rattle.std.proofs.Common.{arith, pow-add}
 use Rattle.std.proofs.Math.Nat.{pow-le-pow_right}
+use Rattle.std.specs.Bool.{then_some}
 use Rattle.std.specs.List.{list_all}
 use Rattle.std.proofs.lemmas.Bool.Decides.{nat_tests}
 use Rattle.std.proofs.lemmas.List.{drop_all, drop_more}
@@ -28,11 +29,15 @@ module _ (field : List ℕ) (n i : ℕ) where
   unfolding decimal_from
   decimal_end h = ap (decimal_from n) (drop_all i field h)
 
+some_if : (b : Bool) (n : ℕ) → then_some b n ≡ cond {A = Number} b (Some n) None
+some_if true n = refl
+some_if false n = refl
+
 -- where a number ends, in front of blanks or of something else
 pub stops : (field : List ℕ) (n i : ℕ) (all : Number) (blank : Bool) → i < length field
     → is_digit (get_or field i 0) ≡ false → blank ≡ list_all (λ b. b == 32) (drop i field)
-    → decimal_from n (drop i field) ≡ all → cond {A = Number} blank (Some n) None ≡ all
-stops field n i all blank h d e v = rw e (sym (decimal_stop field n i h d) ∙ v)
+    → decimal_from n (drop i field) ≡ all → then_some blank n ≡ all
+stops field n i all blank h d e v = rw e (some_if _ n ∙ sym (decimal_stop field n i h d) ∙ v)
 
 pub digit_small : (b : ℕ) → is_digit b ≡ true → b - 48 < 10
 digit_small b h = grind (arith, nat_tests)

@@ -4,8 +4,8 @@ ghost use Rattle.std.specs.Prelude.{◌≡◌, ◌==◌, ◌+◌, ◌++◌, ◌�
 ghost use Rattle.std.specs.List.{list_all};
 ghost use Rattle.dwp_base.specs.Reading.{Answers};
 ghost use Rattle.dwp_archive.specs.Answers.{Gives};
-ghost use Rattle.dwp_archive.specs.Entries.{is_symbols, long_at, own_at, members_at, entry_at};
-ghost use Rattle.dwp_archive.specs.Headers.{is_digit, decimal, is_padded, size_at};
+ghost use Rattle.dwp_archive.specs.Entries.{long_at, own_at, members_at, entry_at};
+ghost use Rattle.dwp_archive.specs.Headers.{decimal, is_padded, size_at};
 ghost use Rattle.dwp_archive.specs.Members.{members_from, members_of};
 ghost use Rattle.dwp_archive.specs.View.{member, listed, entry};
 
@@ -13,12 +13,8 @@ use crate::error::ArchiveError;
 use crate::member::{Member, NameForm, own_name, short_name};
 use std::alloc::{AllocError, Global};
 
-/// Whether a byte is a decimal digit.
-fn is_digit(byte: u8) -> bool
-    ensures { result ≡ is_digit byte }
-{
-    b'0' <= byte && byte <= b'9'
-}
+/// What the name of a table of symbols begins with, where it is named like a member.
+const SYMBOLS: &[u8] = b"__.SYMDEF";
 
 /// Whether all bytes are blanks.
 fn is_blank(bytes: &[u8]) -> bool
@@ -32,21 +28,14 @@ fn decimal(field: &[u8]) -> Option<u64>
     requires { length field.now ≤ 16 }
     ensures { result ≡ decimal field.now }
 {
-    if field.is_empty() {
-        return None;
-    }
-    if !is_digit(field[0]) {
+    if field.is_empty() || !field[0].is_ascii_digit() {
         return None;
     }
     let mut n = 0u64;
     for i in 0..field.len() {
         let byte = field[i];
-        if !is_digit(byte) {
-            return if is_blank(field.split_at(i).1) {
-                Some(n)
-            } else {
-                None
-            };
+        if !byte.is_ascii_digit() {
+            return is_blank(field.split_at(i).1).then_some(n);
         }
         n = 10 * n + u64::from(byte - b'0');
     }
@@ -73,9 +62,7 @@ fn size_at(bytes: &[u8]) -> Result<usize, ArchiveError>
     if !bytes.split_at(58).1.starts_with(b"`\n") {
         return Err(ArchiveError::HeaderEnd);
     }
-    let Some(size) = decimal(bytes.split_at(48).1.split_at(10).0) else {
-        return Err(ArchiveError::Size);
-    };
+    let size = decimal(bytes.split_at(48).1.split_at(10).0).ok_or(ArchiveError::Size)?;
     if bytes.len() as u64 - 60 < size {
         return Err(ArchiveError::PastEnd);
     }
@@ -91,14 +78,6 @@ struct Entry<'a> {
     rest: &'a [u8],
 }
 
-/// Whether a name is that of a table of symbols.
-#[tactic(auto, unfolding(crate::specs::Entries::is_symbols))]
-fn is_symbols(name: &[u8]) -> bool
-    ensures { result ≡ is_symbols name.now }
-{
-    name.starts_with(b"__.SYMDEF")
-}
-
 /// The member with its name in the table.
 #[tactic(auto, unfolding(crate::specs::Entries::long_at, crate::specs::View::member))]
 fn long<'a>(
@@ -109,9 +88,7 @@ fn long<'a>(
     requires { length digits.now ≤ 16 }
     ensures { Answers listed result (long_at names.now digits.now content.now) }
 {
-    let Some(place) = decimal(digits) else {
-        return Err(ArchiveError::Name);
-    };
+    let place = decimal(digits).ok_or(ArchiveError::Name)?;
     if (names.len() as u64) < place {
         return Err(ArchiveError::PastNames);
     }
@@ -123,19 +100,17 @@ fn long<'a>(
 }
 
 /// The member with its name in front of its content, unless it is a table of symbols.
-#[tactic(auto, unfolding(crate::specs::Entries::own_at, crate::specs::Entries::member_named, crate::specs::View::member))]
+#[tactic(auto, unfolding(crate::specs::Entries::own_at, crate::specs::Entries::member_named, crate::specs::Entries::is_symbols, crate::specs::View::member))]
 fn own<'a>(digits: &[u8], content: &'a [u8]) -> Result<Option<Member<'a>>, ArchiveError>
     requires { length digits.now ≤ 16 }
     ensures { Answers listed result (own_at digits.now content.now) }
 {
-    let Some(size) = decimal(digits) else {
-        return Err(ArchiveError::Name);
-    };
+    let size = decimal(digits).ok_or(ArchiveError::Name)?;
     if (content.len() as u64) < size {
         return Err(ArchiveError::NameTooLong);
     }
     let (named, content) = content.split_at(size as usize);
-    if is_symbols(own_name(named)) {
+    if own_name(named).starts_with(SYMBOLS) {
         return Ok(None);
     }
     Ok(Some(Member {
@@ -146,7 +121,7 @@ fn own<'a>(digits: &[u8], content: &'a [u8]) -> Result<Option<Member<'a>>, Archi
 }
 
 /// The member that an entry is, if it is one.
-#[tactic(auto, unfolding(crate::specs::Entries::members_at, crate::specs::Entries::member_named, crate::specs::View::member))]
+#[tactic(auto, unfolding(crate::specs::Entries::members_at, crate::specs::Entries::member_named, crate::specs::Entries::is_symbols, crate::specs::View::member))]
 fn member_at<'a>(
     names: &'a [u8],
     field: &'a [u8],
@@ -164,7 +139,7 @@ fn member_at<'a>(
     if field.starts_with(b"#1/") {
         return own(field.split_at(3).1, content);
     }
-    if is_symbols(short_name(field)) {
+    if short_name(field).starts_with(SYMBOLS) {
         return Ok(None);
     }
     Ok(Some(Member {

@@ -5,19 +5,12 @@ use Rattle.dwp_archive.proofs.Decimals.{decimal_step, decimal_end, stops, digit_
 use Rattle.dwp_archive.proofs.Decimals.{digits_grow}
 use Rattle.dwp_archive.proofs.reading.decimal.Goals as goal
 
-pub returns-then-is_blank : goal.returns-then-is_blank
-returns-then-is_blank c =
-    stops _ _ _ _ _ c.loop-i-test.true
-    (sym c.is_digit-in-loop-i.ensures ∙ c.if-not-is_digit-2.true)
-    (sym c.if-is_blank.true ∙ c.is_blank.ensures
-    ∙ ap (list_all (λ (b : ℕ). b == 32)) c.split_at.ensures.back) c.loop-i.invariant.value
-
-pub returns-else-is_blank : goal.returns-else-is_blank
-returns-else-is_blank c =
-    stops _ _ _ _ _ c.loop-i-test.true
-    (sym c.is_digit-in-loop-i.ensures ∙ c.if-not-is_digit-2.true)
-    (sym c.if-is_blank.false ∙ c.is_blank.ensures
-    ∙ ap (list_all (λ (b : ℕ). b == 32)) c.split_at.ensures.back) c.loop-i.invariant.value
+pub returns-then-not-is_ascii_digit-2 : goal.returns-then-not-is_ascii_digit-2
+returns-then-not-is_ascii_digit-2 c =
+    c.then_some.ensures ∙ stops _ _ _ _ _ c.loop-i-test.true
+    (sym c.is_ascii_digit-in-loop-i.ensures.value ∙ c.if-not-is_ascii_digit-2.true)
+    (c.is_blank.ensures ∙ ap (list_all (λ (b : ℕ). b == 32)) c.split_at.ensures.back)
+    c.loop-i.invariant.value
 
 pub overflow_mul-n : goal.overflow_mul-n
 overflow_mul-n c =
@@ -27,14 +20,15 @@ overflow_mul-n c =
 pub overflow_add-n : goal.overflow_add-n
 overflow_add-n c =
     let byte = get_or c.args.field.now c.loop-i.i 0 in
-    let small = digit_small byte (sym c.is_digit-in-loop-i.ensures ∙ c.if-not-is_digit-2.false) in
+    let small = digit_small byte
+    (sym c.is_ascii_digit-in-loop-i.ensures.value ∙ c.if-not-is_ascii_digit-2.false) in
     let fit = digits_fit c.loop-i.n c.loop-i.i (byte - 48) c.loop-i.invariant.small (omega arith)
     small in omega arith
 
 pub loop-i-preserved : goal.loop-i-preserved
 loop-i-preserved c =
     let byte = get_or c.args.field.now c.loop-i.i 0 in
-    let digit = sym c.is_digit-in-loop-i.ensures ∙ c.if-not-is_digit-2.false in
+    let digit = sym c.is_ascii_digit-in-loop-i.ensures.value ∙ c.if-not-is_ascii_digit-2.false in
     let next = ap (λ (d : ℕ). decimal_from (10 * c.loop-i.n + d)
     (drop (c.loop-i.i + 1) c.args.field.now)) c.from.ensures in
     let grown = digits_grow c.loop-i.n c.loop-i.i (byte - 48) c.loop-i.invariant.small
