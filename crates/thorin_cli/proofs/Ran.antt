@@ -7,7 +7,7 @@ use Rattle.thorin_words.specs.declared.responses.ResponseError.{ResponseError}
 use Rattle.thorin_arguments.specs.Asked.{Call, IsCallOf, IsStatusOf}
 use Rattle.thorin_arguments.specs.Peers.{is_peer}
 use Rattle.thorin_cli.specs.Doing.{DoesCall, Runs, State, System}
-use Rattle.thorin_cli.specs.declared.manner.ProgramManner.{ProgramManner}
+use Rattle.thorin_cli.specs.declared.system.ProgramManner.{ProgramManner}
 
 module _ {F O E : Type 0} (system : System F O E) (text : Text → Option Text → Type 0)
     (fails : Text → ResponseError → Type 0) (on_terminal : Bool) (program : Text)

@@ -30,7 +30,7 @@ use Rattle.thorin_arguments.specs.Asked.{Call, Does, IsCallOf}
 use Rattle.thorin_arguments.specs.Peers.{is_peer}
 use Rattle.thorin_cli.specs.Settings.{list_form, packing_for, reading_for, words_for}
 use Rattle.thorin_cli.specs.Telling.{response_text}
-use Rattle.thorin_cli.specs.declared.manner.ProgramManner.{ProgramManner}
+use Rattle.thorin_cli.specs.declared.system.ProgramManner.{ProgramManner}
 
 -- what is known of a system: what a read of a file that is packed may answer, by what it may be
 -- known, and which were begun; what standard output has, and that a write to it failed; what

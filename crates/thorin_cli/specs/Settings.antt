@@ -21,7 +21,7 @@ use Rattle.thorin_arguments.specs.declared.asking.PackArguments.{PackArguments}
 use Rattle.thorin_arguments.specs.declared.asking.FindArguments.{FindArguments}
 use Rattle.thorin_arguments.specs.declared.asking.ListArguments.{ListArguments}
 use Rattle.thorin_arguments.specs.declared.asking.CheckArguments.{CheckArguments}
-use Rattle.thorin_cli.specs.declared.manner.ProgramManner.{ProgramManner}
+use Rattle.thorin_cli.specs.declared.system.ProgramManner.{ProgramManner}
 
 abbrev pub nameless_units : (are_skipped : Bool) → NamelessUnits
 nameless_units are_skipped = if are_skipped then PassedOver else Refused

@@ -12,16 +12,14 @@ ghost use Rattle.thorin_cli.specs.Doing.{Runs, is_name_of_peer, line_of};
 ghost use Rattle.thorin_cli.specs.Telling.{HasTried, HasTriedOr, inside_text, no_memory};
 ghost use Rattle.thorin_cli.specs.Telling.{ReportsFirst, response_text};
 
-mod manner;
 mod notes;
 mod program;
 mod settings;
 mod system;
 
-pub use crate::manner::{Facts, ProgramManner};
 use crate::notes::{note_response, put_note};
 use crate::program::Program;
-pub use crate::system::{NotedReader, Readers};
+pub use crate::system::{Facts, NotedReader, ProgramManner, Readers};
 use std::alloc::{AllocError, Global};
 use std::convert::AsStr;
 use std::io::{self, Write};

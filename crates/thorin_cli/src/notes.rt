@@ -13,16 +13,16 @@ use thorin_find::FileKind;
 use thorin_inputs::{Compression, cut_hint};
 use thorin_print::{Failure, print};
 use thorin_reading::PlainReader;
-use thorin_terminal::{NamedFile, NotedResponses, Peculiarity, RefusedResponse};
+use thorin_terminal::{NamedFile, NotedResponses, Peculiarity};
 use thorin_words::{ResponseError, printed};
 
 /// What helps where an executable names an object that isn't there.
 const MISSING: &'static str =
     "--missing lists the objects that aren't there, --prefix-map FROM=TO finds those that moved";
 
-/// What a command that reads was given.
+/// What a command that reads looks up.
 #[derive(Clone, Copy)]
-pub(crate) struct Given<'a> {
+pub(crate) struct Lookup<'a> {
     /// The package.
     pub(crate) file: &'a str,
     /// The kind and the identifier of a unit; empty where none was asked for.
@@ -32,10 +32,10 @@ pub(crate) struct Given<'a> {
     pub(crate) wanted: &'a str,
 }
 
-impl<'a> Given<'a> {
+impl<'a> Lookup<'a> {
     /// A package alone.
-    pub(crate) fn file(file: &'a str) -> Given<'a> {
-        Given {
+    pub(crate) fn file(file: &'a str) -> Lookup<'a> {
+        Lookup {
             file,
             kind: "",
             id: "",
@@ -50,7 +50,7 @@ impl<'a> Given<'a> {
 pub(crate) fn note_reading<R: NotedReader, E: Write>(
     alloc: Global,
     failure: &Failure,
-    given: Given<'_>,
+    lookup: Lookup<'_>,
     files: &PlainReader<'_, R>,
     err: &mut E,
 )
@@ -64,16 +64,16 @@ pub(crate) fn note_reading<R: NotedReader, E: Write>(
         }
         Failure::Malformed => {
             let why = why_malformed(alloc, files.compression(), files.kind());
-            note_why(alloc, given.file, why, err);
+            note_why(alloc, lookup.file, why, err);
         }
         Failure::NoIndex | Failure::NoUnit(_) => {
-            note(alloc, given.file, object_note(files.kind()), err);
+            note(alloc, lookup.file, object_note(files.kind()), err);
         }
-        Failure::NoString(_) | Failure::NoRange(_) => note(alloc, given.file, "", err),
-        Failure::BadKind => note(alloc, given.kind, "neither cu nor tu", err),
-        Failure::BadIdentifier => note(alloc, given.id, "not 1 to 16 hexadecimal digits", err),
-        Failure::BadNumber => note(alloc, given.wanted, "not a decimal number", err),
-        Failure::BadSection => note_why(alloc, given.wanted, section_names(alloc), err),
+        Failure::NoString(_) | Failure::NoRange(_) => note(alloc, lookup.file, "", err),
+        Failure::BadKind => note(alloc, lookup.kind, "neither cu nor tu", err),
+        Failure::BadIdentifier => note(alloc, lookup.id, "not 1 to 16 hexadecimal digits", err),
+        Failure::BadNumber => note(alloc, lookup.wanted, "not a decimal number", err),
+        Failure::BadSection => note_why(alloc, lookup.wanted, section_names(alloc), err),
         _ => {}
     }
 }
@@ -130,12 +130,11 @@ pub(crate) fn note_packing<E: Write>(
     let Ok(output) = packing.output_name(alloc) else {
         return;
     };
-    match failure {
-        Failure::Output => match &cause {
-            Some(cause) => note_why(alloc, output.as_str(), reason(alloc, cause), err),
-            None => note(alloc, output.as_str(), "", err),
-        },
-        Failure::Overwrites => note(alloc, output.as_str(), "", err),
+    match (failure, &cause) {
+        (Failure::Output, Some(cause)) => {
+            note_why(alloc, output.as_str(), reason(alloc, cause), err);
+        }
+        (Failure::Output | Failure::Overwrites, _) => note(alloc, output.as_str(), "", err),
         _ => {}
     }
 }
@@ -228,38 +227,23 @@ pub(crate) fn note_response<P: NotedResponses, E: Write>(
     ensures { Grows (E.contents err.old) (E.contents err.new) }
 {
     let refused = files.refused();
-    match (&refused, error) {
-        (
-            Some(
-                RefusedResponse {
-                    name,
-                    cause: Some(cause),
-                },
-            ),
-            _,
-        ) => {
-            note_unread(alloc, name.as_str(), cause, err);
-        }
-        (Some(file), ResponseError::NotUtf8) => {
-            note(
-                alloc,
-                file.name.as_str(),
-                "a response file that isn't UTF-8",
-                err,
-            );
-        }
-        (None, ResponseError::NotUtf8) => {
-            put_note("note: a response file isn't UTF-8\n", err);
-        }
-        _ => {}
+    let is_bytes = matches!(error, ResponseError::NotUtf8);
+    match &refused {
+        Some(file) => match &file.cause {
+            Some(cause) => note_unread(alloc, file.name.as_str(), cause, err),
+            None if is_bytes => {
+                note(
+                    alloc,
+                    file.name.as_str(),
+                    "a response file that isn't UTF-8",
+                    err,
+                );
+            }
+            None => {}
+        },
+        None if is_bytes => put_note("note: a response file isn't UTF-8\n", err),
+        None => {}
     }
-}
-
-/// Prints why standard output took nothing.
-pub(crate) fn note_output<E: Write>(alloc: Global, cause: &io::Error, err: &mut E)
-    ensures { Grows (E.contents err.old) (E.contents err.new) }
-{
-    note_why(alloc, "standard output", reason(alloc, cause), err);
 }
 
 /// Prints the note on a file that couldn't be read.
@@ -273,7 +257,12 @@ pub(crate) fn note_unread<E: Write>(alloc: Global, name: &str, cause: &io::Error
 }
 
 /// Prints a note with a text that had to be made; without it where there was no memory for it.
-fn note_why<E: Write>(alloc: Global, about: &str, why: Result<String, AllocError>, err: &mut E)
+pub(crate) fn note_why<E: Write>(
+    alloc: Global,
+    about: &str,
+    why: Result<String, AllocError>,
+    err: &mut E,
+)
     ensures { Grows (E.contents err.old) (E.contents err.new) }
 {
     match &why {
@@ -287,7 +276,15 @@ fn note_why<E: Write>(alloc: Global, about: &str, why: Result<String, AllocError
 fn note<E: Write>(alloc: Global, about: &str, why: &str, err: &mut E)
     ensures { Grows (E.contents err.old) (E.contents err.new) }
 {
-    if let Ok(line) = note_line(alloc, about, why) {
+    let Ok(about) = printed(alloc, if about.is_empty() { "''" } else { about }) else {
+        return;
+    };
+    let line = if why.is_empty() {
+        format!(in alloc; "note: {about}\n")
+    } else {
+        format!(in alloc; "note: {about}: {why}\n")
+    };
+    if let Ok(line) = line {
         put_note(line.as_str(), err);
     }
 }
@@ -298,14 +295,4 @@ pub(crate) fn put_note<E: Write>(line: &str, err: &mut E)
     ensures { Grows (E.contents err.old) (E.contents err.new) }
 {
     let _ = print(line, err);
-}
-
-/// The line of a note.
-fn note_line(alloc: Global, about: &str, why: &str) -> Result<String, AllocError> {
-    let about = printed(alloc, if about.is_empty() { "''" } else { about })?;
-    if why.is_empty() {
-        format!(in alloc; "note: {about}\n")
-    } else {
-        format!(in alloc; "note: {about}: {why}\n")
-    }
 }

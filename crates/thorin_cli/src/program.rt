@@ -8,17 +8,16 @@ ghost use Rattle.thorin_cli.specs.Doing.{Answers, DoesCall, DoesPacking, HasStat
 ghost use Rattle.thorin_cli.specs.Doing.{Verifies};
 ghost use Rattle.thorin_cli.specs.Programs.{KeepsPlaces, state_of, system};
 
-use crate::manner::ProgramManner;
-use crate::notes::{Given, note_listed, note_output, note_packing, note_reading, note_refused};
-use crate::settings::{file_count, find_words, form_of, list_form, nameless_units, packing_of};
-use crate::system::NotedReader;
+use crate::notes::{Lookup, note_listed, note_packing, note_reading, note_refused, note_why};
+use crate::settings::{file_count, form_of, nameless_units, packing_of};
+use crate::system::{NotedReader, ProgramManner};
 use std::alloc::Global;
 use std::fmt;
 use std::io::{self, Write};
 use thorin_arguments::{CheckArguments, Commands, FindArguments, ListArguments, PackArguments};
 use thorin_check::{Reading, check_by};
-use thorin_commands::{Packing, list_missing, pack};
-use thorin_find::{find_by, list_by};
+use thorin_commands::{Packing, list_missing, pack, reason};
+use thorin_find::{FindForm, FindWords, ListForm, find_by, list_by};
 use thorin_print::{Failure, Form, WatchedLines, show};
 use thorin_reading::PlainReader;
 use thorin_terminal::{NotedFiles, ReadingSettings, WatchedWriter};
@@ -40,7 +39,7 @@ impl<F: NotedFiles, R: NotedReader, O: Write, E: Write> Program<'_, '_, '_, F, R
     fn status(
         &mut self,
         answer: Result<u8, Failure>,
-        given: Given<'_>,
+        lookup: Lookup<'_>,
         files: &PlainReader<'_, R>,
     ) -> u8
         ensures has { HasStatus (system F.offer F.known F.begun O.contents E.contents
@@ -52,7 +51,7 @@ impl<F: NotedFiles, R: NotedReader, O: Write, E: Write> Program<'_, '_, '_, F, R
             Ok(status) => status,
             Err(failure) => {
                 let status = self.report(&failure);
-                note_reading(self.alloc, &failure, given, files, &mut self.err.writer);
+                note_reading(self.alloc, &failure, lookup, files, &mut self.err.writer);
                 status
             }
         }
@@ -73,7 +72,8 @@ impl<F: NotedFiles, R: NotedReader, O: Write, E: Write> Program<'_, '_, '_, F, R
                     return 1;
                 }
                 let status = self.err.report(failure);
-                note_output(self.alloc, &cause, &mut self.err.writer);
+                let why = reason(self.alloc, &cause);
+                note_why(self.alloc, "standard output", why, &mut self.err.writer);
                 status
             }
             _ => self.err.report(failure),
@@ -169,7 +169,7 @@ impl<F: NotedFiles, R: NotedReader, O: Write, E: Write> Program<'_, '_, '_, F, R
     {
         let files = PlainReader::new(self.alloc, self.reader, decompresses);
         let answer = check_by(self.alloc, &files, file, executables, reading, self.out);
-        self.status(answer, Given::file(file), &files)
+        self.status(answer, Lookup::file(file), &files)
     }
 }
 
@@ -201,21 +201,34 @@ impl<F: NotedFiles, R: NotedReader, O: Write, E: Write> Commands
     }
 
     fn find(&mut self, arguments: FindArguments<'_>) -> u8 {
-        let file = arguments.file;
+        let form = FindForm {
+            string: arguments.string,
+            section: arguments.section,
+            form: form_of(arguments.json),
+        };
+        let asked = FindWords {
+            kind: arguments.kind,
+            id: arguments.id,
+            form,
+        };
         let files = PlainReader::new(self.alloc, self.reader, arguments.decompresses);
-        let asked = find_words(arguments);
-        let answer = find_by(self.alloc, &files, file, asked, self.out);
-        let given = Given {
+        let answer = find_by(self.alloc, &files, arguments.file, asked, self.out);
+        let lookup = Lookup {
+            file: arguments.file,
             kind: arguments.kind,
             id: arguments.id,
             wanted: arguments.string.or(arguments.section).unwrap_or(""),
-            ..Given::file(file)
         };
-        self.status(answer, given, &files)
+        self.status(answer, lookup, &files)
     }
 
     fn list(&mut self, file: &str, arguments: ListArguments) -> u8 {
-        let form = list_form(arguments);
+        let form = ListForm {
+            sizes: arguments.sizes,
+            names: arguments.names,
+            columns: arguments.columns,
+            form: form_of(arguments.json),
+        };
         let files = PlainReader::new(self.alloc, self.reader, arguments.decompresses);
         let answer = list_by(self.alloc, &files, file, form, self.out);
         if answer.is_ok() {
@@ -227,7 +240,7 @@ impl<F: NotedFiles, R: NotedReader, O: Write, E: Write> Commands
                 &mut self.err.writer,
             );
         }
-        self.status(answer, Given::file(file), &files)
+        self.status(answer, Lookup::file(file), &files)
     }
 
     fn check(&mut self, arguments: CheckArguments<'_, '_>) -> u8 {
@@ -235,13 +248,12 @@ impl<F: NotedFiles, R: NotedReader, O: Write, E: Write> Commands
             form: form_of(arguments.json),
             nameless: nameless_units(arguments.skips_nameless),
         };
-        let CheckArguments {
-            file,
-            executables,
-            decompresses,
-            ..
-        } = arguments;
-        self.check_as(file, executables, decompresses, reading)
+        self.check_as(
+            arguments.file,
+            arguments.executables,
+            arguments.decompresses,
+            reading,
+        )
     }
 
     fn show<D: fmt::Display>(&mut self, text: &D) -> u8 {

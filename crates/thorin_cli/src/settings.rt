@@ -4,13 +4,11 @@
 ghost use Rattle.std.specs.Prelude.{◌≡◌};
 ghost use Rattle.thorin_cli.specs.Settings as spec;
 ghost use Rattle.thorin_cli.specs.Settings.{form_of, nameless_units};
-ghost use Rattle.thorin_find.specs.Finding.{words_of};
 
-use crate::manner::ProgramManner;
-use thorin_arguments::{FindArguments, ListArguments, PackArguments};
+use crate::system::ProgramManner;
+use thorin_arguments::PackArguments;
 use thorin_commands::{KeptMacros, NamelessUnits, Packing, Warnings};
 use thorin_errors::MissingReferencedObjectBehaviour;
-use thorin_find::{FindForm, FindWords, ListForm};
 use thorin_print::Form;
 
 /// What is to be packed, in the packer's terms.
@@ -90,55 +88,16 @@ pub(crate) fn form_of(as_json: bool) -> Form
     if as_json { Form::Json } else { Form::Lines }
 }
 
-/// The warnings that a word asks for, where there is one.
+/// The warnings that a word asks for. Where none does, who asks for more than the errors has each,
+/// also on a terminal.
 fn warnings_of(arguments: PackArguments<'_, '_>, manner: ProgramManner) -> Warnings
     ensures { result ≡ spec.warnings_for manner arguments.entry }
 {
-    let usual = usual_warnings(manner, arguments.verbose);
-    match arguments.warnings {
-        Some(word) => Warnings::of(word).unwrap_or(usual),
-        None => usual,
-    }
-}
-
-/// The warnings where no word asks for any. Who asks for more than the errors has each, also on a
-/// terminal.
-fn usual_warnings(manner: ProgramManner, verbose: bool) -> Warnings
-    ensures { result ≡ spec.usual_warnings manner verbose }
-{
-    if manner.of_peer {
-        Warnings::Never
-    } else if manner.on_terminal && !verbose {
-        Warnings::Once
-    } else {
-        Warnings::Each
-    }
-}
-
-/// The words that ask for a unit, and what is wanted of it.
-pub(crate) fn find_words<'a>(arguments: FindArguments<'a>) -> FindWords<'a>
-    ensures { words_of result ≡ spec.words_for arguments.entry }
-{
-    FindWords {
-        kind: arguments.kind,
-        id: arguments.id,
-        form: FindForm {
-            string: arguments.string,
-            section: arguments.section,
-            form: form_of(arguments.json),
-        },
-    }
-}
-
-/// What a list is to have.
-pub(crate) fn list_form(arguments: ListArguments) -> ListForm
-    ensures { result ≡ spec.list_form arguments }
-{
-    ListForm {
-        sizes: arguments.sizes,
-        names: arguments.names,
-        columns: arguments.columns,
-        form: form_of(arguments.json),
+    match arguments.warnings.and_then(Warnings::of) {
+        Some(warnings) => warnings,
+        None if manner.of_peer => Warnings::Never,
+        None if manner.on_terminal && !arguments.verbose => Warnings::Once,
+        None => Warnings::Each,
     }
 }
 

@@ -1,4 +1,4 @@
-//! What the program reads of the system beside the files that it packs.
+//! Where the program runs and as which, and what it reads beside the files that it packs.
 
 use thorin_find::{FileReader, HostReader, Unread};
 
@@ -21,4 +21,26 @@ pub struct Readers<'s, R, P> {
     pub files: &'s R,
     /// Response files.
     pub responses: &'s P,
+}
+
+/// What is known of where the program runs.
+#[derive(Clone, Copy)]
+pub struct Facts<'a> {
+    /// The commit that the program was built from, and empty where that isn't known: `--version`
+    /// prints it.
+    pub commit: &'a str,
+    /// Whether standard error is a terminal.
+    pub on_terminal: bool,
+    /// After how many milliseconds a terminal is told how far packing is.
+    pub patience: u64,
+}
+
+/// How the program does what words ask for.
+#[derive(Clone, Copy)]
+pub struct ProgramManner {
+    /// Whether it does what a peer does without being told.
+    pub of_peer: bool,
+    /// Whether a terminal is told more: how far packing is, while it lasts, and of a file that is
+    /// listed that it has no index.
+    pub on_terminal: bool,
 }
