@@ -1,19 +1,18 @@
 -- Packages that are packed again, and inputs of one encoding, as packing has them.
 use Rattle.thorin.proofs.Terms
-use Terms.{ap, AreMixed, ArePackedAlone, AreTaken, arith, bind-was, CanBePackedAgain, DwarfObject}
-use Terms.{Elf, elf_of, Encoding, encoding_of, Endianness, Err, ErrorValue, File, find, finish_test}
-use Terms.{IfOk, inl, input_file_of, InputFile, inr, is_missing, IsFinishedState, IsOfEncoding}
-use Terms.{IsPlainOf, IsSoundBegun, IsUnfinished, IsWritten, LacksInput, List, names_in, None, Ok}
-use Terms.{opened, Option, refl, RefusesPackages, Result, Some, start, State, sym, taken}
-use Terms.{taken_each, Writes, written_elf, ℕ, [], ⊎_elim, ◌>>=◌, ◌∙◌, ◌∷◌, ◌≡◌, ◌⊎◌}
-use Rattle.thorin_errors.specs.declared.error.Error.{Error}
-use Rattle.thorin_join.specs.Builder.{order_of}
+use Terms.{ap, ArePackedAlone, AreTaken, arith, bind-was, CanBePackedAgain, DwarfObject, Elf}
+use Terms.{elf_of, Encoding, encoding_of, Endianness, Err, Error, ErrorValue, File, find}
+use Terms.{finish_test, IfOk, inl, inr, is_missing, IsFinishedState, IsOfEncoding, IsPlainOf}
+use Terms.{IsSoundBegun, IsWritten, List, None, Ok, Option, refl, Result, Some, start, State, sym}
+use Terms.{taken, taken_each, Writes, written_elf, [], ℕ, ⊎_elim, ◌>>=◌, ◌∙◌, ◌∷◌, ◌≡◌, ◌⊎◌}
+use Rattle.thorin_join.specs.Builder.{names_in, order_of}
+use Rattle.thorin.specs.Groups.{IsUnwritten, RefusesPackages}
+use Rattle.thorin.specs.Unfinished.{AreMixed, AreTooLong, IsGroupsError, IsUnfinished, LacksInput}
+use Rattle.thorin_input.specs.Used.{input_file_of, InputFile, opened}
 use Rattle.thorin_again.specs.Again.{input_encoding}
 use Rattle.thorin_again.specs.OwnAccepted.{IsAcceptedOnceWritten}
 use Rattle.thorin_again.specs.OwnRefusals.{UnlessForeseen}
-use Rattle.thorin.specs.Groups.{IsUnwritten}
-use Rattle.thorin.specs.Unfinished.{AreTooLong, IsGroupsError}
-use Rattle.thorin.proofs.GroupMeaning.{KeepsSound}
+use Rattle.thorin.proofs.GroupJoins.{KeepsSound}
 use Rattle.thorin.proofs.Running.{begun-then, each-taken, read-text}
 
 -- of a file that may have been written

@@ -1,6 +1,6 @@
-use Rattle.thorin.proofs.Terms.{HaveEncodingOf, IsPackageOf, MeansWhereTaken, Ok, start, subst, sym}
-use Rattle.thorin.proofs.Terms.{taken, units_in, ◌≡◌}
-use Rattle.thorin.proofs.GroupMeaning.{sound-taken}
+use Rattle.thorin.proofs.Terms.{IsPackageOf, Ok, start, subst, sym, taken, units_in, ◌≡◌}
+use Rattle.thorin_again.specs.Again.{HaveEncodingOf, MeansWhereTaken}
+use Rattle.thorin.proofs.GroupJoins.{sound-taken}
 use Rattle.thorin.proofs.Running.{as-written, begun-then, read-text}
 use Rattle.thorin.proofs.TakenAgain.{plain-encoding}
 use Rattle.thorin.proofs.again.refused_packages_mean_what_is_read.Goals as goal
