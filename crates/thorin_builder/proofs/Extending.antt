@@ -82,6 +82,13 @@ with_source-is source p parts new hp ha hn =
 pub no_err : {T E : Type 0} (P : Type 0) (r : Result T E) → is_err r ≡ false → OnErr r P
 no_err P r h = grind rules
 
+-- and what holds of no value
+pub no_ok : {T E : Type 0} (P : Type 0) (r : Result T E) → is_err r ≡ true → OnOk r P
+no_ok P r h = grind rules
+
+pub on_value : {T E : Type 0} (P : Type 0) (r : Result T E) → P → OnOk r P
+on_value P r h = grind rules
+
 -- what follows of two facts of a value
 pub on_ok-both : {T E : Type 0} (r : Result T E) (P Q R : Type 0) → OnOk r P → OnOk r Q
     → (P → Q → R) → OnOk r R

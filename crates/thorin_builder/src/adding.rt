@@ -8,7 +8,7 @@ ghost use Rattle.thorin_join.specs.Builder as spec;
 ghost use Rattle.thorin_input.specs.Encodings.{encoding_of, file_encoding, own_encoding};
 ghost use Rattle.thorin_input.specs.Encodings.{are_alike};
 ghost use Rattle.thorin_builder.specs.Repeated.{ExtendsBegun};
-ghost use Rattle.thorin_builder.specs.StateView.{in_progress_of, begun_of};
+ghost use Rattle.thorin_builder.specs.StateView.{begun_of};
 ghost use Rattle.thorin_input.specs.Used.{input_file_of};
 ghost use Rattle.thorin_input.specs.View as view;
 
@@ -19,13 +19,6 @@ use dwp_elf_read::ElfFile;
 use std::alloc::Global;
 use thorin_errors::Error;
 use thorin_input::{Indexes, InputObject, Source, Walked, opened};
-
-/// A package of the class, machine and byte order of its first input.
-fn begun_by(alloc: Global, file: &ElfFile<'_>) -> InProgressDwarfPackage
-    ensures { in_progress_of result ≡ spec.begun_by (elf file.now) }
-{
-    InProgressDwarfPackage::new(alloc, file.class(), file.machine(), file.endianness())
-}
 
 /// An input with its encoding and its indexes, for a package of this byte order.
 #[tactic(auto, unfolding(thorin_join::specs::Builder::source_for, thorin_join::specs::Builder::order_test))]
@@ -68,7 +61,7 @@ fn add_source(
     match in_progress {
         Some(package) => package.add(source),
         None => {
-            let mut package = begun_by(alloc, file);
+            let mut package = InProgressDwarfPackage::begun_by(alloc, file);
             let added = package.add(source);
             if added.is_ok() {
                 in_progress.insert(package);
@@ -130,7 +123,7 @@ pub(crate) fn add_input(
     }
     drop(input);
     if in_progress.is_none() {
-        in_progress.insert(begun_by(alloc, &file));
+        in_progress.insert(InProgressDwarfPackage::begun_by(alloc, &file));
     }
     Ok(None)
 }

@@ -155,29 +155,10 @@ impl<'output, 'session: 'output, Sess: Session<RelocationEntry>> DwarfPackage<
             (R.declines reader.now) (path_bytes path.entry) self.old.state) }
         ensures session { self.new.session ≡ self.old.session }
     {
-        let mut executable = Vec::new(self.alloc);
-        let bytes = reader.read_into(true, path, &mut executable)?;
-        self.add_named(reader, room, bytes, missing, nameless)
-    }
-
-    /// Adds the objects of the units that an executable's bytes refer to.
-    fn add_named<R: InputReader>(
-        &mut self,
-        reader: &R,
-        room: &mut Vec<u8>,
-        bytes: &[u8],
-        missing: MissingReferencedObjectBehaviour,
-        nameless: NamelessUnits,
-    ) -> Result<(), NotTaken<Error, R::Refusal>>
-        ensures taken { (accepted : List (List ℕ)) × TakesNamed (R.offer reader.now) missing
-            (skeletons_by nameless bytes.now) self.old.state
-            (came (outcome_of result) self.new.state accepted) }
-        ensures declined { OnDeclined result (DeclinesNamed (R.offer reader.now)
-            (R.declines reader.now) missing (skeletons_by nameless bytes.now) self.old.state) }
-        ensures session { self.new.session ≡ self.old.session }
-    {
         let session = self.session;
         let alloc = self.alloc;
+        let mut executable = Vec::new(alloc);
+        let bytes = reader.read_into(true, path, &mut executable)?;
         let mut units = NamedUnits::read_by(alloc, session, bytes, nameless)?;
         let added = self.add_each(reader, room, &mut units, missing);
         drop(units);

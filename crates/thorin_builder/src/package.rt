@@ -26,6 +26,7 @@ use crate::in_progress::InProgressDwarfPackage;
 use crate::missing::MissingTargets;
 use crate::reader::{InputReader, NotTaken, tried, undeclined};
 use crate::repeated::UnitlessInput;
+use crate::state::finished;
 use dwp_bytes::RelocationEntry;
 use dwp_dwarf::Encoding;
 use dwp_elf::WritableObject;
@@ -389,14 +390,25 @@ fn finished_begun(
         ≡ spec.differing_begun (begun_of in_progress) }
 {
     match in_progress {
-        Some(package) => match tested {
-            Ok(()) => package.into_finished(),
-            Err(e) => (Err(e), package.differing),
-        },
-        None => match tested {
-            Ok(()) => (Err(Error::NoOutputObjectCreated), Vec::new(alloc)),
-            Err(e) => (Err(e), Vec::new(alloc)),
-        },
+        Some(package) => {
+            let InProgressDwarfPackage {
+                alloc,
+                object,
+                strings,
+                names: _,
+                rows,
+                differing,
+            } = package;
+            let file = match tested {
+                Ok(()) => finished(alloc, object, strings, &rows),
+                Err(error) => Err(error),
+            };
+            (file, differing)
+        }
+        None => {
+            let error = tested.err().unwrap_or(Error::NoOutputObjectCreated);
+            (Err(error), Vec::new(alloc))
+        }
     }
 }
 

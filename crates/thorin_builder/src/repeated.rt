@@ -95,22 +95,14 @@ impl InProgressDwarfPackage {
         }
         let object = input?;
         let source = source_for(self.object.endianness(), object)?;
-        self.source_adds_again(&source)
-    }
-
-    /// What an input adds whose sections, encoding and indexes are known, as `adds_again`.
-    fn source_adds_again(&mut self, source: &Source<'_>) -> Result<Option<UnitlessInput>, Error>
-        ensures same { in_progress_of self.new ≡ in_progress_of self.old }
-        ensures found { IfOk result (λ found. IfSome found (λ again.
-            AddsNoUnit (view.source source.now) again (in_progress_of self.old))) }
-    {
         let mark = self.mark()?;
-        let found = self.try_again(source);
+        let found = self.try_again(&source);
         self.restore(&mark);
         found
     }
 
-    /// What `source_adds_again` gives, but it may leave strings behind those before.
+    /// What an input adds whose sections, encoding and indexes are known, where that is no unit and
+    /// no string. It may leave strings behind those before.
     fn try_again(&mut self, source: &Source<'_>) -> Result<Option<UnitlessInput>, Error>
         ensures found { IfOk result (λ found. IfSome found (λ again.
             AddsNoUnit (view.source source.now) again (in_progress_of self.old))) }
@@ -144,23 +136,11 @@ impl InProgressDwarfPackage {
         ensures err { OnErr result (in_progress_of self.new ≡ in_progress_of self.old) }
     {
         let mark = self.mark()?;
-        let added = self.try_add_repeated(again);
-        if added.is_err() {
+        self.differing.extend_from_slice(&again.differing)?;
+        let put = put_each(&mut self.object, &again.parts);
+        if put.is_err() {
             self.restore(&mark);
         }
-        added
-    }
-
-    /// Adds what such an input adds, but an `Err` may leave more than there was.
-    fn try_add_repeated(&mut self, again: &UnitlessInput) -> Result<(), Error>
-        ensures added { OnOk result (in_progress_of self.new
-            ≡ with_more (map view.part again.now.parts.items)
-            (map (λ s. s.0) again.now.differing.items) (in_progress_of self.old)) }
-        ensures refused { IfErr result (λ e. e ≡ Error.Memory) }
-        ensures extends { spec.Extends (in_progress_of self.old) (in_progress_of self.new) }
-    {
-        put_each(&mut self.object, &again.parts)?;
-        self.differing.extend_from_slice(&again.differing)?;
-        Ok(())
+        put
     }
 }

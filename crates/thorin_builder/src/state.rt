@@ -1,14 +1,15 @@
 //! A package while it is made: adding a source's units, taking them back, and finishing with
 //! strings and indexes.
 
-ghost use Rattle.std.specs.Prelude.{◌≡◌, ◌≢◌, ℕ, ◌<◌, ◌^◌, List, map, take, Some};
-ghost use Rattle.std.specs.Prelude.{IfOk, IfErr, OnOk, OnErr, true, false};
+ghost use Rattle.std.specs.Prelude.{◌≡◌, ℕ, ◌<◌, ◌^◌, List, map, take, Some};
+ghost use Rattle.std.specs.Prelude.{IfOk, IfErr, OnOk, OnErr, true};
 ghost use Rattle.dwp_table.specs.Objects.{identifier_of};
 ghost use Rattle.thorin_errors.specs.Answers.{Gives};
 ghost use Rattle.thorin_index.specs.EntryTests.{index_tests};
 ghost use Rattle.thorin_index.specs.IndexText.{IsIndexOf};
 ghost use Rattle.dwp_strings.specs.Marks.{mark_of};
-ghost use Rattle.thorin_join.specs.Builder.{IsFinished, indexes_test, IdentifiersFit};
+ghost use Rattle.dwp_elf_read.specs.View.{elf};
+ghost use Rattle.thorin_join.specs.Builder.{begun_by, IsFinished, indexes_test, IdentifiersFit};
 ghost use Rattle.thorin_input.specs.Encodings.{are_alike};
 ghost use Rattle.thorin_input.specs.Names.{is_compilation};
 ghost use Rattle.thorin_input.specs.NewUnits.{new_units};
@@ -20,9 +21,10 @@ ghost use Rattle.thorin_input.specs.UnitView.{new_of};
 ghost use Rattle.thorin_input.specs.View as view;
 
 use crate::in_progress::InProgressDwarfPackage;
-use dwp_base::{Class, Endianness, SectionKind};
+use dwp_base::{Endianness, SectionKind};
 use dwp_dwarf::UnitSection;
 use dwp_elf::WritableObject;
+use dwp_elf_read::ElfFile;
 use dwp_index::kind_of;
 use dwp_table::{DebugTypeSignature, DwarfObject};
 use indexmap::IndexSet;
@@ -43,15 +45,11 @@ pub(crate) struct Mark {
 }
 
 impl InProgressDwarfPackage {
-    /// A package with nothing in it, for files of this class, machine and byte order.
-    pub(crate) fn new(
-        alloc: Global,
-        class: Class,
-        machine: u16,
-        order: Endianness,
-    ) -> InProgressDwarfPackage
-        ensures { in_progress_of result ≡ spec.empty class machine order }
+    /// A package with nothing in it, of the class, machine and byte order of its first input.
+    pub(crate) fn begun_by(alloc: Global, file: &ElfFile<'_>) -> InProgressDwarfPackage
+        ensures { in_progress_of result ≡ begun_by (elf file.now) }
     {
+        let (class, machine, order) = (file.class(), file.machine(), file.endianness());
         InProgressDwarfPackage {
             alloc,
             object: WritableObject::new(alloc, class, machine, order),
@@ -233,26 +231,6 @@ impl InProgressDwarfPackage {
         self.differing.truncate(mark.differing);
         self.names.truncate(mark.rows);
     }
-
-    /// The sections with the strings and both indexes, each where it isn't empty, and the
-    /// signatures of type units that differ. The sections are refused where `write_rows` refuses
-    /// rows.
-    pub(crate) fn into_finished(self) -> (Result<WritableObject, Error>, Vec<DebugTypeSignature>)
-        ensures refusal { Gives (λ _. tt) result.0 (indexes_test (in_progress_of self)) }
-        ensures finished { IfOk result.0 (IsFinished (in_progress_of self)) }
-        ensures identifiers { OnOk result.0 (IdentifiersFit self.rows) }
-        ensures differing { result.1.items ≡ self.differing.items }
-    {
-        let InProgressDwarfPackage {
-            alloc,
-            object,
-            strings,
-            names: _,
-            rows,
-            differing,
-        } = self;
-        (finished(alloc, object, strings, &rows), differing)
-    }
 }
 
 /// One of a package's two indexes (DWARF 5, 7.3.5.3).
@@ -284,7 +262,7 @@ fn index_of(
 /// The sections with the strings and both indexes, each where it isn't empty. Refused where
 /// `write_rows` refuses rows.
 #[tactic(auto, unfolding(thorin_join::specs::Builder::indexes_test))]
-fn finished(
+pub(crate) fn finished(
     alloc: Global,
     object: WritableObject,
     strings: PackageStringTable,
@@ -324,7 +302,6 @@ fn index_with(name: DwarfObject) -> Index
 /// Whether all rows stand in the given index.
 fn are_all(rows: &IndexRows, index: Index) -> bool
     ensures all { result ≡ true → rows_in index rows.now ≡ rows.now }
-    ensures some { result ≡ false → rows_in index rows.now ≢ rows.now }
     ensures identifiers { result ≡ true → IdentifiersFit rows.now }
 {
     for position in 0..rows.len() {

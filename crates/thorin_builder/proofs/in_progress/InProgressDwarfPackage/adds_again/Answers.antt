@@ -87,7 +87,7 @@ returns-clause-found c =
       c.in_ok-source.ensures.object,
       c.in_ok-source.ensures.meaning,
     ) in
-    IfOk-weaker c.source_adds_again.result _ _
+    IfOk-weaker c.try_again-found.result _ _
     (λ found known. IfSome_then found known (λ again adds. record {
       own = one_encoding source.object source.encoding;
       own_is = rw (given, units, object, encoding) refl;
@@ -103,4 +103,8 @@ returns-clause-found c =
         held = held-apart source made.strings _ adds.parts later
             ∙ sym (append-nil (held_units later));
       };
-    })) c.source_adds_again.ensures.found
+    })) c.try_again-found.ensures.found
+
+pub returns-clause-same : goal.returns-clause-same
+returns-clause-same c = c.restore.ensures (in_progress_of c.args.self.now)
+    c.try_again-found.ensures.extends c.in_ok-mark.ensures.mark

@@ -1,6 +1,7 @@
 use Rattle.thorin_builder.proofs.Terms.{Err, err_from_is_err_and, inl, input_error_in, inr, Ok}
 use Rattle.thorin_builder.proofs.Terms.{path_bytes, refl, true, unread, []}
-use Rattle.thorin_builder.proofs.Running.{declined-as, may-read, unread-declined, unread-error}
+use Rattle.thorin_builder.proofs.Running.{declined-as, list-error, may-read, none-taken}
+use Rattle.thorin_builder.proofs.Running.{unread-declined, unread-error}
 use Rattle.thorin_builder.proofs.package.DwarfPackage.add_executable_as.Goals as goal
 
 pub returns-in_err-bytes-clause-taken : goal.returns-in_err-bytes-clause-taken
@@ -26,15 +27,30 @@ returns-in_err-bytes-clause-declined g c =
     (unread-declined (g.R.InputReader.offer c.args.reader.now path) (declines path) why
     c.in_err-bytes.ensures.read))
 
+pub returns-in_err-units-clause-taken : goal.returns-in_err-units-clause-taken
+returns-in_err-units-clause-taken g c =
+    let p = err_from_is_err_and c.from_residual-in_err-units.result
+    c.from_residual-in_err-units.ensures.1 in
+    let named = list-error _ _ _ _ _ _ (none-taken _ _ _ _) _ c.in_err-units.ensures.opened in
+    rw (p.1, p.2) (record {
+      read = Ok c.in_ok-bytes.bytes.now;
+      within = c.in_ok-bytes.ensures.read;
+      accepted = named.0;
+      taken = named.1;
+    })
+
 pub returns-clause-taken : goal.returns-clause-taken
 returns-clause-taken g c = record {
   read = Ok c.in_ok-bytes.bytes.now;
   within = c.in_ok-bytes.ensures.read;
-  accepted = c.add_named.ensures.taken.0;
-  taken = c.add_named.ensures.taken.1;
+  accepted = c.add_each-added.ensures.taken.0;
+  taken = rw c.in_ok-units.ensures.opened c.add_each-added.ensures.taken.1;
 }
 
 pub returns-clause-declined : goal.returns-clause-declined
-returns-clause-declined g c = declined-as c.add_named.result
-    (λ why h. inr (c.in_ok-bytes.bytes.now, c.in_ok-bytes.ensures.read, h))
-    c.add_named.ensures.declined
+returns-clause-declined g c = declined-as c.add_each-added.result
+    (λ why h. inr (
+      c.in_ok-bytes.bytes.now,
+      c.in_ok-bytes.ensures.read,
+      rw c.in_ok-units.ensures.opened h,
+    )) c.add_each-added.ensures.declined

@@ -1,0 +1,24 @@
+use Rattle.thorin_builder.proofs.Terms
+use Terms.{begun_of, DebugTypeSignature, Err, Error, File, IdentifiersFit, IfOk, in_progress_of}
+use Terms.{InProgress, IsFinishedState, map, Ok, refl, Result, Some, State, ◌≡◌}
+use Rattle.std.specs.Prelude.{OnOk}
+use Rattle.thorin_join.specs.Builder.{IsFinished}
+use Rattle.thorin_builder.proofs.package.finished_begun.Goals as goal
+
+-- what was finished of the package of a state
+of-state : (r : Result File Error) (state : State) (made : InProgress) → state.begun ≡ Some made
+    → IfOk r (IsFinished made) → OnOk r (IdentifiersFit made.rows) → IfOk r (IsFinishedState state)
+of-state (Ok file) state made begun is fit =
+    record { made = made; begun = begun; finished = is; identifiers = fit }
+of-state (Err error) state made begun is fit = tt
+
+pub returns-after-tested-clause-finished : goal.returns-after-tested-clause-finished
+returns-after-tested-clause-finished c own = elim c.match-tested.branch [
+  | goal.in-Ok w ↦
+      let held = c.in-Some.«package» in
+      rw w.file-is (of-state w.finished-file.result _ (in_progress_of held)
+      (rw c.in-Some.is refl) (w.finished-file.ensures.finished
+      (map (λ (s : DebugTypeSignature). s.0) held.differing.items))
+      w.finished-file.ensures.identifiers)
+  | goal.in-Err w ↦ rw w.file-is tt
+]
