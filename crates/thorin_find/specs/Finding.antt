@@ -1,5 +1,5 @@
 -- What `find` prints.
-use Rattle.std.specs.Prelude.{◌≡◌, ◌≢◌, ◌⊎◌, ◌<◌, ◌^◌, ◌==◌, ℕ, List, [], ◌++◌, codes, length}
+use Rattle.std.specs.Prelude.{◌≡◌, ◌≢◌, ◌⊎◌, ◌<◌, ◌*◌, ◌^◌, ◌==◌, ℕ, List, [], ◌++◌, codes, length}
 use Rattle.std.specs.Prelude.{Option, Some, None, Result, Ok, Err, if◌then◌else◌}
 use Rattle.std.specs.Fmt.{decimal}
 use Rattle.std.specs.List.{flat_map}
@@ -10,10 +10,9 @@ use Rattle.dwp_base.specs.declared.section.SectionKind.{SectionKind}
 use Rattle.dwp_base.specs.Sections.{short_name}
 use Rattle.dwp_base.specs.declared.section.SectionKind.TheVariants.{StrOffsets, Str}
 use Rattle.dwp_base.specs.declared.section.Contribution.{Contribution}
+use Rattle.dwp_bytes.specs.Encoding.{offset_size}
 use Rattle.dwp_bytes.specs.StringOffsets.{entry_count, string_in}
 use Rattle.dwp_bytes.specs.declared.encoding.Encoding.{Encoding}
-use Rattle.dwp_bytes.specs.declared.encoding.Format.{Format}
-use Rattle.dwp_bytes.specs.declared.encoding.Format.TheVariants.{Dwarf32, Dwarf64}
 use Rattle.dwp_bytes.specs.declared.error.ReadError.{ReadError}
 use Rattle.dwp_index.specs.Index.{range_in}
 use Rattle.dwp_index.specs.Package.{Package, FoundUnit, package_of, found_counted, row_bytes}
@@ -26,7 +25,7 @@ use Rattle.thorin_words.specs.Identifiers.{IsIdentifier}
 use Rattle.thorin_print.specs.Answers.{Answer, refused}
 use Rattle.thorin_find.specs.Files.{Offer, Reads}
 use Rattle.thorin_print.specs.Lines.{hex, hex16, line_end}
-use Rattle.thorin_find.specs.Lines.{short_kind}
+use Rattle.thorin_find.specs.Lines.{short_kind, json_unit}
 use Rattle.thorin_print.specs.declared.form.Form.{Form}
 use Rattle.thorin_print.specs.declared.form.Form.TheVariants.{Lines, Json}
 use Rattle.thorin_print.specs.Spelled.{spelled, spelled_or}
@@ -91,17 +90,12 @@ AsksFor None None wanted = wanted ≡ Ok AllOf
 
 -- ---- what is printed of it
 
--- how many bits an offset has
-abbrev pub width : Format → ℕ
-width Dwarf32 = 32
-width Dwarf64 = 64
-
 -- the line of a unit's encoding
 unfoldable pub encoding_line : DwarfObject → Encoding → List ℕ
 encoding_line object encoding =
     short_kind object ++ (codes " 0x" ++ (hex16 (identifier_of object)
     ++ (codes " version " ++ (decimal encoding.version
-    ++ (codes " format " ++ (decimal (width encoding.format)
+    ++ (codes " format " ++ (decimal (8 * offset_size encoding.format)
     ++ (codes " address " ++ (decimal encoding.address_size ++ line_end))))))))
 
 -- a range, where it begins in its section, and its size: on a line, or in JSON (RFC 8259) by the
@@ -139,11 +133,9 @@ counts_text Json strings slots = codes ",\"strings\":" ++ (decimal strings
 -- the beginning of a JSON object, up to the unit's encoding
 unfoldable pub json_encoding : DwarfObject → Encoding → List ℕ
 json_encoding object encoding =
-    codes "{\"kind\":\"" ++ (short_kind object
-    ++ (codes "\",\"id\":\"0x" ++ (hex16 (identifier_of object)
-    ++ (codes "\",\"version\":" ++ (decimal encoding.version
-    ++ (codes ",\"format\":" ++ (decimal (width encoding.format)
-    ++ (codes ",\"address\":" ++ decimal encoding.address_size))))))))
+    json_unit object ++ (codes "\",\"version\":" ++ (decimal encoding.version
+    ++ (codes ",\"format\":" ++ (decimal (8 * offset_size encoding.format)
+    ++ (codes ",\"address\":" ++ decimal encoding.address_size)))))
 
 abbrev pub encoding_text : Form → DwarfObject → Encoding → List ℕ
 encoding_text Lines = encoding_line

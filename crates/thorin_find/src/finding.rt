@@ -7,14 +7,12 @@ ghost use Rattle.thorin_print.specs.Answers.{Comes};
 ghost use Rattle.thorin_print.specs.Lines.{hex16};
 ghost use Rattle.thorin_print.specs.declared.output.Failure.TheVariants as failures;
 ghost use Rattle.thorin_find.specs.Finding.{Asks, AsksFor, Writes, WritesNone, Finds, find_answer};
-ghost use Rattle.thorin_find.specs.Finding.{words_of, string_count, string_line, width};
-ghost use Rattle.thorin_find.specs.Finding.{encoding_text, range_text, range_texts, all_text};
-ghost use Rattle.thorin_find.specs.Finding.{counts_text};
+ghost use Rattle.thorin_find.specs.Finding.{words_of, string_count, string_line};
+ghost use Rattle.thorin_find.specs.Finding.{range_text, range_texts, all_text};
 ghost use Rattle.thorin_find.specs.Lines.{json_unit, short_kind};
 
 use crate::files::{FileReader, read_named};
 use dwp_base::{Contribution, SectionKind};
-use dwp_bytes::{Encoding, Format};
 use dwp_index::{PackageFile, PackagedUnit};
 use dwp_table::{Bucketable, CONTRIBUTION_KINDS, DebugTypeSignature, DwarfObject, DwoId};
 use std::alloc::{AllocError, Global};
@@ -166,15 +164,15 @@ fn wanted_of(string: Option<&str>, section: Option<&str>) -> Result<Wanted, Fail
             if text.is_empty() || text.as_bytes()[0] == b'+' {
                 return Err(Failure::BadNumber);
             }
-            match u64::from_str_radix(text, 10) {
-                Ok(n) => Ok(Wanted::StringOf(n)),
-                Err(_) => Err(Failure::BadNumber),
-            }
+            let number = u64::from_str_radix(text, 10)
+                .ok()
+                .ok_or(Failure::BadNumber)?;
+            Ok(Wanted::StringOf(number))
         }
-        (None, Some(text)) => match SectionKind::of_short_name(text) {
-            Some(kind) => Ok(Wanted::Bytes(kind)),
-            None => Err(Failure::BadSection),
-        },
+        (None, Some(text)) => {
+            let kind = SectionKind::of_short_name(text).ok_or(Failure::BadSection)?;
+            Ok(Wanted::Bytes(kind))
+        }
         (None, None) => Ok(Wanted::AllOf),
     }
 }
@@ -185,18 +183,12 @@ fn identifier(text: &str) -> Result<u64, Failure>
     ensures { MatchResult result (Writes text.now)
         (λ failure. (failure ≡ failures.BadIdentifier) × WritesNone text.now) }
 {
-    let digits = match text.strip_prefix("0x") {
-        Some(digits) => digits,
-        None => text,
-    };
-    match hexadecimal(digits) {
-        Some(n) => Ok(n),
-        None => Err(Failure::BadIdentifier),
-    }
+    let digits = text.strip_prefix("0x").unwrap_or(text);
+    hexadecimal(digits).ok_or(Failure::BadIdentifier)
 }
 
 /// Adds all that is told of a unit: in lines, or as a JSON object.
-#[tactic(auto, unfolding(crate::specs::Finding::all_text))]
+#[tactic(auto, unfolding(crate::specs::Finding::all_text, crate::specs::Finding::encoding_line, crate::specs::Finding::json_encoding))]
 fn put_all(
     object: DwarfObject,
     unit: &PackagedUnit<'_>,
@@ -207,47 +199,27 @@ fn put_all(
     ensures { OnOk result (string_bytes text.new
         ≡ string_bytes text.old ++ all_text form object unit.now slots) }
 {
-    put_encoding(form, object, unit.encoding(), text)?;
-    put_ranges(unit, form, text)?;
-    put_counts(string_count(unit), slots, form, text)
-}
-
-/// Adds a unit's encoding: a line, or the beginning of an object.
-#[tactic(auto, unfolding(crate::specs::Finding::encoding_line, crate::specs::Finding::json_encoding, crate::specs::Lines::json_unit))]
-fn put_encoding(
-    form: Form,
-    object: DwarfObject,
-    encoding: Encoding,
-    text: &mut String,
-) -> Result<(), AllocError>
-    ensures { OnOk result (string_bytes text.new
-        ≡ string_bytes text.old ++ encoding_text form object encoding) }
-{
+    let encoding = unit.encoding();
     let version = encoding.version;
-    let width = width(encoding.format);
+    let width = 8 * encoding.format.offset_size();
     let address = encoding.address_size;
+    let strings = string_count(unit);
     match form {
         Form::Lines => {
             put_object(object, text)?;
-            writeln!(text, " version {version} format {width} address {address}")
+            writeln!(text, " version {version} format {width} address {address}")?;
+            put_ranges(unit, form, text)?;
+            writeln!(text, "strings {strings}\nslots {slots}")
         }
         Form::Json => {
             put_json_unit(object, text)?;
             write!(
                 text,
                 "\",\"version\":{version},\"format\":{width},\"address\":{address}"
-            )
+            )?;
+            put_ranges(unit, form, text)?;
+            writeln!(text, ",\"strings\":{strings},\"slots\":{slots}}}")
         }
-    }
-}
-
-/// How many bits an offset has.
-fn width(format: Format) -> u8
-    ensures { result ≡ width format }
-{
-    match format {
-        Format::Dwarf32 => 32,
-        Format::Dwarf64 => 64,
     }
 }
 
@@ -293,17 +265,6 @@ fn put_range(
     match form {
         Form::Lines => writeln!(text, "{name} 0x{offset:x} 0x{size:x}"),
         Form::Json => write!(text, ",\"{name}\":{{\"offset\":{offset},\"size\":{size}}}"),
-    }
-}
-
-/// Adds the numbers of a unit's strings and of slots: in lines, or as the end of the object.
-fn put_counts(strings: u64, slots: u32, form: Form, text: &mut String) -> Result<(), AllocError>
-    ensures { OnOk result (string_bytes text.new
-        ≡ string_bytes text.old ++ counts_text form strings slots) }
-{
-    match form {
-        Form::Lines => writeln!(text, "strings {strings}\nslots {slots}"),
-        Form::Json => writeln!(text, ",\"strings\":{strings},\"slots\":{slots}}}"),
     }
 }
 
