@@ -20,8 +20,8 @@ use Rattle.dwp_index.specs.declared.error.PackageError.{PackageError}
 use Rattle.dwp_index.specs.declared.error.PackageError.TheVariants as errors
 use Rattle.thorin_c.specs.declared.opened.Lent.{Lent}
 use Rattle.thorin_c.specs.declared.opened.Lent.TheVariants.{Section, String}
-use Rattle.thorin_c.specs.declared.finding.Wanted.{Wanted}
-use Rattle.thorin_c.specs.declared.finding.Wanted.TheVariants as wanted
+use Rattle.thorin_c.specs.declared.opened.Wanted.{Wanted}
+use Rattle.thorin_c.specs.declared.opened.Wanted.TheVariants as wanted
 use Rattle.thorin_c.specs.declared.types.ThorinLookup.{ThorinLookup}
 use Rattle.thorin_c.specs.declared.types.ThorinRange.{ThorinRange}
 use Rattle.thorin_c.specs.declared.types.ThorinUnit.{ThorinUnit}

@@ -1,33 +1,25 @@
 //! Looking up the units of a package that is read anew, and what is told of one.
 
-ghost use Rattle.std.specs.Prelude.{◌≡◌, Ok, map, take};
-ghost use Rattle.dwp_base.specs.Reading.{Answers};
+ghost use Rattle.std.specs.Prelude.{◌≡◌, map, take};
 ghost use Rattle.dwp_index.specs.Package.{package_of};
 ghost use Rattle.thorin_c.specs.Finding.{as_status, unit_found, row_found, lent_in, Fills};
 ghost use Rattle.thorin_c.specs.Finding.{FillsEach, object_of, range_of, ranges_of, unit_of};
 ghost use Rattle.thorin_c.specs.Finding.{found_as, looked};
+ghost use Rattle.thorin_c.specs.OpenedFields.{row_held};
 ghost use Rattle.thorin_c.specs.declared.opened.Lent.TheVariants.{Section, String};
 
-use crate::inside::{thorin_content_in, thorin_string_in};
-use crate::opening::placed;
-use crate::status::{ABSENT, DONE, NO_SUCH_KIND, status_of};
+use crate::inside::{thorin_content_in, thorin_find_in, thorin_string_in};
+use crate::opened::{ListedRow, OpenPackage, Wanted};
+use crate::opening::{NOWHERE, placed};
+use crate::status::{DONE, NO_SUCH_KIND, status_of};
 use crate::types::{ThorinBytes, ThorinLookup, ThorinRange, ThorinUnit};
 use dwp_base::Contribution;
 use dwp_bytes::Encoding;
-use dwp_index::{PackageFile, Row};
+use dwp_index::Row;
 use dwp_table::{CONTRIBUTION_KINDS, DebugTypeSignature, DwarfObject, DwoId};
 
 /// How many look-ups are read ahead of: so many waits for memory go on at once.
 const AHEAD: usize = 32;
-
-/// What is looked up of a name.
-#[derive(Clone, Copy)]
-enum Wanted {
-    /// The whole unit.
-    Unit,
-    /// Its row alone: nothing of the unit is read.
-    Row,
-}
 
 /// Looks a unit up: `kind` is 1 for a compilation unit and 2 for a type unit. Answers 0 and fills
 /// `found`; or leaves it as it is: 1 where the package has no such unit, 2 for another kind, 3
@@ -38,9 +30,9 @@ pub extern "C" fn thorin_find(bytes: &[u8], kind: u8, id: u64, found: &mut Thori
     ensures { Fills (λ unit. unit) (unit_found (as_status (package_of bytes.now)) kind id) found.old
         found.new result }
 {
-    match open(bytes) {
-        Ok(file) => fill(&file, kind, id, found),
-        Err(status) => status,
+    match placed(bytes) {
+        Ok(places) => thorin_find_in(&places, bytes, kind, id, found),
+        Err(error) => status_of(error),
     }
 }
 
@@ -106,29 +98,23 @@ pub extern "C" fn thorin_string<'a>(
     }
 }
 
-/// Reads a package.
-fn open(bytes: &[u8]) -> Result<PackageFile<'_>, i32>
-    ensures { Answers (λ x. x) result (as_status (package_of bytes.now)) }
-{
-    match PackageFile::parse(bytes) {
-        Ok(file) => Ok(file),
-        Err(error) => Err(status_of(error)),
-    }
-}
-
 /// Looks up what is wanted of each of many names.
 #[inline(always)]
 fn find_each(bytes: &[u8], wanted: Wanted, lookups: &mut [ThorinLookup]) -> i32
     ensures { FillsEach (found_as wanted) (as_status (package_of bytes.now)) lookups.old lookups.new
         result }
 {
-    let file = match open(bytes) {
-        Ok(file) => file,
+    let places = match placed(bytes) {
+        Ok(places) => places,
+        Err(error) => return status_of(error),
+    };
+    let pack = match OpenPackage::at(&places, bytes) {
+        Ok(pack) => pack,
         Err(status) => return status,
     };
     for i in 0..lookups.len() {
-        read_ahead(&file, wanted, lookups, i);
-        complete(&file, wanted, &mut lookups[i]);
+        read_ahead(&pack, wanted, lookups, i);
+        complete(&pack, wanted, &mut lookups[i]);
     }
     DONE
 }
@@ -136,10 +122,15 @@ fn find_each(bytes: &[u8], wanted: Wanted, lookups: &mut [ThorinLookup]) -> i32
 /// Where so many were looked up, reads the first byte of the units that are looked up next, and
 /// leaves it in their statuses, which are told once they are looked up.
 #[inline(always)]
-fn read_ahead(file: &PackageFile<'_>, wanted: Wanted, lookups: &mut [ThorinLookup], start: usize)
+fn read_ahead(
+    pack: &OpenPackage<'_, '_>,
+    wanted: Wanted,
+    lookups: &mut [ThorinLookup],
+    start: usize,
+)
     ensures front { take start lookups.new ≡ take start lookups.old }
-    ensures same { map (looked (found_as wanted) file.now) lookups.new
-        ≡ map (looked (found_as wanted) file.now) lookups.old }
+    ensures same { map (looked (found_as wanted) pack.now) lookups.new
+        ≡ map (looked (found_as wanted) pack.now) lookups.old }
 {
     if start % AHEAD != 0 || matches!(wanted, Wanted::Row) {
         return;
@@ -147,7 +138,7 @@ fn read_ahead(file: &PackageFile<'_>, wanted: Wanted, lookups: &mut [ThorinLooku
     let end = lookups.len().min(start.saturating_add(AHEAD));
     for i in start..end {
         lookups[i].status = match object_of(lookups[i].kind, lookups[i].id) {
-            Ok(object) => i32::from(file.first_byte(object).unwrap_or(0)),
+            Ok(object) => i32::from(pack.first_byte(object).unwrap_or(0)),
             Err(status) => status,
         };
     }
@@ -155,56 +146,15 @@ fn read_ahead(file: &PackageFile<'_>, wanted: Wanted, lookups: &mut [ThorinLooku
 
 /// Fills in what came of a look-up.
 #[inline(always)]
-fn complete(file: &PackageFile<'_>, wanted: Wanted, lookup: &mut ThorinLookup)
-    ensures { lookup.new ≡ looked (found_as wanted) file.now lookup.old }
+fn complete(pack: &OpenPackage<'_, '_>, wanted: Wanted, lookup: &mut ThorinLookup)
+    ensures { lookup.new ≡ looked (found_as wanted) pack.now lookup.old }
 {
-    lookup.status = match wanted {
-        Wanted::Unit => fill(file, lookup.kind, lookup.id, &mut lookup.unit),
-        Wanted::Row => fill_row(file, lookup.kind, lookup.id, &mut lookup.unit),
-    };
-}
-
-/// Fills in the unit of a name.
-#[tactic(auto, unfolding(crate::specs::Finding::of_name))]
-fn fill(file: &PackageFile<'_>, kind: u8, id: u64, found: &mut ThorinUnit) -> i32
-    ensures { Fills (λ unit. unit) (unit_found (Ok file.now) kind id) found.old found.new result }
-{
-    let object = match object_of(kind, id) {
-        Ok(object) => object,
-        Err(status) => return status,
-    };
-    match &file.find_counted(object) {
-        Ok((Some(unit), slots)) => {
-            write(
-                unit.ranges(),
-                unit.row(),
-                *slots,
-                Some(unit.encoding()),
-                found,
-            );
-            DONE
+    match pack.find(wanted, lookup.kind, lookup.id) {
+        Ok(unit) => {
+            lookup.unit = unit;
+            lookup.status = DONE;
         }
-        Ok((None, _)) => ABSENT,
-        Err(error) => status_of(*error),
-    }
-}
-
-/// Fills in the row of a name.
-#[tactic(auto, unfolding(crate::specs::Finding::of_name))]
-fn fill_row(file: &PackageFile<'_>, kind: u8, id: u64, found: &mut ThorinUnit) -> i32
-    ensures { Fills (λ unit. unit) (row_found (Ok file.now) kind id) found.old found.new result }
-{
-    let object = match object_of(kind, id) {
-        Ok(object) => object,
-        Err(status) => return status,
-    };
-    match &file.find_row(object) {
-        Ok((Some((number, row)), slots)) => {
-            write(row, *number, *slots, None, found);
-            DONE
-        }
-        Ok((None, _)) => ABSENT,
-        Err(error) => status_of(*error),
+        Err(status) => lookup.status = status,
     }
 }
 
@@ -221,42 +171,40 @@ pub(crate) fn object_of(kind: u8, id: u64) -> Result<DwarfObject, i32>
     }
 }
 
-/// Writes a row with its ranges, and the encoding in its unit's header, where that was read.
+/// A row with its ranges, and the encoding in its unit's header, where that was read.
 #[inline(always)]
-pub(crate) fn write(
-    row: &Row<'_>,
-    number: u32,
-    slots: u32,
-    encoding: Option<Encoding>,
-    found: &mut ThorinUnit,
-)
-    ensures { found.new ≡ unit_of ((number, row.now), slots) encoding }
+pub(crate) fn unit_of(row: &ListedRow<'_>, encoding: Option<Encoding>) -> ThorinUnit
+    ensures { result ≡ unit_of (row_held row.now) encoding }
 {
-    write_ranges(row, &mut found.ranges);
-    found.row = number;
-    found.slots = slots;
+    let unit = ThorinUnit {
+        ranges: ranges_of(&row.ranges),
+        row: row.number,
+        slots: row.slots,
+        version: 0,
+        offset_size: 0,
+        address_size: 0,
+    };
     match encoding {
-        None => {
-            found.version = 0;
-            found.offset_size = 0;
-            found.address_size = 0;
-        }
-        Some(encoding) => {
-            found.version = encoding.version;
-            found.offset_size = encoding.format.offset_size() as u8;
-            found.address_size = encoding.address_size;
-        }
+        None => unit,
+        Some(encoding) => ThorinUnit {
+            version: encoding.version,
+            offset_size: encoding.format.offset_size() as u8,
+            address_size: encoding.address_size,
+            ..unit
+        },
     }
 }
 
-/// Writes the ranges of a row.
+/// The ranges of a row, in the order of columns.
 #[inline(always)]
-fn write_ranges(row: &Row<'_>, ranges: &mut [ThorinRange; 10])
-    ensures { ranges.new ≡ ranges_of row.now }
+fn ranges_of(row: &Row<'_>) -> [ThorinRange; 10]
+    ensures { result ≡ ranges_of row.now }
 {
+    let mut ranges = [NOWHERE; 10];
     for i in 0..10 {
         ranges[i] = range_of(row.range(CONTRIBUTION_KINDS[i]));
     }
+    ranges
 }
 
 /// A range; of no bytes where it is absent.
@@ -265,7 +213,7 @@ fn range_of(range: Option<Contribution>) -> ThorinRange
     ensures { result ≡ range_of range }
 {
     match range {
-        None => ThorinRange { offset: 0, size: 0 },
+        None => NOWHERE,
         Some(range) => ThorinRange {
             offset: range.offset.0,
             size: range.size,

@@ -1,21 +1,20 @@
 //! The exports over a package that is open: they check their arguments and fill what the caller
 //! gave.
 
-ghost use Rattle.thorin_c.specs.Finding.{as_status, unit_found, row_found, lent_in, Fills};
+ghost use Rattle.thorin_c.specs.Finding.{as_status, unit_found, row_found, found_as, lent_in};
+ghost use Rattle.thorin_c.specs.Finding.{Fills};
 ghost use Rattle.thorin_c.specs.Listing.{count_in, Lists};
 ghost use Rattle.thorin_c.specs.Opening.{package_in};
 ghost use Rattle.thorin_c.specs.declared.opened.Lent.TheVariants.{Section, String};
 
-use crate::finding::{object_of, write};
 use crate::listing::list;
-use crate::opened::{Lent, OpenPackage};
-use crate::status::{DONE, status_of};
+use crate::opened::{Lent, OpenPackage, Wanted};
+use crate::status::DONE;
 use crate::types::{ThorinBytes, ThorinName, ThorinPackage, ThorinUnit};
 
 /// `thorin_find` in a package that is open: its sections are where `places` says, whatever that
 /// says. So after `thorin_open` of the same bytes the answer is that of `thorin_find`; any other
 /// `places` gives an answer or a status too.
-#[tactic(auto, unfolding(crate::specs::Finding::of_name))]
 #[unsafe(no_mangle)]
 pub extern "C" fn thorin_find_in(
     places: &ThorinPackage,
@@ -27,32 +26,10 @@ pub extern "C" fn thorin_find_in(
     ensures { Fills (λ unit. unit) (unit_found (as_status (package_in places.now bytes.now)) kind
         id) found.old found.new result }
 {
-    let pack = match OpenPackage::at(places, bytes) {
-        Ok(pack) => pack,
-        Err(error) => return status_of(error),
-    };
-    let object = match object_of(kind, id) {
-        Ok(object) => object,
-        Err(status) => return status,
-    };
-    match pack.unit(object) {
-        Ok(unit) => {
-            let row = &unit.row;
-            write(
-                &row.ranges,
-                row.number,
-                row.slots,
-                Some(unit.encoding),
-                found,
-            );
-            DONE
-        }
-        Err(status) => status,
-    }
+    find_in(places, bytes, Wanted::Unit, kind, id, found)
 }
 
 /// The row of a unit alone, as `thorin_find_rows` looks it up, in a package that is open.
-#[tactic(auto, unfolding(crate::specs::Finding::of_name))]
 #[unsafe(no_mangle)]
 pub extern "C" fn thorin_find_row_in(
     places: &ThorinPackage,
@@ -64,21 +41,7 @@ pub extern "C" fn thorin_find_row_in(
     ensures { Fills (λ unit. unit) (row_found (as_status (package_in places.now bytes.now)) kind
         id) found.old found.new result }
 {
-    let pack = match OpenPackage::at(places, bytes) {
-        Ok(pack) => pack,
-        Err(error) => return status_of(error),
-    };
-    let object = match object_of(kind, id) {
-        Ok(object) => object,
-        Err(status) => return status,
-    };
-    match pack.row(object) {
-        Ok(row) => {
-            write(&row.ranges, row.number, row.slots, None, found);
-            DONE
-        }
-        Err(status) => status,
-    }
+    find_in(places, bytes, Wanted::Row, kind, id, found)
 }
 
 /// `thorin_content` in a package that is open.
@@ -130,12 +93,36 @@ pub extern "C" fn thorin_list_in(
             *count = list(pack.units(), names);
             DONE
         }
-        Err(error) => status_of(error),
+        Err(status) => status,
+    }
+}
+
+/// Looks up what is wanted of a name.
+fn find_in(
+    places: &ThorinPackage,
+    bytes: &[u8],
+    wanted: Wanted,
+    kind: u8,
+    id: u64,
+    found: &mut ThorinUnit,
+) -> i32
+    ensures { Fills (λ unit. unit) (found_as wanted (as_status (package_in places.now bytes.now))
+        kind id) found.old found.new result }
+{
+    let pack = match OpenPackage::at(places, bytes) {
+        Ok(pack) => pack,
+        Err(status) => return status,
+    };
+    match pack.find(wanted, kind, id) {
+        Ok(unit) => {
+            *found = unit;
+            DONE
+        }
+        Err(status) => status,
     }
 }
 
 /// Lends what is asked for of the unit of a name.
-#[tactic(auto, unfolding(crate::specs::Finding::of_name))]
 fn lend<'a>(
     places: &ThorinPackage,
     bytes: &'a [u8],
@@ -149,17 +136,9 @@ fn lend<'a>(
 {
     let pack = match OpenPackage::at(places, bytes) {
         Ok(pack) => pack,
-        Err(error) => return status_of(error),
-    };
-    let object = match object_of(kind, id) {
-        Ok(object) => object,
         Err(status) => return status,
     };
-    let unit = match pack.unit(object) {
-        Ok(unit) => unit,
-        Err(status) => return status,
-    };
-    match pack.lent(&unit, lent) {
+    match pack.lent(lent, kind, id) {
         Ok(bytes) => {
             found.bytes = bytes;
             DONE

@@ -1,27 +1,27 @@
-//! A package that is open: its sections, rows, units and names, and what is lent of them.
+//! A package that is open: its sections, rows, units and names, and what is told and lent of them.
 
-ghost use Rattle.std.specs.Prelude.{◌≡◌};
+ghost use Rattle.std.specs.Prelude.{◌≡◌, Ok};
 ghost use Rattle.std.specs.Option.{option_copied};
 ghost use Rattle.dwp_base.specs.Reading.{Answers};
 ghost use Rattle.dwp_index.specs.Contents.{content};
 ghost use Rattle.dwp_index.specs.Package.{index_for, found_counted, row_counted};
 ghost use Rattle.dwp_index.specs.Package.{row_bytes, first_outside};
 ghost use Rattle.thorin_c.specs.ByIndex.{row_listed};
-ghost use Rattle.thorin_c.specs.Finding.{of_object, lent_of};
+ghost use Rattle.thorin_c.specs.Finding.{as_status, of_object, found_as, lent_in};
 ghost use Rattle.dwp_index.specs.Entries.{units_left, entries_from};
 ghost use Rattle.thorin_c.specs.OpenedFields.{row_held, unit_held};
 ghost use Rattle.thorin_c.specs.Opening.{package_in, order_of, sections_at};
 
+use crate::finding::{object_of, unit_of};
 use crate::status::{
     ABSENT, MALFORMED_INDEX, MALFORMED_STRING, MALFORMED_UNIT, NO_SUCH_SECTION, NO_SUCH_STRING,
-    RANGE_OUTSIDE,
+    RANGE_OUTSIDE, status_of,
 };
-use crate::types::ThorinPackage;
+use crate::types::{ThorinPackage, ThorinUnit};
 use dwp_base::{Contribution, ContributionOffset, Endianness, SectionKind};
 use dwp_bytes::{Encoding, StringOffsets};
 use dwp_index::{
-    PackageError, Row, UnitIndex, Units, encoding_in, kind_of, lies_inside, part_of, place_of,
-    read_index,
+    Row, UnitIndex, Units, encoding_in, kind_of, lies_inside, part_of, place_of, read_index,
 };
 use dwp_table::{Bucketable, CONTRIBUTION_KINDS, DwarfObject};
 use std::marker::Model;
@@ -108,6 +108,15 @@ pub(crate) struct PlacedUnit<'a> {
     pub(crate) encoding: Encoding,
 }
 
+/// What is looked up of a name.
+#[derive(Clone, Copy)]
+pub(crate) enum Wanted {
+    /// The whole unit.
+    Unit,
+    /// Its row alone: nothing of the unit is read.
+    Row,
+}
+
 /// What is lent of a unit.
 #[derive(Clone, Copy)]
 pub(crate) enum Lent {
@@ -124,13 +133,13 @@ impl<'p, 'a> OpenPackage<'p, 'a> {
     pub(crate) fn at(
         places: &'p ThorinPackage,
         bytes: &'a [u8],
-    ) -> Result<OpenPackage<'p, 'a>, PackageError>
-        ensures { Answers (λ x. x) result (package_in places.now bytes.now) }
+    ) -> Result<OpenPackage<'p, 'a>, i32>
+        ensures { Answers (λ x. x) result (as_status (package_in places.now bytes.now)) }
     {
         let sections = PlacedSections { places, bytes };
         let order = order_of(places.big_endian);
-        let compilations = read_index(sections.of(SectionKind::CuIndex), order)?;
-        let types = read_index(sections.of(SectionKind::TuIndex), order)?;
+        let compilations = read_index(sections.of(SectionKind::CuIndex), order).map_err(status_of)?;
+        let types = read_index(sections.of(SectionKind::TuIndex), order).map_err(status_of)?;
         Ok(OpenPackage {
             order,
             sections,
@@ -187,11 +196,41 @@ impl<'p, 'a> OpenPackage<'p, 'a> {
         }
     }
 
-    /// What is lent of a unit.
-    pub(crate) fn lent(&self, unit: &PlacedUnit<'a>, lent: Lent) -> Result<&'a [u8], i32>
-        ensures { Answers (λ bytes. bytes.now) result (lent_of lent self.now.order
-            self.now.contents unit.now.row.ranges unit.now.encoding) }
+    /// What is wanted of a name.
+    #[tactic(auto, unfolding(crate::specs::Finding::of_name))]
+    #[inline(always)]
+    pub(crate) fn find(&self, wanted: Wanted, kind: u8, id: u64) -> Result<ThorinUnit, i32>
+        ensures { Answers (λ x. x) result (found_as wanted (Ok self.now) kind id) }
     {
+        let object = object_of(kind, id)?;
+        match wanted {
+            Wanted::Unit => {
+                let unit = self.unit(object)?;
+                Ok(unit_of(&unit.row, Some(unit.encoding)))
+            }
+            Wanted::Row => {
+                let row = self.row(object)?;
+                Ok(unit_of(&row, None))
+            }
+        }
+    }
+
+    /// The first byte of an object's unit; only that range is looked at. None where the index
+    /// doesn't have the unit, or the byte isn't there.
+    #[inline(always)]
+    pub(crate) fn first_byte(&self, object: DwarfObject) -> Option<u8> {
+        let row = self.listed(object).ok()?;
+        let kind = kind_of(place_of(object, row.ranges.range(SectionKind::Types)));
+        let range = row.ranges.range(kind)?;
+        self.sections.of(kind).get(range.offset.0 as usize).copied()
+    }
+
+    /// What is lent of the unit of a name.
+    #[tactic(auto, unfolding(crate::specs::Finding::of_name))]
+    pub(crate) fn lent(&self, lent: Lent, kind: u8, id: u64) -> Result<&'a [u8], i32>
+        ensures { Answers (λ bytes. bytes.now) result (lent_in lent (Ok self.now) kind id) }
+    {
+        let unit = self.unit(object_of(kind, id)?)?;
         let ranges = &unit.row.ranges;
         match lent {
             Lent::Section(number) => match CONTRIBUTION_KINDS.get(number as usize) {

@@ -19,7 +19,7 @@ use dwp_elf_read::{ElfFile, ReadError, Section};
 use dwp_index::{PackageError, first_sections};
 
 /// The place of a section that isn't there.
-const NOWHERE: ThorinRange = ThorinRange { offset: 0, size: 0 };
+pub(crate) const NOWHERE: ThorinRange = ThorinRange { offset: 0, size: 0 };
 
 /// Opens a package: answers 0, and writes where its sections lie. The calls that take `places`
 /// then read nothing but what they look up. Or 3 or 4 where it can't be read, and `places` is left
@@ -39,7 +39,7 @@ pub extern "C" fn thorin_open(bytes: &[u8], places: &mut ThorinPackage) -> i32
             *places = found;
             DONE
         }
-        Err(error) => status_of(error),
+        Err(status) => status,
     }
 }
 
@@ -50,17 +50,12 @@ pub(crate) fn placed(bytes: &[u8]) -> Result<ThorinPackage, PackageError>
     ensures fails { IfErr result (λ error. package_of bytes.now ≡ Err error) }
     ensures inside { IfOk result (LieIn bytes.now) }
 {
-    let file = match ElfFile::parse(bytes) {
-        Ok(file) => file,
-        Err(e) => return Err(PackageError::Elf(e)),
-    };
+    let file = ElfFile::parse(bytes).map_err(PackageError::Elf)?;
     let firsts = first_sections(&file);
     let mut sections = [NOWHERE; 13];
     for kind in &SectionKind::ALL {
-        match place(&file, &firsts, *kind) {
-            Ok(found) => sections[kind.rank() as usize] = found,
-            Err(e) => return Err(PackageError::Elf(e)),
-        }
+        let found = place(&file, &firsts, *kind).map_err(PackageError::Elf)?;
+        sections[kind.rank() as usize] = found;
     }
     let big_endian = number_of(file.endianness());
     Ok(ThorinPackage {

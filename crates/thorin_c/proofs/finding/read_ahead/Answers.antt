@@ -8,6 +8,6 @@ pub loop-i-preserved : goal.loop-i-preserved
 loop-i-preserved c = record {
   front = rw (take-set-le c.args.start c.loop-i.lookups c.loop-i.i _ (omega arith))
       c.loop-i.invariant.front;
-  same = status_left (found_as c.args.wanted) c.args.file.now c.loop-i.lookups c.loop-i.i _ _
+  same = status_left (found_as c.args.wanted) c.args.pack.now c.loop-i.lookups c.loop-i.i _ _
       (omega arith) ∙ c.loop-i.invariant.same;
 }

@@ -6,6 +6,6 @@ use Rattle.thorin_c.proofs.finding.read_ahead.Given as goal
 abbrev pub invariant-loop-i : goal.invariant-loop-i
 invariant-loop-i l = record {
   front : take l.start l.lookups ≡ take l.start l.initial.lookups;
-  same : map (looked (found_as l.fn.wanted) l.file) l.lookups
-      ≡ map (looked (found_as l.fn.wanted) l.file) l.initial.lookups;
+  same : map (looked (found_as l.fn.wanted) l.pack) l.lookups
+      ≡ map (looked (found_as l.fn.wanted) l.pack) l.initial.lookups;
 }
