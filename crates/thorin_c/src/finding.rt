@@ -149,13 +149,7 @@ fn read_ahead(
 fn complete(pack: &OpenPackage<'_, '_>, wanted: Wanted, lookup: &mut ThorinLookup)
     ensures { lookup.new ≡ looked (found_as wanted) pack.now lookup.old }
 {
-    match pack.find(wanted, lookup.kind, lookup.id) {
-        Ok(unit) => {
-            lookup.unit = unit;
-            lookup.status = DONE;
-        }
-        Err(status) => lookup.status = status,
-    }
+    lookup.status = pack.fill(wanted, lookup.kind, lookup.id, &mut lookup.unit);
 }
 
 /// The name of a unit.
@@ -171,40 +165,36 @@ pub(crate) fn object_of(kind: u8, id: u64) -> Result<DwarfObject, i32>
     }
 }
 
-/// A row with its ranges, and the encoding in its unit's header, where that was read.
+/// Writes a row with its ranges, and the encoding in its unit's header, where that was read.
 #[inline(always)]
-pub(crate) fn unit_of(row: &ListedRow<'_>, encoding: Option<Encoding>) -> ThorinUnit
-    ensures { result ≡ unit_of (row_held row.now) encoding }
+pub(crate) fn write(row: &ListedRow<'_>, encoding: Option<Encoding>, found: &mut ThorinUnit)
+    ensures { found.new ≡ unit_of (row_held row.now) encoding }
 {
-    let unit = ThorinUnit {
-        ranges: ranges_of(&row.ranges),
-        row: row.number,
-        slots: row.slots,
-        version: 0,
-        offset_size: 0,
-        address_size: 0,
-    };
+    write_ranges(&row.ranges, &mut found.ranges);
+    found.row = row.number;
+    found.slots = row.slots;
     match encoding {
-        None => unit,
-        Some(encoding) => ThorinUnit {
-            version: encoding.version,
-            offset_size: encoding.format.offset_size() as u8,
-            address_size: encoding.address_size,
-            ..unit
-        },
+        None => {
+            found.version = 0;
+            found.offset_size = 0;
+            found.address_size = 0;
+        }
+        Some(encoding) => {
+            found.version = encoding.version;
+            found.offset_size = encoding.format.offset_size() as u8;
+            found.address_size = encoding.address_size;
+        }
     }
 }
 
-/// The ranges of a row, in the order of columns.
+/// Writes the ranges of a row.
 #[inline(always)]
-fn ranges_of(row: &Row<'_>) -> [ThorinRange; 10]
-    ensures { result ≡ ranges_of row.now }
+fn write_ranges(row: &Row<'_>, ranges: &mut [ThorinRange; 10])
+    ensures { ranges.new ≡ ranges_of row.now }
 {
-    let mut ranges = [NOWHERE; 10];
     for i in 0..10 {
         ranges[i] = range_of(row.range(CONTRIBUTION_KINDS[i]));
     }
-    ranges
 }
 
 /// A range; of no bytes where it is absent.

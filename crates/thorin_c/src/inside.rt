@@ -1,8 +1,7 @@
 //! The exports over a package that is open: they check their arguments and fill what the caller
 //! gave.
 
-ghost use Rattle.thorin_c.specs.Finding.{as_status, unit_found, row_found, found_as, lent_in};
-ghost use Rattle.thorin_c.specs.Finding.{Fills};
+ghost use Rattle.thorin_c.specs.Finding.{as_status, unit_found, row_found, lent_in, Fills};
 ghost use Rattle.thorin_c.specs.Listing.{count_in, Lists};
 ghost use Rattle.thorin_c.specs.Opening.{package_in};
 ghost use Rattle.thorin_c.specs.declared.opened.Lent.TheVariants.{Section, String};
@@ -26,7 +25,10 @@ pub extern "C" fn thorin_find_in(
     ensures { Fills (λ unit. unit) (unit_found (as_status (package_in places.now bytes.now)) kind
         id) found.old found.new result }
 {
-    find_in(places, bytes, Wanted::Unit, kind, id, found)
+    match OpenPackage::at(places, bytes) {
+        Ok(pack) => pack.fill(Wanted::Unit, kind, id, found),
+        Err(status) => status,
+    }
 }
 
 /// The row of a unit alone, as `thorin_find_rows` looks it up, in a package that is open.
@@ -41,7 +43,10 @@ pub extern "C" fn thorin_find_row_in(
     ensures { Fills (λ unit. unit) (row_found (as_status (package_in places.now bytes.now)) kind
         id) found.old found.new result }
 {
-    find_in(places, bytes, Wanted::Row, kind, id, found)
+    match OpenPackage::at(places, bytes) {
+        Ok(pack) => pack.fill(Wanted::Row, kind, id, found),
+        Err(status) => status,
+    }
 }
 
 /// `thorin_content` in a package that is open.
@@ -91,31 +96,6 @@ pub extern "C" fn thorin_list_in(
     match OpenPackage::at(places, bytes) {
         Ok(pack) => {
             *count = list(pack.units(), names);
-            DONE
-        }
-        Err(status) => status,
-    }
-}
-
-/// Looks up what is wanted of a name.
-fn find_in(
-    places: &ThorinPackage,
-    bytes: &[u8],
-    wanted: Wanted,
-    kind: u8,
-    id: u64,
-    found: &mut ThorinUnit,
-) -> i32
-    ensures { Fills (λ unit. unit) (found_as wanted (as_status (package_in places.now bytes.now))
-        kind id) found.old found.new result }
-{
-    let pack = match OpenPackage::at(places, bytes) {
-        Ok(pack) => pack,
-        Err(status) => return status,
-    };
-    match pack.find(wanted, kind, id) {
-        Ok(unit) => {
-            *found = unit;
             DONE
         }
         Err(status) => status,

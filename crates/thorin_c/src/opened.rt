@@ -8,14 +8,15 @@ ghost use Rattle.dwp_index.specs.Package.{index_for, found_counted, row_counted}
 ghost use Rattle.dwp_index.specs.Package.{row_bytes, first_outside};
 ghost use Rattle.thorin_c.specs.ByIndex.{row_listed};
 ghost use Rattle.thorin_c.specs.Finding.{as_status, of_object, found_as, lent_in};
+ghost use Rattle.thorin_c.specs.Finding.{unit_of, Fills};
 ghost use Rattle.dwp_index.specs.Entries.{units_left, entries_from};
 ghost use Rattle.thorin_c.specs.OpenedFields.{row_held, unit_held};
 ghost use Rattle.thorin_c.specs.Opening.{package_in, order_of, sections_at};
 
-use crate::finding::{object_of, unit_of};
+use crate::finding::{object_of, write};
 use crate::status::{
-    ABSENT, MALFORMED_INDEX, MALFORMED_STRING, MALFORMED_UNIT, NO_SUCH_SECTION, NO_SUCH_STRING,
-    RANGE_OUTSIDE, status_of,
+    ABSENT, DONE, MALFORMED_INDEX, MALFORMED_STRING, MALFORMED_UNIT, NO_SUCH_SECTION,
+    NO_SUCH_STRING, RANGE_OUTSIDE, status_of,
 };
 use crate::types::{ThorinPackage, ThorinUnit};
 use dwp_base::{Contribution, ContributionOffset, Endianness, SectionKind};
@@ -130,10 +131,7 @@ impl<'p, 'a> OpenPackage<'p, 'a> {
     /// The package whose sections are at these places.
     #[tactic(auto, unfolding(crate::specs::Opening::package_in))]
     #[inline(always)]
-    pub(crate) fn at(
-        places: &'p ThorinPackage,
-        bytes: &'a [u8],
-    ) -> Result<OpenPackage<'p, 'a>, i32>
+    pub(crate) fn at(places: &'p ThorinPackage, bytes: &'a [u8]) -> Result<OpenPackage<'p, 'a>, i32>
         ensures { Answers (λ x. x) result (as_status (package_in places.now bytes.now)) }
     {
         let sections = PlacedSections { places, bytes };
@@ -190,28 +188,44 @@ impl<'p, 'a> OpenPackage<'p, 'a> {
         let row = self.row(object)?;
         let place = place_of(object, row.ranges.range(SectionKind::Types));
         let bytes = self.sections.row_bytes(&row.ranges, kind_of(place));
-        match encoding_in(bytes, self.order, place) {
-            Ok(encoding) => Ok(PlacedUnit { row, encoding }),
-            Err(_) => Err(MALFORMED_UNIT),
+        let encoding = encoding_in(bytes, self.order, place).map_err(|_| MALFORMED_UNIT)?;
+        Ok(PlacedUnit { row, encoding })
+    }
+
+    /// Fills in what is wanted of a name.
+    #[inline(always)]
+    pub(crate) fn fill(&self, wanted: Wanted, kind: u8, id: u64, found: &mut ThorinUnit) -> i32
+        ensures { Fills (λ unit. unit) (found_as wanted (Ok self.now) kind id) found.old found.new
+            result }
+    {
+        match self.find(wanted, kind, id) {
+            Ok((row, encoding)) => {
+                write(&row, encoding, found);
+                DONE
+            }
+            Err(status) => status,
         }
     }
 
-    /// What is wanted of a name.
+    /// The row of a name, and the encoding of its unit where that is wanted.
     #[tactic(auto, unfolding(crate::specs::Finding::of_name))]
     #[inline(always)]
-    pub(crate) fn find(&self, wanted: Wanted, kind: u8, id: u64) -> Result<ThorinUnit, i32>
-        ensures { Answers (λ x. x) result (found_as wanted (Ok self.now) kind id) }
+    fn find(
+        &self,
+        wanted: Wanted,
+        kind: u8,
+        id: u64,
+    ) -> Result<(ListedRow<'a>, Option<Encoding>), i32>
+        ensures { Answers (λ found. unit_of (row_held found.0) found.1) result
+            (found_as wanted (Ok self.now) kind id) }
     {
         let object = object_of(kind, id)?;
         match wanted {
             Wanted::Unit => {
                 let unit = self.unit(object)?;
-                Ok(unit_of(&unit.row, Some(unit.encoding)))
+                Ok((unit.row, Some(unit.encoding)))
             }
-            Wanted::Row => {
-                let row = self.row(object)?;
-                Ok(unit_of(&row, None))
-            }
+            Wanted::Row => Ok((self.row(object)?, None)),
         }
     }
 
@@ -244,11 +258,8 @@ impl<'p, 'a> OpenPackage<'p, 'a> {
                     order: self.order,
                     encoding: unit.encoding,
                 };
-                match offsets.string(number) {
-                    Ok(Some(string)) => Ok(string),
-                    Ok(None) => Err(NO_SUCH_STRING),
-                    Err(_) => Err(MALFORMED_STRING),
-                }
+                let string = offsets.string(number).map_err(|_| MALFORMED_STRING)?;
+                string.ok_or(NO_SUCH_STRING)
             }
         }
     }
@@ -259,21 +270,15 @@ impl<'p, 'a> OpenPackage<'p, 'a> {
 fn listed_by<'a>(object: DwarfObject, index: Option<&UnitIndex<'a>>) -> Result<ListedRow<'a>, i32>
     ensures { Answers row_held result (row_listed object (option_copied index.entry)) }
 {
-    let Some(index) = index else {
-        return Err(ABSENT);
-    };
+    let index = index.ok_or(ABSENT)?;
     let (found, slots) = index.find_counted(object.index());
-    let Some(number) = found else {
-        return Err(ABSENT);
-    };
-    match index.row(number) {
-        Ok(ranges) => Ok(ListedRow {
-            number,
-            ranges,
-            slots,
-        }),
-        Err(_) => Err(MALFORMED_INDEX),
-    }
+    let number = found.ok_or(ABSENT)?;
+    let ranges = index.row(number).map_err(|_| MALFORMED_INDEX)?;
+    Ok(ListedRow {
+        number,
+        ranges,
+        slots,
+    })
 }
 
 /// The byte order of a number.

@@ -76,6 +76,23 @@ pub extern "C" fn thorin_pack(
     ensures unchanged { result ≢ pos 0 → out.new ≡ out.old }
     ensures alone { TellsAlone TellsOfPackage result report.old report.new }
 {
+    pack(alloc, inputs, out, report)
+}
+
+/// Packs inputs as `thorin_pack` says.
+fn pack(alloc: Global, inputs: &[ThorinBytes<'_>], out: &mut [u8], report: &mut ThorinReport) -> i32
+    ensures packed { result ≡ pos 0 → Packs inputs.now report.new out.old out.new }
+    ensures again { result ≡ pos 0 → report.new.packs_again ≡ 1
+        → ArePackedAgain inputs.now (take report.new.size out.new) }
+    ensures small { result ≡ pos 10 → Needs inputs.now report.new (length out.old) }
+    ensures refused { result ≡ pos 11 → Refuses inputs.now report.new }
+    ensures unfinished { result ≡ pos 12 → TellsUnfinished inputs.now report.new }
+    ensures memory { result ≡ pos 13 → RunsOutAt inputs.now report.new.input
+        ⊎ RunsOutAfter inputs.now report.new.input }
+    ensures status { IsPackingStatus result }
+    ensures unchanged { result ≢ pos 0 → out.new ≡ out.old }
+    ensures alone { TellsAlone TellsOfPackage result report.old report.new }
+{
     match package_of(alloc, inputs) {
         Ok(packed) => {
             let len = packed.file.len();
@@ -96,9 +113,26 @@ pub extern "C" fn thorin_pack(
 /// those of the unit that is kept: 0, as many as there is room for in `types`, in the order of
 /// passing over, and how many there are in `report.differing`. 11 and 13 as `thorin_pack`, and then
 /// `types` is left as it is, as are the other fields of `report` always.
-#[tactic(auto, using(crate::proofs::Taking::refuses, crate::proofs::Taking::differs, crate::proofs::Taking::runs_out_at))]
 #[unsafe(no_mangle)]
 pub extern "C" fn thorin_differing_types(
+    alloc: Global,
+    inputs: &[ThorinBytes<'_>],
+    types: &mut [u64],
+    report: &mut ThorinReport,
+) -> i32
+    ensures done { result ≡ pos 0 → Differ inputs.now report.new types.old types.new }
+    ensures refused { result ≡ pos 11 → Refuses inputs.now report.new }
+    ensures memory { result ≡ pos 13 → RunsOutAt inputs.now report.new.input }
+    ensures status { IsDifferingStatus result }
+    ensures unchanged { result ≢ pos 0 → types.new ≡ types.old }
+    ensures alone { TellsAlone TellsOfDiffering result report.old report.new }
+{
+    differing_types(alloc, inputs, types, report)
+}
+
+/// Tells of the type units that differ, as `thorin_differing_types` says.
+#[tactic(auto, using(crate::proofs::Taking::refuses, crate::proofs::Taking::differs, crate::proofs::Taking::runs_out_at))]
+fn differing_types(
     alloc: Global,
     inputs: &[ThorinBytes<'_>],
     types: &mut [u64],

@@ -38,6 +38,28 @@ pub extern "C" fn thorin_skeletons(
         × ((count.new ≡ count.old) × (report.new ≡ report.old))) }
     ensures status { (result ≡ pos 0) ⊎ ((result ≡ pos 11) ⊎ (result ≡ pos 13)) }
 {
+    list(alloc, bytes, names, paths, count, report)
+}
+
+/// Lists units as `thorin_skeletons` says.
+fn list(
+    alloc: Global,
+    bytes: &[u8],
+    names: &mut [ThorinSkeleton],
+    paths: &mut [u8],
+    count: &mut u64,
+    report: &mut ThorinReport,
+) -> i32
+    ensures whole { result ≡ pos 0 → (skeletons_of bytes.now).1 ≡ None }
+    ensures ended { result ≡ pos 11 → TellsEnd (skeletons_of bytes.now).1 report.new }
+    ensures listed { (result ≡ pos 0) ⊎ (result ≡ pos 11) → ListsUnits (skeletons_of bytes.now).0
+        names.old names.new paths.old paths.new count.new report.new }
+    ensures whole_alone { result ≡ pos 0 → TellsOfList report.old report.new }
+    ensures ended_alone { result ≡ pos 11 → TellsOfEnd report.old report.new }
+    ensures memory { result ≡ pos 13 → (names.new ≡ names.old) × ((paths.new ≡ paths.old)
+        × ((count.new ≡ count.old) × (report.new ≡ report.old))) }
+    ensures status { (result ≡ pos 0) ⊎ ((result ≡ pos 11) ⊎ (result ≡ pos 13)) }
+{
     let arena = Bump::new(alloc);
     let session = BytesSession::new(&arena);
     let room = Room {

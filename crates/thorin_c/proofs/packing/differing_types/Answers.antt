@@ -1,6 +1,6 @@
 use Rattle.std.proofs.Common.{rules}
 use Rattle.thorin_c.proofs.Taking.{refuses}
-use Rattle.thorin_c.proofs.packing.thorin_differing_types.Goals as goal
+use Rattle.thorin_c.proofs.packing.differing_types.Goals as goal
 
 pub returns-in-Err-clause-refused : goal.returns-in-Err-clause-refused
 returns-in-Err-clause-refused c =

@@ -1,4 +1,4 @@
-use Rattle.thorin_c.proofs.skeletons.thorin_skeletons.Goals as goal
+use Rattle.thorin_c.proofs.skeletons.list.Goals as goal
 
 pub read-requires : goal.read-requires
 read-requires c = c.new-units.ensures _

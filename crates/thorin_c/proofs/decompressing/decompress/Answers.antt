@@ -1,7 +1,7 @@
 use Rattle.std.proofs.Common.{arith}
 use Rattle.std.proofs.lemmas.Int.{ints, to_z-of_z}
 use Rattle.thorin_c.proofs.PlainFiles.{told_early}
-use Rattle.thorin_c.proofs.decompressing.thorin_decompress.Goals as goal
+use Rattle.thorin_c.proofs.decompressing.decompress.Goals as goal
 
 pub returns-in-Err-clause-error : goal.returns-in-Err-clause-error
 returns-in-Err-clause-error c =

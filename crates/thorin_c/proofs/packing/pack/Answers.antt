@@ -1,7 +1,7 @@
 use Rattle.std.proofs.Common.{◌≡◌, length, rules, arith}
 use Rattle.thorin_c.proofs.Taking.{handed_over}
-use Rattle.thorin_c.proofs.packing.thorin_pack.Goals as goal
-use Rattle.thorin_c.proofs.packing.thorin_pack.Goals.{then-packed, else-packed}
+use Rattle.thorin_c.proofs.packing.pack.Goals as goal
+use Rattle.thorin_c.proofs.packing.pack.Goals.{then-packed, else-packed}
 
 pub returns-else-len-out-clause-again : goal.returns-else-len-out-clause-again
 returns-else-len-out-clause-again c done one =
