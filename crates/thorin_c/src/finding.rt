@@ -110,7 +110,7 @@ fn find_each(bytes: &[u8], wanted: Wanted, lookups: &mut [ThorinLookup]) -> i32
     };
     let pack = match OpenPackage::at(&places, bytes) {
         Ok(pack) => pack,
-        Err(status) => return status,
+        Err(error) => return status_of(error),
     };
     for i in 0..lookups.len() {
         read_ahead(&pack, wanted, lookups, i);

@@ -8,7 +8,7 @@ ghost use Rattle.thorin_c.specs.declared.opened.Lent.TheVariants.{Section, Strin
 
 use crate::listing::list;
 use crate::opened::{Lent, OpenPackage, Wanted};
-use crate::status::DONE;
+use crate::status::{DONE, status_of};
 use crate::types::{ThorinBytes, ThorinName, ThorinPackage, ThorinUnit};
 
 /// `thorin_find` in a package that is open: its sections are where `places` says, whatever that
@@ -27,7 +27,7 @@ pub extern "C" fn thorin_find_in(
 {
     match OpenPackage::at(places, bytes) {
         Ok(pack) => pack.fill(Wanted::Unit, kind, id, found),
-        Err(status) => status,
+        Err(error) => status_of(error),
     }
 }
 
@@ -45,7 +45,7 @@ pub extern "C" fn thorin_find_row_in(
 {
     match OpenPackage::at(places, bytes) {
         Ok(pack) => pack.fill(Wanted::Row, kind, id, found),
-        Err(status) => status,
+        Err(error) => status_of(error),
     }
 }
 
@@ -98,7 +98,7 @@ pub extern "C" fn thorin_list_in(
             *count = list(pack.units(), names);
             DONE
         }
-        Err(status) => status,
+        Err(error) => status_of(error),
     }
 }
 
@@ -116,7 +116,7 @@ fn lend<'a>(
 {
     let pack = match OpenPackage::at(places, bytes) {
         Ok(pack) => pack,
-        Err(status) => return status,
+        Err(error) => return status_of(error),
     };
     match pack.lent(lent, kind, id) {
         Ok(bytes) => {

@@ -7,7 +7,7 @@ ghost use Rattle.dwp_index.specs.Contents.{content};
 ghost use Rattle.dwp_index.specs.Package.{index_for, found_counted, row_counted};
 ghost use Rattle.dwp_index.specs.Package.{row_bytes, first_outside};
 ghost use Rattle.thorin_c.specs.ByIndex.{row_listed};
-ghost use Rattle.thorin_c.specs.Finding.{as_status, of_object, found_as, lent_in};
+ghost use Rattle.thorin_c.specs.Finding.{of_object, found_as, lent_in};
 ghost use Rattle.thorin_c.specs.Finding.{unit_of, Fills};
 ghost use Rattle.dwp_index.specs.Entries.{units_left, entries_from};
 ghost use Rattle.thorin_c.specs.OpenedFields.{row_held, unit_held};
@@ -16,13 +16,14 @@ ghost use Rattle.thorin_c.specs.Opening.{package_in, order_of, sections_at};
 use crate::finding::{object_of, write};
 use crate::status::{
     ABSENT, DONE, MALFORMED_INDEX, MALFORMED_STRING, MALFORMED_UNIT, NO_SUCH_SECTION,
-    NO_SUCH_STRING, RANGE_OUTSIDE, status_of,
+    NO_SUCH_STRING, RANGE_OUTSIDE,
 };
 use crate::types::{ThorinPackage, ThorinUnit};
 use dwp_base::{Contribution, ContributionOffset, Endianness, SectionKind};
 use dwp_bytes::{Encoding, StringOffsets};
 use dwp_index::{
-    Row, UnitIndex, Units, encoding_in, kind_of, lies_inside, part_of, place_of, read_index,
+    PackageError, Row, UnitIndex, Units, encoding_in, kind_of, lies_inside, part_of, place_of,
+    read_index,
 };
 use dwp_table::{Bucketable, CONTRIBUTION_KINDS, DwarfObject};
 use std::marker::Model;
@@ -131,13 +132,16 @@ impl<'p, 'a> OpenPackage<'p, 'a> {
     /// The package whose sections are at these places.
     #[tactic(auto, unfolding(crate::specs::Opening::package_in))]
     #[inline(always)]
-    pub(crate) fn at(places: &'p ThorinPackage, bytes: &'a [u8]) -> Result<OpenPackage<'p, 'a>, i32>
-        ensures { Answers (λ x. x) result (as_status (package_in places.now bytes.now)) }
+    pub(crate) fn at(
+        places: &'p ThorinPackage,
+        bytes: &'a [u8],
+    ) -> Result<OpenPackage<'p, 'a>, PackageError>
+        ensures { Answers (λ x. x) result (package_in places.now bytes.now) }
     {
         let sections = PlacedSections { places, bytes };
         let order = order_of(places.big_endian);
-        let compilations = read_index(sections.of(SectionKind::CuIndex), order).map_err(status_of)?;
-        let types = read_index(sections.of(SectionKind::TuIndex), order).map_err(status_of)?;
+        let compilations = read_index(sections.of(SectionKind::CuIndex), order)?;
+        let types = read_index(sections.of(SectionKind::TuIndex), order)?;
         Ok(OpenPackage {
             order,
             sections,

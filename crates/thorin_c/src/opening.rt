@@ -39,7 +39,7 @@ pub extern "C" fn thorin_open(bytes: &[u8], places: &mut ThorinPackage) -> i32
             *places = found;
             DONE
         }
-        Err(status) => status,
+        Err(error) => status_of(error),
     }
 }
 
@@ -50,12 +50,17 @@ pub(crate) fn placed(bytes: &[u8]) -> Result<ThorinPackage, PackageError>
     ensures fails { IfErr result (λ error. package_of bytes.now ≡ Err error) }
     ensures inside { IfOk result (LieIn bytes.now) }
 {
-    let file = ElfFile::parse(bytes).map_err(PackageError::Elf)?;
+    let file = match ElfFile::parse(bytes) {
+        Ok(file) => file,
+        Err(e) => return Err(PackageError::Elf(e)),
+    };
     let firsts = first_sections(&file);
     let mut sections = [NOWHERE; 13];
     for kind in &SectionKind::ALL {
-        let found = place(&file, &firsts, *kind).map_err(PackageError::Elf)?;
-        sections[kind.rank() as usize] = found;
+        match place(&file, &firsts, *kind) {
+            Ok(found) => sections[kind.rank() as usize] = found,
+            Err(e) => return Err(PackageError::Elf(e)),
+        }
     }
     let big_endian = number_of(file.endianness());
     Ok(ThorinPackage {

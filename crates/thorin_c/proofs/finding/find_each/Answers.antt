@@ -12,7 +12,7 @@ loop-i-preserved c =
     c.read_ahead.ensures.front c.read_ahead.ensures.same c.loop-i.invariant)
 
 pub returns : goal.returns
-returns c = rw c.in-Ok.ensures (
+returns c = rw (c.in-Ok.ensures.same, c.in-Ok-at.ensures) (
   refl,
   replaced-all (looked (found_as c.args.wanted) c.in-Ok-at.pack) c.loop-i.lookups _ c.loop-i.i
       (omega arith) c.loop-i.invariant,
