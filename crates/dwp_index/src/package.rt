@@ -59,14 +59,8 @@ impl<'a> PackageFile<'a> {
     pub fn parse(bytes: &'a [u8]) -> Result<PackageFile<'a>, PackageError>
         ensures { Answers (λ x. x) result (package_of bytes.now) }
     {
-        let file = match ElfFile::parse(bytes) {
-            Ok(file) => file,
-            Err(e) => return Err(PackageError::Elf(e)),
-        };
-        let contents = match Contents::read(&file) {
-            Ok(contents) => contents,
-            Err(e) => return Err(PackageError::Elf(e)),
-        };
+        let file = ElfFile::parse(bytes).map_err(PackageError::Elf)?;
+        let contents = Contents::read(&file).map_err(PackageError::Elf)?;
         let order = file.endianness();
         let compilations = read_index(contents.of(SectionKind::CuIndex), order)?;
         let types = read_index(contents.of(SectionKind::TuIndex), order)?;
@@ -267,10 +261,7 @@ impl<'a> PackageFile<'a> {
         }
         let place = place_of(object, row.range(SectionKind::Types));
         let bytes = row_bytes(&self.contents, &row, kind_of(place));
-        let encoding = match encoding_in(bytes, self.order, place) {
-            Ok(encoding) => encoding,
-            Err(e) => return Err(PackageError::Unit(e)),
-        };
+        let encoding = encoding_in(bytes, self.order, place).map_err(PackageError::Unit)?;
         Ok(PackagedUnit {
             order: self.order,
             contents: self.contents,
@@ -297,10 +288,8 @@ pub fn read_index<'a>(
     if bytes.is_empty() {
         return Ok(None);
     }
-    match UnitIndex::parse(bytes, order) {
-        Ok(index) => Ok(Some(index)),
-        Err(e) => Err(PackageError::Index(e)),
-    }
+    let index = UnitIndex::parse(bytes, order).map_err(PackageError::Index)?;
+    Ok(Some(index))
 }
 
 /// The row of a number, counted from 1: `UnitIndex::row` with an error of packages.
@@ -311,10 +300,7 @@ pub fn read_index<'a>(
 pub fn read_row<'a>(index: &UnitIndex<'a>, number: u32) -> Result<Row<'a>, PackageError>
     ensures { Answers (λ x. x) result (as_error errors.Index (row_in index.now number)) }
 {
-    match index.row(number) {
-        Ok(row) => Ok(row),
-        Err(e) => Err(PackageError::Index(e)),
-    }
+    index.row(number).map_err(PackageError::Index)
 }
 
 /// The first section, in the order of columns, that a range of the row isn't inside of.
