@@ -11,7 +11,7 @@ use Rattle.thorin_words.specs.Responses.{File, Inner, Itself, Deep, words_in, mo
 use Rattle.thorin_words.specs.Responses.{Refuses, Stops, Here, Later, Within}
 use Rattle.thorin_words.specs.Responses.{Costs, Nothing, Word, Named}
 use Rattle.thorin_words.specs.Words.{words_of}
-use Rattle.thorin_words.specs.declared.responses.Left.{Left}
+use Rattle.thorin_words.specs.declared.responses.Allowance.{Allowance}
 use Rattle.thorin_words.specs.declared.responses.ResponseError.{ResponseError}
 use Rattle.thorin_words.specs.declared.responses.ResponseError.TheVariants as errors
 
@@ -65,7 +65,7 @@ cost {offer} {words} {n} {n'} {m} {m'} e f c =
 module _ (offer : List ℕ → Option (List ℕ) → Type 0) (fails : List ℕ → ResponseError → Type 0) where
   module _ (names : List (List ℕ)) (word : List ℕ) where
     -- a word that stands for itself
-    pub itself : (old new : List (List ℕ)) (before now : Left) → IsPlain offer word
+    pub itself : (old new : List (List ℕ)) (before now : Allowance) → IsPlain offer word
         → new ≡ old ++ word ∷ [] → now.files ≡ before.files → now.bytes + 32 ≡ before.bytes
         → (rest : List (List ℕ)) → Leaves offer fails names (word ∷ rest) rest old new before now
     itself old new before now is more fewer less rest = record {
@@ -81,14 +81,14 @@ module _ (offer : List ℕ → Option (List ℕ) → Type 0) (fails : List ℕ �
     }
 
     -- one for which there is no room
-    pub unread : (left : Left) → IsPlain offer word → (e : ResponseError)
+    pub unread : (left : Allowance) → IsPlain offer word → (e : ResponseError)
         → (e ≡ errors.TooLong) × (left.bytes < 32) → (rest : List (List ℕ))
         → Refuses offer fails names left.files left.bytes (word ∷ rest) e
     unread left is e (long, few) rest =
         rw long (0, 32 + 0, Word word rest 0 0 is (Nothing rest), omega (arith, few))
 
     -- one whose file isn't read
-    pub refused : (left : Left) (e : ResponseError) → Stops offer fails names word left e
+    pub refused : (left : Allowance) (e : ResponseError) → Stops offer fails names word left e
         → (rest : List (List ℕ)) → Refuses offer fails names left.files left.bytes (word ∷ rest) e
     refused left errors.NotUtf8 k rest = absurd k
     refused left errors.Memory k rest = tt
@@ -110,11 +110,11 @@ module _ (offer : List ℕ → Option (List ℕ) → Type 0) (fails : List ℕ �
     refused left errors.Unreadable k rest = Here word rest k
 
   -- one that names a file
-  module _ (names : List (List ℕ)) (word name text : List ℕ) (before opened : Left)
+  module _ (names : List (List ℕ)) (word name text : List ℕ) (before opened : Allowance)
       (is : word ≡ 64 ∷ name) (fresh : is_among names name ≡ false)
       (offered : offer name (Some text)) (fewer : opened.files + 1 ≡ before.files)
       (less : opened.bytes + length text ≡ before.bytes) (flat : length names < most_deep) where
-    pub filed : (old new : List (List ℕ)) (now : Left)
+    pub filed : (old new : List (List ℕ)) (now : Allowance)
         → Leaves offer fails (names ++ name ∷ []) (words_of text) [] old new opened now
         → (rest : List (List ℕ)) → Leaves offer fails names (word ∷ rest) rest old new before now
     filed old new now inner rest = record {
@@ -166,7 +166,7 @@ module _ (offer : List ℕ → Option (List ℕ) → Type 0) (fails : List ℕ �
 -- ---- words one after another
 
 pub begin : {offer : List ℕ → Option (List ℕ) → Type 0} {fails : List ℕ → ResponseError → Type 0}
-    {names all old : List (List ℕ)} {left : Left}
+    {names all old : List (List ℕ)} {left : Allowance}
     → Leaves offer fails names all all old old left left
 begin {old = old} = record {
   own = [];
@@ -181,7 +181,7 @@ begin {old = old} = record {
 }
 
 module _ {offer : List ℕ → Option (List ℕ) → Type 0} {fails : List ℕ → ResponseError → Type 0}
-    {names all words old middle : List (List ℕ)} {before now : Left}
+    {names all words old middle : List (List ℕ)} {before now : Allowance}
     (so_far : Leaves offer fails names all words old middle before now) where
   pub ended : words ≡ [] → Leaves offer fails names all [] old middle before now
   ended none = subst (λ words. Leaves offer fails names all words old middle before now) none so_far
@@ -210,7 +210,7 @@ module _ {offer : List ℕ → Option (List ℕ) → Type 0} {fails : List ℕ �
   -- a word further
   module _ {inner rest : List (List ℕ)} {word : List ℕ} (split : words ≡ word ∷ rest)
       (same : inner ≡ names) where
-    pub onward : (new : List (List ℕ)) (later : Left)
+    pub onward : (new : List (List ℕ)) (later : Allowance)
         → ((rest : List (List ℕ)) → Leaves offer fails inner (word ∷ rest) rest
         middle new now later)
         → Leaves offer fails names all rest old new before later
@@ -243,7 +243,7 @@ module _ {offer : List ℕ → Option (List ℕ) → Type 0} {fails : List ℕ �
 
 -- behind the program's name
 pub told : {offer : List ℕ → Option (List ℕ) → Type 0} {fails : List ℕ → ResponseError → Type 0}
-    {names line old new : List (List ℕ)} {before now : Left} (program : List ℕ)
+    {names line old new : List (List ℕ)} {before now : Allowance} (program : List ℕ)
     → Leaves offer fails names line [] old new before now → names ≡ [] → old ≡ program ∷ []
     → (own : List (List ℕ)) × (new ≡ program ∷ own) × Stands offer [] line (Ok own)
 told {offer} {names = names} {line = line} program all none alone = (

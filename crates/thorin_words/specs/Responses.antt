@@ -9,7 +9,7 @@ use Rattle.std.specs.List.{list_any}
 use Rattle.thorin_words.specs.Words.{words_of}
 use Rattle.thorin_words.specs.declared.responses.ResponseError.{ResponseError}
 use Rattle.thorin_words.specs.declared.responses.ResponseError.TheVariants as errors
-use Rattle.thorin_words.specs.declared.responses.Left.{Left}
+use Rattle.thorin_words.specs.declared.responses.Allowance.{Allowance}
 
 -- why words are refused: a file of that name is inside itself, or inside as many others as may be
 pub data Refusal : Type 0 where
@@ -157,7 +157,7 @@ Answers offer fails program line (Err e) = CannotBeTold offer fails line e
 -- and what they cost taken from what was left
 pub record Leaves (offer : List ℕ → Option (List ℕ) → Type 0)
     (fails : List ℕ → ResponseError → Type 0) (names words last old new : List (List ℕ))
-    (before now : Left) : Type 0 where
+    (before now : Allowance) : Type 0 where
   pub own : List (List ℕ)
   pub files : ℕ
   pub bytes : ℕ
@@ -173,8 +173,8 @@ pub record Leaves (offer : List ℕ → Option (List ℕ) → Type 0)
 
 -- words were read up to the last of them, or can't be told
 abbrev pub AreRead : (List ℕ → Option (List ℕ) → Type 0) → (List ℕ → ResponseError → Type 0)
-    → (names words last old new : List (List ℕ)) → (before : Left) → Result Left ResponseError
-    → Type 0
+    → (names words last old new : List (List ℕ)) → (before : Allowance)
+    → Result Allowance ResponseError → Type 0
 AreRead offer fails names words last old new before (Ok now) =
     Leaves offer fails names words last old new before now
 AreRead offer fails names words last old new before (Err e) =
@@ -182,14 +182,14 @@ AreRead offer fails names words last old new before (Err e) =
 
 -- a word was, whatever stands behind it
 abbrev pub IsRead : (List ℕ → Option (List ℕ) → Type 0) → (List ℕ → ResponseError → Type 0)
-    → (names : List (List ℕ)) (word : List ℕ) (old new : List (List ℕ)) → (before : Left)
-    → Result Left ResponseError → Type 0
+    → (names : List (List ℕ)) (word : List ℕ) (old new : List (List ℕ)) → (before : Allowance)
+    → Result Allowance ResponseError → Type 0
 IsRead offer fails names word old new before result = (rest : List (List ℕ))
     → AreRead offer fails names (word ∷ rest) rest old new before result
 
 -- a word that can't be told by itself, inside the files of these names
 abbrev pub Stops : (List ℕ → Option (List ℕ) → Type 0) → (List ℕ → ResponseError → Type 0)
-    → (names : List (List ℕ)) (word : List ℕ) → Left → ResponseError → Type 0
+    → (names : List (List ℕ)) (word : List ℕ) → Allowance → ResponseError → Type 0
 Stops offer fails names word left errors.NotUtf8 = ⊥
 Stops offer fails names word left errors.Memory = Unit {0}
 Stops offer fails names word left (errors.Inside name) =
@@ -205,8 +205,8 @@ Stops offer fails names word left errors.Unreadable = Spoils fails errors.Unread
 
 -- what a word was found to name inside the files of these names
 abbrev pub Opens : (List ℕ → Option (List ℕ) → Type 0) → (List ℕ → ResponseError → Type 0)
-    → (names : List (List ℕ)) (word : List ℕ) → Left
-    → Result (Option (String Global × Vec ℕ Global × Left)) ResponseError → Type 0
+    → (names : List (List ℕ)) (word : List ℕ) → Allowance
+    → Result (Option (String Global × Vec ℕ Global × Allowance)) ResponseError → Type 0
 Opens offer fails names word left (Ok None) = IsPlain offer word
 Opens offer fails names word left (Ok (Some (name, text, now))) =
     (word ≡ 64 ∷ string_bytes name) × (is_among names (string_bytes name) ≡ false)

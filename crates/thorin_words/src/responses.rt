@@ -1,6 +1,6 @@
 //! `@FILE` among the words of a command line: a response file, as linkers have it.
 
-ghost use Rattle.std.specs.Prelude.{◌≡◌, ◌≤◌, ◌<◌, ◌+◌, [], ℕ, List, Option, map};
+ghost use Rattle.std.specs.Prelude.{◌≡◌, ◌≤◌, ◌<◌, ◌+◌, ◌∷◌, [], ℕ, List, Option, map};
 ghost use Rattle.std.specs.Prelude.{length, IfOk, IfErr, OnOk, IfSome, option_map};
 ghost use Rattle.std.specs.Prelude.{Some, string_bytes};
 ghost use Rattle.thorin_words.specs.Responses.{is_among, Answers, AreRead, IsOfReading, IsRead};
@@ -87,7 +87,7 @@ impl<T: Drop> From<AllocFailed<T>> for ResponseError {
 
 /// How many files may still be named, and how many bytes may still be held.
 #[derive(Clone, Copy)]
-struct Left {
+struct Allowance {
     files: u32,
     bytes: u32,
 }
@@ -110,14 +110,23 @@ pub fn expanded<S: AsStr, F: ResponseFiles>(
     ensures { Answers (F.offer files.now) (F.fails files.now) program.now (map S.text line.now)
         result }
 {
-    let mut all = Vec::new(alloc);
-    all.push(String::from_str(alloc, program)?)?;
+    let mut all = program_alone(alloc, program)?;
     let mut names = Vec::new(alloc);
-    let left = Left {
+    let left = Allowance {
         files: MOST_FILES,
         bytes: MOST_BYTES,
     };
     add_line(files, line, &mut names, left, &mut all)?;
+    Ok(all)
+}
+
+/// A program's name, and no word behind it.
+fn program_alone(alloc: Global, program: &str) -> Result<Vec<String>, ResponseError>
+    ensures alone { IfOk result (λ all. words_in all ≡ program.now ∷ []) }
+    ensures cause { IfErr result (λ e. e ≡ errors.Memory) }
+{
+    let mut all = Vec::new(alloc);
+    all.push(String::from_str(alloc, program)?)?;
     Ok(all)
 }
 
@@ -126,9 +135,9 @@ fn add_line<S: AsStr, F: ResponseFiles>(
     files: &F,
     line: &[S],
     names: &mut Vec<String>,
-    left: Left,
+    left: Allowance,
     all: &mut Vec<String>,
-) -> Result<Left, ResponseError>
+) -> Result<Allowance, ResponseError>
     ensures { AreRead (F.offer files.now) (F.fails files.now) (words_in names.old)
         (map S.text line.now) [] (words_in all.old) (words_in all.new) left result }
 {
@@ -145,9 +154,9 @@ fn add_word<F: ResponseFiles>(
     files: &F,
     word: &str,
     names: &mut Vec<String>,
-    left: Left,
+    left: Allowance,
     all: &mut Vec<String>,
-) -> Result<Left, ResponseError>
+) -> Result<Allowance, ResponseError>
     ensures read { IsRead (F.offer files.now) (F.fails files.now) (words_in names.old) word.now
         (words_in all.old) (words_in all.new) left result }
     ensures names { OnOk result (words_in names.new ≡ words_in names.old) }
@@ -176,9 +185,9 @@ fn add_text<F: ResponseFiles>(
     files: &F,
     text: &[u8],
     names: &mut Vec<String>,
-    left: Left,
+    left: Allowance,
     all: &mut Vec<String>,
-) -> Result<Left, ResponseError>
+) -> Result<Allowance, ResponseError>
     ensures read { AreRead (F.offer files.now) (F.fails files.now) (words_in names.old)
         (words_of text.now) [] (words_in all.old) (words_in all.new) left result }
     ensures names { OnOk result (words_in names.new ≡ words_in names.old) }
@@ -206,8 +215,8 @@ fn open_word<F: ResponseFiles>(
     alloc: Global,
     word: &str,
     names: &[String],
-    left: Left,
-) -> Result<Option<(String, Vec<u8>, Left)>, ResponseError>
+    left: Allowance,
+) -> Result<Option<(String, Vec<u8>, Allowance)>, ResponseError>
     ensures { Opens (F.offer files.now) (F.fails files.now) (map string_bytes names.now) word.now
         left result }
 {
@@ -226,7 +235,7 @@ fn open_word<F: ResponseFiles>(
     if left.files == 0 {
         return Err(ResponseError::TooMany);
     }
-    let fewer = Left {
+    let fewer = Allowance {
         files: left.files - 1,
         bytes: left.bytes,
     };
@@ -242,7 +251,7 @@ fn has_name(names: &[String], name: &str) -> bool
 }
 
 /// What is left after so many bytes.
-fn left_after(left: Left, count: usize) -> Result<Left, ResponseError>
+fn left_after(left: Allowance, count: usize) -> Result<Allowance, ResponseError>
     ensures files { IfOk result (λ now. now.files ≡ left.files) }
     ensures bytes { IfOk result (λ now. now.bytes + count ≡ left.bytes) }
     ensures cause { IfErr result (λ e. (e ≡ errors.TooLong) × (left.bytes < count)) }
@@ -250,7 +259,7 @@ fn left_after(left: Left, count: usize) -> Result<Left, ResponseError>
     if count > left.bytes as usize {
         return Err(ResponseError::TooLong);
     }
-    Ok(Left {
+    Ok(Allowance {
         files: left.files,
         bytes: left.bytes - count as u32,
     })
