@@ -161,10 +161,9 @@ impl Encodings {
 /// none where it has none that can be read.
 fn encoding_of(file: &[u8]) -> Option<(Encoding, Endianness)> {
     let file = ElfFile::parse(file).ok()?;
-    let section = file.section_by_name(".debug_info.dwo")?;
-    let bytes = section.data().ok()?;
     let order = file.endianness();
-    let mut units = UnitHeaders::new(SliceReader::new(bytes, order), UnitSection::Info);
+    let section = file.section_by_name(".debug_info.dwo")?;
+    let mut units = units_in(&section, order)?;
     match units.next() {
         Some(Ok(unit)) => Some((unit.encoding(), order)),
         _ => None,
