@@ -4,7 +4,6 @@ ghost use Rattle.thorin_output.specs.Reads.{any_identity, anything};
 
 use crate::progress::{Console, Lines};
 use dwp_elf::{ElfFile, WritableObject, WriteError};
-use std::alloc::Global;
 use std::cell::Cell;
 use std::io::{self, ErrorKind, Write};
 use std::path::{AsPath, Path};
@@ -203,12 +202,10 @@ impl<E: Write> FileSystem for HostFiles<'_, '_, '_, E> {
         let answer = thorin_files::try_regular(self.rt, path);
         if is_not_found(&answer) {
             if let Some(end) = self.end_of(path.path_text()) {
-                thorin_files::try_regular(self.rt, Path::new(end))?;
-                return Ok(());
+                return Ok(thorin_files::try_regular(self.rt, Path::new(end))?);
             }
         }
-        answer?;
-        Ok(())
+        Ok(answer?)
     }
 
     fn identity(&self, name: &str) -> Option<(u64, u64)> {

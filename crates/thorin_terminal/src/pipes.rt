@@ -36,22 +36,18 @@ impl<O: Write> Write for WatchedWriter<O> {
     ghost contents = { λ watched. O.contents watched.out };
 
     fn write(&mut self, bytes: &[u8]) -> io::Result<usize> {
-        match self.out.write(bytes) {
-            Ok(taken) => Ok(taken),
-            Err(cause) => {
-                self.failure = Some(cause);
-                Err(cause)
-            }
+        let answer = self.out.write(bytes);
+        if let Err(cause) = answer {
+            self.failure = Some(cause);
         }
+        answer
     }
 
     fn flush(&mut self) -> io::Result<()> {
-        match self.out.flush() {
-            Ok(()) => Ok(()),
-            Err(cause) => {
-                self.failure = Some(cause);
-                Err(cause)
-            }
+        let answer = self.out.flush();
+        if let Err(cause) = answer {
+            self.failure = Some(cause);
         }
+        answer
     }
 }

@@ -1,7 +1,5 @@
 //! Response files of the system.
 
-ghost use Rattle.thorin_words.specs.Responses.{IsOfReading};
-
 use std::cell::Cell;
 use std::{io, str};
 use thorin_words::{ResponseError, ResponseFiles};
@@ -65,9 +63,13 @@ impl ResponseFiles for HostResponses<'_> {
             }
             Ok(None) => Err(ResponseError::TooLong),
             Err(cause) => {
-                let error = read_error(&cause);
+                let is_memory = cause.kind() == io::ErrorKind::OutOfMemory;
                 self.keep(name, Some(cause));
-                Err(error)
+                Err(if is_memory {
+                    ResponseError::Memory
+                } else {
+                    ResponseError::Unreadable
+                })
             }
         }
     }
@@ -76,16 +78,5 @@ impl ResponseFiles for HostResponses<'_> {
 impl NotedResponses for HostResponses<'_> {
     fn refused(&self) -> Option<RefusedResponse> {
         self.refused.replace(None)
-    }
-}
-
-/// What a failed read of a file is.
-fn read_error(e: &io::Error) -> ResponseError
-    ensures { IsOfReading result }
-{
-    if e.kind() == io::ErrorKind::OutOfMemory {
-        ResponseError::Memory
-    } else {
-        ResponseError::Unreadable
     }
 }

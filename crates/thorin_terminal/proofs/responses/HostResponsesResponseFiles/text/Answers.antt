@@ -3,6 +3,3 @@ use Rattle.thorin_terminal.proofs.responses.HostResponsesResponseFiles.text.Goal
 
 pub returns-in-Ok-None-clause-long : goal.returns-in-Ok-None-clause-long
 returns-in-Ok-None-clause-long c = λ is. longer c.args.most
-
-pub returns-in-Err-clause-long : goal.returns-in-Err-clause-long
-returns-in-Err-clause-long c = λ is. longer c.args.most
