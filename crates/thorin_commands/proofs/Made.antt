@@ -10,6 +10,7 @@ use Rattle.thorin_errors.specs.declared.error.Error.{Error}
 use Rattle.thorin_errors.specs.declared.error.Error.TheVariants.{NoOutputObjectCreated}
 use Rattle.thorin_join.specs.Builder.{State, differing_in, finish_test}
 use Rattle.thorin.specs.declared.packing.Input.{Input}
+use Rattle.thorin_print.specs.declared.output.Failure.{Failure}
 use Rattle.thorin_output.specs.Warnings.{IsPrinted, IsWarning}
 use Rattle.thorin_output.specs.declared.warnings.Warned.{Warned}
 use Rattle.thorin_commands.specs.Cause.{Alone, Among, Archive, Bad, Cause, IsNotTaken, Plain}
@@ -150,14 +151,15 @@ made_ready packing named macros lines are is made = record {
 -- and the warnings behind the package
 pub packs_telling : (offer : Offer) (packing : Packing) (Puts : (name text : List ℕ) → Type 0)
     (object : File) (name : List ℕ) (differing : List DebugTypeSignature) (lines : List ℕ)
-    (a b c : Option (List ℕ)) (warned : Warned)
-    → IsReady offer packing a b object differing lines
-    → out_of packing ≡ Some name → Puts name (file_text object)
+    (b c : Option (List ℕ)) (warned : Warned) → out_of packing ≡ Some name
     → warned.lines.now ≡ lines → warned.differing.now ≡ differing
     → warned.warnings ≡ others (names packing.verbose packing.warnings) packing.warnings
-    → IsPrinted b c (IsWarning warned) → PacksTelling offer packing Puts a c
-packs_telling offer packing Puts object name differing lines a b c warned ready named put el ed ew
-    p = record {
+    → (result : Result (Unit {0}) Failure) → OnOk result (Puts name (file_text object))
+    → OnOk result (IsPrinted b c (IsWarning warned))
+    → OnOk result ((a : Option (List ℕ)) → IsReady offer packing a b object differing lines
+    → PacksTelling offer packing Puts a c)
+packs_telling offer packing Puts object name differing lines b c warned named el ed ew (Ok done)
+    put p = λ a ready. record {
       packs = record {
         object = object;
         is = ready.made.is;
@@ -184,3 +186,5 @@ packs_telling offer packing Puts object name differing lines a b c warned ready 
             ∙ append_assoc ready.macros ready.named u.lines));
       }) ready.made.told p;
     }
+packs_telling offer packing Puts object name differing lines b c warned named el ed ew (Err failure)
+    put p = tt

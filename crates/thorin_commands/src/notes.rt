@@ -56,7 +56,7 @@ pub(crate) struct Notes {
     /// The path of the input.
     own: Cell<Option<String>>,
     /// The object that the input names and that was read last, unless it was taken.
-    named: Cell<Option<NamedObject>>,
+    pub(crate) named: Cell<Option<NamedObject>>,
     absent: Cell<AbsentUnits>,
     /// What is left compressed of the file that was read last.
     pub(crate) compression: Cell<Compression>,
@@ -81,8 +81,8 @@ struct Differing {
 
 /// An object that an executable names.
 #[derive(Drop)]
-struct NamedObject {
-    path: String,
+pub(crate) struct NamedObject {
+    pub(crate) path: String,
     /// Why it couldn't be read, if it couldn't.
     unread: Option<String>,
 }
@@ -155,15 +155,6 @@ impl Notes {
         });
     }
 
-    /// The path of the object that the input names and that was read last; none where none was, and
-    /// where it was taken. Asked for once.
-    pub(crate) fn last_named(&self) -> Option<String> {
-        match self.named.replace(None) {
-            Some(NamedObject { path, .. }) => Some(path),
-            None => None,
-        }
-    }
-
     /// Keeps the object of a unit that an executable names, once it was taken or passed over, and
     /// the unit where it isn't there.
     pub(crate) fn after_unit(&self, unit: DwarfObject, is_there: bool, now: Holding<'_>) {
@@ -177,22 +168,17 @@ impl Notes {
         }
         match unit {
             DwarfObject::Compilation(unit) if !is_there => {
-                self.keep_absent(unit, executable.as_str(), object);
+                let (path, unread) = match object {
+                    Some(NamedObject { path, unread }) => (Some(path), unread),
+                    None => (None, None),
+                };
+                let mut absent = self.absent_units();
+                let _ = absent.add(unit.0, executable.as_str(), path, unread);
+                self.absent.set(absent);
             }
             _ => {}
         }
         self.own.set(Some(executable));
-    }
-
-    /// Keeps a unit that isn't there once its object was taken, or passed over.
-    fn keep_absent(&self, unit: DwoId, executable: &str, object: Option<NamedObject>) {
-        let (path, unread) = match object {
-            Some(NamedObject { path, unread }) => (Some(path), unread),
-            None => (None, None),
-        };
-        let mut absent = self.absent_units();
-        let _ = absent.add(unit.0, executable, path, unread);
-        self.absent.set(absent);
     }
 
     /// The units that executables name and that weren't there once their objects were taken. Asked
@@ -238,23 +224,17 @@ impl Notes {
         self.origins.set(Some(origins));
     }
 
-    /// What brought the unit at a place among the package's, as it is printed; none where that
-    /// isn't known.
-    pub(crate) fn origin_of(&self, place: usize) -> Option<String> {
-        let mut origin = String::new(self.alloc);
-        self.put_origin("", place, &mut origin).ok()?;
-        if origin.is_empty() {
-            return None;
-        }
-        Some(origin)
-    }
-
     /// Adds words and what brought the unit at a place to a line, where that is known: the first
     /// behind which the package has more units than stand before it. Their numbers grow.
     ///
     /// # Errors
     /// Want of memory.
-    fn put_origin(&self, words: &str, place: usize, line: &mut String) -> Result<(), AllocError> {
+    pub(crate) fn put_origin(
+        &self,
+        words: &str,
+        place: usize,
+        line: &mut String,
+    ) -> Result<(), AllocError> {
         let Some(origins) = self.origins.replace(None) else {
             return Ok(());
         };

@@ -1,9 +1,10 @@
 //! `thorin pack`: what it is asked for, and the inputs and the package of that.
 
-ghost use Rattle.std.specs.Prelude.{◌≡◌, ◌⊎◌, ◌≤◌, Ok, Some, IfOk, IfErr, map, string_bytes};
-ghost use Rattle.std.specs.Prelude.{true, false, IsTrue, option_map};
+ghost use Rattle.std.specs.Prelude.{◌≡◌, ◌⊎◌, ◌≤◌, Ok, Some, IfOk, IfErr, OnOk, OnErr, map};
+ghost use Rattle.std.specs.Prelude.{true, false, IsTrue, option_map, string_bytes};
+ghost use Rattle.dwp_elf.specs.FileText.{file_text};
 ghost use Rattle.std.specs.Path.{path_bytes};
-ghost use Rattle.thorin_output.specs.Files.{Put, Begins};
+ghost use Rattle.thorin_output.specs.Files.{IsCutShort, IsUnwritten, IsWhyUnwritten, Put, Begins};
 ghost use Rattle.thorin_commands.specs.Cause.{IsCauseFor, Refuses, Told, Unfinished};
 ghost use Rattle.thorin_commands.specs.Failing.{FailsPacking, LeadTo};
 ghost use Rattle.thorin_errors.specs.declared.error.Error.TheVariants.{NoOutputObjectCreated};
@@ -208,30 +209,65 @@ pub fn pack<F: FileSystem, O: Write, E: LineOutput>(
         → (files.new ≡ files.old) ⊎ IsNoInput (F.known files.old) packing.now }
 {
     let output = packing.output_name(alloc)?;
-    let name = output.as_str();
-    if packing.overwrites(files, name) {
+    if packing.overwrites(files, output.as_str()) {
         return Err(Failure::Overwrites);
     }
     match packed(alloc, files, packing, err) {
-        Ok((object, differing, lines)) => {
-            let warned = Warned {
-                alloc,
-                lines: lines.as_str(),
-                differing: differing.as_slice(),
-                warnings: packing.warnings_left(),
-            };
-            match write_then_warn(files, &object, warned, name, out, err) {
-                Ok(()) => Ok(0),
+        Ok(made) => match write_made(alloc, files, made, packing, output, out, err) {
+            Ok(()) => Ok(0),
+            Err(failure) => Err(failure),
+        },
+        Err(NoPackage::Empty) => {
+            let error = Error::NoOutputObjectCreated;
+            let told = print_error(alloc, &error, err);
+            drop(error);
+            match told {
+                Ok(()) => Ok(1),
                 Err(failure) => Err(failure),
             }
         }
-        Err(NoPackage::Empty) => match print_error(alloc, &Error::NoOutputObjectCreated, err) {
-            Ok(()) => Ok(1),
-            Err(failure) => Err(failure),
-        },
         Err(NoPackage::Told) => Ok(1),
         Err(NoPackage::Command(failure)) => Err(failure),
     }
+}
+
+/// Writes an object that was made to OUT, and prints its lines and the warnings of type units that
+/// differ.
+///
+/// # Errors
+/// `Output`, `Line` or `Memory`.
+fn write_made<F: FileSystem, O: Write, E: LineOutput>(
+    alloc: Global,
+    files: &mut F,
+    made: (WritableObject, Vec<DebugTypeSignature>, String),
+    packing: &Packing<'_, '_>,
+    output: String,
+    out: &mut O,
+    err: &mut E,
+) -> Result<(), Failure>
+    requires { out_of packing.now ≡ Some (string_bytes output) }
+    ensures done { OnOk result (Put F.begun O.contents files.old files.new out.old out.new
+        (string_bytes output) (file_text made.0)) }
+    ensures warned { OnOk result ((before : _) → IsReady (reads packing.now (F.offer files.old))
+        packing.now before (E.contents err.old) made.0 made.1.items (string_bytes made.2)
+        → PacksTelling (reads packing.now (F.offer files.old)) packing.now
+        (Put F.begun O.contents files.old files.new out.old out.new) before (E.contents err.new)) }
+    ensures begun { OnErr result (Begins F.begun O.contents files.old files.new out.old out.new
+        (string_bytes output) (file_text made.0)) }
+    ensures why { IfErr result (IsWhyUnwritten
+        (IsUnwritten F.begun files.old files.new out.old out.new (string_bytes output))
+        (IsCutShort O.contents files.old files.new out.old out.new (string_bytes output)
+        (file_text made.0)) (E.failed err.new)) }
+{
+    let (object, differing, lines) = made;
+    let name = output.as_str();
+    let warned = Warned {
+        alloc,
+        lines: lines.as_str(),
+        differing: differing.as_slice(),
+        warnings: packing.warnings_left(),
+    };
+    write_then_warn(files, &object, warned, name, out, err)
 }
 
 /// The object to be written for what is asked for, the signatures of type units that were passed
@@ -353,12 +389,12 @@ pub(crate) fn path_of(input: Input<'_>) -> Option<Path<'_>>
     }
 }
 
-/// The path of an input that is an executable.
-pub(crate) fn executable_of(input: Input<'_>) -> Option<Path<'_>> {
-    match input {
-        Input::Executable(path, _) | Input::ExecutableSkippingNameless(path, _) => Some(path),
-        Input::Object(_) | Input::Bytes(_) => None,
-    }
+/// Whether an input is an executable.
+pub(crate) fn is_executable(input: Input<'_>) -> bool {
+    matches!(
+        input,
+        Input::Executable(..) | Input::ExecutableSkippingNameless(..)
+    )
 }
 
 /// The objects, and then the executables.

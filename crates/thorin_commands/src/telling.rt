@@ -13,7 +13,7 @@ ghost use Rattle.thorin_commands.specs.Warned.{path_of, unit_line};
 
 use crate::making::Attempt;
 use crate::notes::unit_count;
-use crate::packing::{executable_of, path_of};
+use crate::packing::{is_executable, path_of};
 use crate::reading::Inputs;
 use dwp_bytes::RelocationEntry;
 use std::alloc::{AllocError, Global};
@@ -156,15 +156,15 @@ fn warn_for<I: Inputs, E: LineOutput>(
     let Some(path) = path_of(input) else {
         return Ok(());
     };
-    let is_executable = executable_of(input).is_some();
+    let of_executable = is_executable(input);
     match lack {
         Lack::Types => {}
         _ if count > 0 => return Ok(()),
-        _ if is_one_split && is_executable => return Ok(()),
+        _ if is_one_split && of_executable => return Ok(()),
         _ => {}
     }
     let name = shown(alloc, path.path_text())?;
-    let lack = if is_executable {
+    let lack = if of_executable {
         lack_at(alloc, inputs, input, path)
     } else {
         lack
@@ -205,15 +205,20 @@ pub(crate) fn tell_refused<I: Inputs, E: LineOutput>(
     ensures told { OnOk result (Tells E.contents err.new (refusal_text why.now)) }
     ensures blamed { IfErr result (FailsBy (E.failed err.new)) }
 {
-    let named = inputs.notes().last_named();
+    let object = inputs.notes().named.replace(None);
+    let named = match &object {
+        Some(object) => Some(object.path.as_str()),
+        None => None,
+    };
     let place = match path_of(input) {
-        Some(path) => place_of(alloc, path.path_text(), named.as_deref()).ok(),
+        Some(path) => place_of(alloc, path.path_text(), named).ok(),
         None => None,
     };
     tell_why(alloc, inputs, why, place.as_deref(), before, err)
 }
 
-/// Prints why an input or a member of one was refused, and a note on the place.
+/// Prints why an input or a member of one was refused, its error or why it is declined, and a note on
+/// the place.
 ///
 /// # Errors
 /// `Line` or `Memory`.
@@ -229,7 +234,10 @@ pub(crate) fn tell_why<I: Inputs, E: LineOutput>(
     ensures told { OnOk result (Tells E.contents err.new (refusal_text why.now)) }
     ensures blamed { IfErr result (FailsBy (E.failed err.new)) }
 {
-    tell_error(alloc, why, err)?;
+    match why {
+        NotTaken::Failed(error) => print_error(alloc, error, err)?,
+        NotTaken::Declined(growth) => put_error(alloc, growth.error(), err)?,
+    }
     let mut notes = Vec::new(alloc);
     if let Some(place) = place {
         note_why(alloc, inputs, why, place, before, &mut notes);
@@ -244,24 +252,6 @@ pub(crate) fn put_notes<E: LineOutput>(notes: &[u8], err: &mut E)
 {
     if let Ok(text) = str::from_utf8(notes) {
         let _ = err.print_text(text);
-    }
-}
-
-/// Prints why an input or a member of one was refused: its error, or why it is declined.
-///
-/// # Errors
-/// `Line` or `Memory`.
-fn tell_error<E: LineOutput>(
-    alloc: Global,
-    why: &NotTaken<Error, Growth>,
-    err: &mut E,
-) -> Result<(), Failure>
-    ensures told { OnOk result (Tells E.contents err.new (refusal_text why.now)) }
-    ensures blamed { IfErr result (FailsBy (E.failed err.new)) }
-{
-    match why {
-        NotTaken::Failed(error) => print_error(alloc, error, err),
-        NotTaken::Declined(growth) => put_error(alloc, growth.error(), err),
     }
 }
 
@@ -283,10 +273,15 @@ fn note_why<I: Inputs>(
         },
         NotTaken::Failed(Error::MixedInputEncodings) => note_encodings(inputs, Some(place), notes),
         NotTaken::Failed(Error::DuplicateUnit(unit)) => match before {
-            Some(before) => match inputs.notes().origin_of(before) {
-                Some(first) => note_before(*unit, place, first.as_str(), notes),
-                None => note_alone(place, notes),
-            },
+            Some(before) => {
+                let mut first = String::new(alloc);
+                match inputs.notes().put_origin("", before, &mut first) {
+                    Ok(()) if !first.is_empty() => {
+                        note_before(*unit, place, first.as_str(), notes);
+                    }
+                    _ => note_alone(place, notes),
+                }
+            }
             None => note_twice_in(*unit, place, notes),
         },
         NotTaken::Failed(error) => {
