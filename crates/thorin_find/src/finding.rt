@@ -166,15 +166,15 @@ fn wanted_of(string: Option<&str>, section: Option<&str>) -> Result<Wanted, Fail
             if text.is_empty() || text.as_bytes()[0] == b'+' {
                 return Err(Failure::BadNumber);
             }
-            match u64::from_str_radix(text, 10) {
-                Ok(n) => Ok(Wanted::StringOf(n)),
-                Err(_) => Err(Failure::BadNumber),
-            }
+            let number = u64::from_str_radix(text, 10)
+                .ok()
+                .ok_or(Failure::BadNumber)?;
+            Ok(Wanted::StringOf(number))
         }
-        (None, Some(text)) => match SectionKind::of_short_name(text) {
-            Some(kind) => Ok(Wanted::Bytes(kind)),
-            None => Err(Failure::BadSection),
-        },
+        (None, Some(text)) => {
+            let kind = SectionKind::of_short_name(text).ok_or(Failure::BadSection)?;
+            Ok(Wanted::Bytes(kind))
+        }
         (None, None) => Ok(Wanted::AllOf),
     }
 }
@@ -185,14 +185,8 @@ fn identifier(text: &str) -> Result<u64, Failure>
     ensures { MatchResult result (Writes text.now)
         (λ failure. (failure ≡ failures.BadIdentifier) × WritesNone text.now) }
 {
-    let digits = match text.strip_prefix("0x") {
-        Some(digits) => digits,
-        None => text,
-    };
-    match hexadecimal(digits) {
-        Some(n) => Ok(n),
-        None => Err(Failure::BadIdentifier),
-    }
+    let digits = text.strip_prefix("0x").unwrap_or(text);
+    hexadecimal(digits).ok_or(Failure::BadIdentifier)
 }
 
 /// Adds all that is told of a unit: in lines, or as a JSON object.

@@ -5,7 +5,7 @@ ghost use Rattle.dwp_index.specs.Entries.{entries_from};
 ghost use Rattle.dwp_index.specs.Package.{found};
 ghost use Rattle.thorin_find.specs.Listing.{place_by, AreByRow, range_size, range_sizes, front_of};
 ghost use Rattle.thorin_find.specs.Listing.{unit_names, view_of, unit_line, AddsLine, lines_of};
-ghost use Rattle.thorin_find.specs.Listing.{answer_of, IsListedIn, PrintsFront, PrintsLines};
+ghost use Rattle.thorin_find.specs.Listing.{IsListedIn, PrintsFront, PrintsLines};
 ghost use Rattle.thorin_find.specs.Listing.{Begins, ListsPackage, Lists};
 
 use crate::files::{FileReader, read_named};
@@ -114,7 +114,11 @@ fn put_rest(
         (record { printed = string_bytes text.old; is_all = is_all })
         (record { printed = string_bytes text.new; answer = given })) }
 {
-    let given = answer_of(is_all);
+    let given = if is_all {
+        Ok(0)
+    } else {
+        Err(Failure::Malformed)
+    };
     if listed.form.columns {
         put_sheet(listed, is_all, ranges, text)?;
     } else if is_all && listed.form.sizes {
@@ -122,17 +126,6 @@ fn put_rest(
         put_totals(totals.as_slice(), listed.form.form, text)?;
     }
     Ok(given)
-}
-
-/// What is answered, where all units could be looked up or not.
-fn answer_of(is_all: bool) -> Result<u8, Failure>
-    ensures { result ≡ answer_of is_all }
-{
-    if is_all {
-        Ok(0)
-    } else {
-        Err(Failure::Malformed)
-    }
 }
 
 /// Adds the columns of the units that were gathered, and of totals where these are all.

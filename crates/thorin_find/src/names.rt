@@ -3,12 +3,11 @@
 ghost use Rattle.std.specs.Prelude.{◌≡◌, option_map};
 ghost use Rattle.std.specs.Option.{option_copied, option_and_then};
 ghost use Rattle.std.specs.Result.{result_ok};
-ghost use Rattle.dwp_base.specs.Reading.{Answers};
 ghost use Rattle.dwp_bytes.specs.Input.{front};
 ghost use Rattle.dwp_dwarf.specs.Attributes.{attribute_of, attributes_left, entry_of, root_of};
 ghost use Rattle.dwp_units.specs.Units.{unit_of};
 ghost use Rattle.thorin_find.specs.Names as spec;
-ghost use Rattle.thorin_find.specs.Names.{header_in, unit_die, die_of, named, short_string_at};
+ghost use Rattle.thorin_find.specs.Names.{header_in, die_of, named, short_string_at};
 ghost use Rattle.thorin_find.specs.Names.{string_number, string_of, object_in, source_name};
 ghost use Rattle.thorin_find.specs.Names.{object_name};
 
@@ -138,15 +137,13 @@ pub fn header_of<'a>(
 {
     let reader = SliceReader::new(unit.bytes(), order);
     let place = place_of(object, unit.range(SectionKind::Types));
-    match UnitHeaders::new(reader, place).next() {
-        Some(Ok(header)) => Ok(header),
-        Some(Err(error)) => Err(error),
-        None => Err(ReadError::UnexpectedEof),
-    }
+    UnitHeaders::new(reader, place)
+        .next()
+        .ok_or(ReadError::UnexpectedEof)?
 }
 
 /// The unit DIE of a unit, where it can be read.
-#[tactic(auto, unfolding(crate::specs::Names::die_of))]
+#[tactic(auto, unfolding(crate::specs::Names::die_of, crate::specs::Names::unit_die, crate::specs::Names::table_at))]
 fn die_of<'a>(
     order: Endianness,
     object: DwarfObject,
@@ -155,31 +152,12 @@ fn die_of<'a>(
     ensures { root_of ⟦<SliceReader<'a> as Reader>⟧.input result ≡ die_of order object unit.now }
 {
     let header = header_of(unit, object, order).ok()?;
-    let abbreviations = SliceReader::new(unit.section(SectionKind::Abbrev), order);
-    match unit_die(abbreviations, &header) {
-        Ok(die) => die,
-        Err(_) => None,
-    }
-}
-
-/// The unit DIE of a unit with this header.
-#[tactic(auto, unfolding(crate::specs::Names::unit_die, crate::specs::Names::table_at))]
-fn unit_die<R: Reader>(
-    mut abbreviations: R,
-    header: &UnitHeader<R>,
-) -> Result<Option<RootEntry<R>>, ReadError>
-    ensures { Answers (root_of R.input) result
-        (unit_die (R.input abbreviations) (unit_of R.input header.now)) }
-{
-    let Some((code, values)) = header.root_code()? else {
-        return Ok(None);
-    };
-    abbreviations.skip(header.abbrev_offset() as usize)?;
-    let table = Abbreviations::new(beginning(abbreviations), 0)?;
-    match table.get(code)? {
-        None => Ok(None),
-        Some(abbreviation) => Ok(Some(abbreviation.entry(header.encoding(), beginning(values)))),
-    }
+    let (code, values) = header.root_code().ok()??;
+    let mut abbreviations = SliceReader::new(unit.section(SectionKind::Abbrev), order);
+    abbreviations.skip(header.abbrev_offset() as usize).ok()?;
+    let table = Abbreviations::new(beginning(abbreviations), 0).ok()?;
+    let abbreviation = table.get(code).ok()??;
+    Some(abbreviation.entry(header.encoding(), beginning(values)))
 }
 
 /// What is read at most.
@@ -215,11 +193,6 @@ fn string_number<R: Reader>(attribute: &Attribute<R>) -> Option<u64>
 fn short_string_at(strings: &[u8], offset: u64) -> Option<&[u8]>
     ensures { option_copied result ≡ short_string_at strings.now offset }
 {
-    let len = strings.len() as u64;
-    let near = if offset < len && MOST_NAMED < len - offset {
-        &strings[..(offset + MOST_NAMED) as usize]
-    } else {
-        strings
-    };
-    string_at(near, offset).ok()
+    let end = offset.saturating_add(MOST_NAMED).min(strings.len() as u64);
+    string_at(&strings[..end as usize], offset).ok()
 }

@@ -101,14 +101,6 @@ impl UnitRanges {
         Ok(())
     }
 
-    /// The size of a unit's range of a section, where it has one; before totals are made.
-    fn size_of(&self, unit: UnitSizes, kind: SectionKind) -> Option<u64> {
-        let section = kind.rank();
-        let ranges = self.ranges.get(unit.first..unit.end)?;
-        let range = ranges.iter().find(|range| range.section == section)?;
-        Some(range.size)
-    }
-
     /// The totals of a package: of each section that isn't empty its bytes in the file; for a
     /// section that units have ranges of, also the bytes of its distinct ranges, and how many more
     /// all ranges have together. Then how many bytes the file has.
@@ -119,12 +111,20 @@ impl UnitRanges {
     ) -> Result<Vec<Total>, AllocError> {
         self.ranges.sort_unstable();
         let mut totals = Vec::new(*self.ranges.allocator());
-        for kind in &CONTRIBUTION_KINDS {
-            let ranges = self.range_total(kind.rank());
-            push_total(pack, *kind, Some(ranges), &mut totals)?;
-        }
-        for kind in &[SectionKind::Str, SectionKind::CuIndex, SectionKind::TuIndex] {
-            push_total(pack, *kind, None, &mut totals)?;
+        let others = [SectionKind::Str, SectionKind::CuIndex, SectionKind::TuIndex];
+        for kind in CONTRIBUTION_KINDS.iter().chain(&others) {
+            let size = pack.content(*kind).len() as u64;
+            if size != 0 {
+                totals.push(Total {
+                    name: kind.short_name(),
+                    size,
+                    ranges: if others.contains(kind) {
+                        None
+                    } else {
+                        Some(self.range_total(kind.rank()))
+                    },
+                })?;
+            }
         }
         totals.push(Total {
             name: "file",
@@ -154,24 +154,6 @@ impl UnitRanges {
     }
 }
 
-/// Adds the total of a section, where it isn't empty.
-fn push_total(
-    pack: &PackageFile<'_>,
-    kind: SectionKind,
-    ranges: Option<RangeTotal>,
-    totals: &mut Vec<Total>,
-) -> Result<(), AllocError> {
-    let size = pack.content(kind).len() as u64;
-    if size != 0 {
-        totals.push(Total {
-            name: kind.short_name(),
-            size,
-            ranges,
-        })?;
-    }
-    Ok(())
-}
-
 /// Adds totals.
 pub(crate) fn put_totals(totals: &[Total], form: Form, text: &mut String) -> Result<(), AllocError>
     ensures { OnOk result ((totals : List ℕ)
@@ -183,15 +165,11 @@ pub(crate) fn put_totals(totals: &[Total], form: Form, text: &mut String) -> Res
         let size = total.size;
         match (form, total.ranges) {
             (Form::Lines, None) => writeln!(added, "total {name} {size}")?,
-            (Form::Lines, Some(ranges)) => {
-                let once = ranges.once;
-                let shared = ranges.shared;
+            (Form::Lines, Some(RangeTotal { once, shared })) => {
                 writeln!(added, "total {name} {size} units {once} shared {shared}")?;
             }
             (Form::Json, None) => writeln!(added, "{{\"total\":\"{name}\",\"size\":{size}}}")?,
-            (Form::Json, Some(ranges)) => {
-                let once = ranges.once;
-                let shared = ranges.shared;
+            (Form::Json, Some(RangeTotal { once, shared })) => {
                 writeln!(
                     added,
                     "{{\"total\":\"{name}\",\"size\":{size},\"units\":{once},\"shared\":{shared}}}"
@@ -226,9 +204,11 @@ pub(crate) fn put_unit_rows(ranges: &UnitRanges, text: &mut String) -> Result<()
         push(&short_kind(unit.object), &mut cells)?;
         cells.push(format!(in alloc; "0x{id:016x}")?)?;
         push(&unit.size, &mut cells)?;
+        let own = ranges.ranges.get(unit.first..unit.end).unwrap_or(&[]);
         for kind in &kinds {
-            match ranges.size_of(*unit, *kind) {
-                Some(size) => push(&size, &mut cells)?,
+            let section = kind.rank();
+            match own.iter().find(|range| range.section == section) {
+                Some(range) => push(&range.size, &mut cells)?,
                 None => push(&"-", &mut cells)?,
             }
         }
