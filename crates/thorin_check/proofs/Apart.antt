@@ -1,13 +1,13 @@
 -- Ranges that don't overlap, unless they are the same, and are read alike.
-use Rattle.std.proofs.Common.{◌≡◌, ◌⊎◌, ◌∙◌, ℕ, ◌+◌, ◌-◌, ◌^◌, ◌<◌, ◌≤◌, min, true, false, List, []}
-use Rattle.std.proofs.Common.{◌∷◌, length, get_or, take, Option, Some, None, Result, Ok, Err, Bool}
-use Rattle.std.proofs.Common.{◌||◌, not, refl, sym, inl, inr, arith, below_more, nat_eq}
+use Rattle.std.proofs.Common.{◌≡◌, ◌⊎◌, ◌∙◌, ℕ, ◌+◌, ◌-◌, ◌^◌, ◌<◌, ◌≤◌, min, true, false, List}
+use Rattle.std.proofs.Common.{length, get_or, take, Option, Some, None, Result, Ok, Err, Bool}
+use Rattle.std.proofs.Common.{◌||◌, ◌&&◌, nat_le, nat_lt, not, refl, sym, inl, inr, arith, below_more, nat_eq}
 use Rattle.std.specs.List.{AllPairs, Contains}
 use Rattle.std.specs.List.Sorted.{IsPermutation}
 use Rattle.std.proofs.lemmas.Bool.Decides.{nat_tests}
 use Rattle.std.proofs.lemmas.Option.{same_Some}
-use Rattle.std.proofs.lemmas.List.{get_or_default, take_more}
-use Rattle.std.proofs.lemmas.List.Elements.{All-nil, All-cons, All-append}
+use Rattle.std.proofs.lemmas.List.{get_or_default}
+use Rattle.std.proofs.lemmas.List.Elements.{All-more}
 use Rattle.std.proofs.lemmas.List.Sorted.{Contains-permutation}
 use Rattle.dwp_base.proofs.Bools.{by-bool}
 use Rattle.dwp_base.specs.declared.section.Contribution.{Contribution}
@@ -87,6 +87,13 @@ gone_more ranges i e lt farthest further before g here more end = record {
       (rw (get_or_default ranges i d e lt) end) k below;
   last = λ range is. (i, refl, λ d. rw (get_or_default ranges i d e lt) is);
 }
+
+-- a range is the same as the one before, or begins behind all, as its tests tell
+pub is_behind : (twin : Bool) (farthest offset : ℕ)
+    → (twin || (nat_le farthest offset && nat_lt farthest (2 ^ 64 - 1))) ≡ true
+    → (twin ≡ true) ⊎ ((farthest ≤ offset) × (farthest < 2 ^ 64 - 1))
+is_behind true farthest offset e = inl refl
+is_behind false farthest offset e = inr (grind (arith, nat_tests))
 
 pub gone_on : (ranges : List Placed) (i : ℕ) (e : Placed) → i < length ranges
     → (farthest further : ℕ) (before : Option Placed) (any twin behind : Bool)
@@ -229,18 +236,12 @@ module _ (pack : Package) (slots : List UnitEntry) (kind : SectionKind) (ranges 
 -- one section more
 module _ (pack : Package) (slots : List UnitEntry) (kinds : List SectionKind) (i : ℕ)
     (d : SectionKind) (lt : i < length kinds) where
-  apart_more : AreApart pack slots (take i kinds) → AreApartIn pack slots (get_or kinds i d)
-      → AreApart pack slots (take (i + 1) kinds)
-  apart_more before here =
-      rw (take_more kinds i d lt) (All-append (AreApartIn pack slots) (take i kinds)
-      (get_or kinds i d ∷ []) before (All-cons (AreApartIn pack slots) (get_or kinds i d) [] here
-      (All-nil (AreApartIn pack slots))))
-
   pub apart_on : (any more : Bool) (ranges lent : List Placed) → lent ≡ ranges
       → (any ≡ false → AreApart pack slots (take i kinds))
       → HasRanges pack slots (get_or kinds i d) ranges → (more ≡ false → AllPairs IsApart lent)
       → (any || more) ≡ false → AreApart pack slots (take (i + 1) kinds)
-  apart_on false false ranges lent same before has apart e = apart_more (before refl)
+  apart_on false false ranges lent same before has apart e =
+      All-more (AreApartIn pack slots) kinds i d lt (before refl)
       (slots_apart pack slots (get_or kinds i d) ranges has (rw same at (apart refl)))
   apart_on false true ranges lent same before has apart e = absurd cc
   apart_on true more ranges lent same before has apart e = absurd cc

@@ -1,14 +1,13 @@
 -- Units that are told of, one of each range of string offsets.
-use Rattle.std.proofs.Common.{◌≡◌, ℕ, zero, suc, ◌+◌, ◌<◌, ◌≤◌, List, [], ◌∷◌, ◌++◌, length, take}
+use Rattle.std.proofs.Common.{◌≡◌, ℕ, ◌+◌, ◌<◌, ◌≤◌, List, [], ◌∷◌, ◌++◌, length, take}
 use Rattle.std.proofs.Common.{get_or, Option, Some, None, Result, Ok, Err, refl, sym, ◌∙◌, arith}
-use Rattle.std.proofs.Common.{below_more, Bool, false, ◌&&◌, nat_eq, IfOk, OnOk, String, Global}
+use Rattle.std.proofs.Common.{take_all, Bool, false, ◌&&◌, nat_eq, IfOk, OnOk, String, Global}
 use Rattle.std.proofs.lemmas.Bool.Decides.{nat_tests}
 use Rattle.std.specs.List.{All, AllPairs}
 use Rattle.std.specs.List.Sorted.{IsPermutation}
-use Rattle.std.proofs.lemmas.List.{get_or_default}
-use Rattle.std.proofs.lemmas.List.Elements.{All-get_or, All-nil, All-cons, All-append, All-weaker}
-use Rattle.std.proofs.lemmas.List.Elements.{Contains-append_left, Contains-push}
-use Rattle.std.proofs.lemmas.List.Kept.{AllPairs-cons}
+use Rattle.std.proofs.lemmas.List.Elements.{All-get_or, All-nil, All-push, All-more, All-weaker}
+use Rattle.std.proofs.lemmas.List.Elements.{All-contains, Contains-append_left, Contains-push}
+use Rattle.std.proofs.lemmas.List.Quantifiers.{all_pairs_push}
 use Rattle.std.proofs.lemmas.Option.{same_Some}
 use Rattle.dwp_base.proofs.Steps.{same-ok}
 use Rattle.std.proofs.lemmas.List.Sorted.{Contains-permutation}
@@ -42,16 +41,6 @@ among_more pack objects more range one = record {
   is_range = one.is_range;
 }
 
--- a relation of each of some and each later one holds with one more, if each has it to that
-pairs_more : {X : Type 0} (R : X → X → Type 0) (xs : List X) (x : X) → All (λ a. R a x) xs
-    → AllPairs R xs → AllPairs R (xs ++ (x ∷ []))
-pairs_more R [] x each h = λ i j d lt within. absurd (omega arith)
-pairs_more R (y ∷ ys) x each h = AllPairs-cons R y (ys ++ (x ∷ []))
-    (All-append (R y) ys (x ∷ []) (λ i d lt. h zero (suc i) d (omega arith) (omega arith))
-    (All-cons (R y) x [] (each zero y (omega arith)) (All-nil (R y))))
-    (pairs_more R ys x (λ i d lt. each (suc i) d (omega arith))
-    (λ i j d lt within. h (suc i) (suc j) d (omega arith) (omega arith)))
-
 -- a unit has no string offsets behind some, if there are some
 abbrev pub IsUpTo : Package → Option StringRange → DwarfObject → Type 0
 IsUpTo pack None object = ⊥
@@ -84,6 +73,10 @@ module _ (pack : Package) (range : StringRange) (object : DwarfObject)
       absurd (omega arith)
 
 module _ (pack : Package) (listed : Listed) where
+  -- listed string offsets are those of one of these units
+  abbrev pub IsOneOf : List DwarfObject → StringRange × DwarfObject → Type 0
+  IsOneOf objects one = IsRangeOfOne pack objects one.0
+
   -- what was told of the strings of the first so many, each range's once
   pub record TellsFirst (i : ℕ) (before : Option StringRange) (faults : List FaultValue)
       : Type 0 where
@@ -92,8 +85,7 @@ module _ (pack : Package) (listed : Listed) where
     pub up_to : All (IsUpTo pack before) objects
     pub last : (range : StringRange) → before ≡ Some range → IsRangeOfOne pack objects range
     pub told : TellsStringsOfAll pack objects faults
-    pub others : (k : ℕ) (d : StringRange × DwarfObject) → k < i
-        → IsRangeOfOne pack objects (get_or listed k d).0
+    pub others : All (IsOneOf objects) (take i listed)
 
   pub first_none : TellsFirst 0 None []
   first_none = record {
@@ -102,21 +94,11 @@ module _ (pack : Package) (listed : Listed) where
     up_to = All-nil (IsUpTo pack None);
     last = λ range e. absurd cc;
     told = refl;
-    others = λ k d lt. absurd (omega arith);
+    others = All-nil (IsOneOf []);
   }
 
   module _ (i : ℕ) (e : StringRange × DwarfObject) (lt : i < length listed)
       (before : Option StringRange) where
-    -- the next one has the range of one of these, as those before it have
-    one_further : (objects : List DwarfObject)
-        → ((k : ℕ) (d : StringRange × DwarfObject) → k < i
-        → IsRangeOfOne pack objects (get_or listed k d).0)
-        → IsRangeOfOne pack objects (get_or listed i e).0 → (k : ℕ) (d : StringRange × DwarfObject)
-        → k < i + 1 → IsRangeOfOne pack objects (get_or listed k d).0
-    one_further objects all this k d below = below_more
-        (λ k. (d : StringRange × DwarfObject) → IsRangeOfOne pack objects (get_or listed k d).0)
-        i (λ k h d. all k d h) (λ d. rw (get_or_default listed i d e lt) this) k below d
-
     -- those of the next one have the range before
     pub first_again : before ≡ Some (get_or listed i e).0 → (faults : List FaultValue)
         → TellsFirst i before faults → TellsFirst (i + 1) before faults
@@ -126,7 +108,8 @@ module _ (pack : Package) (listed : Listed) where
       up_to = t.up_to;
       last = t.last;
       told = t.told;
-      others = one_further t.objects t.others (t.last (get_or listed i e).0 same);
+      others = All-more (IsOneOf t.objects) listed i e lt t.others
+          (t.last (get_or listed i e).0 same);
     }
 
     -- those of the next one were told of
@@ -147,19 +130,19 @@ module _ (pack : Package) (listed : Listed) where
         } in
         record {
           objects = t.objects ++ (object ∷ []);
-          once = pairs_more (ShareNone pack) t.objects object
+          once = all_pairs_push (ShareNone pack) t.objects object t.once
               (All-weaker (IsUpTo pack before) (λ other. ShareNone pack other object)
-              (shares_none pack range object is before behind) t.objects t.up_to) t.once;
-          up_to = All-append (IsUpTo pack (Some range)) t.objects (object ∷ [])
+              (shares_none pack range object is before behind) t.objects t.up_to);
+          up_to = All-push (IsUpTo pack (Some range)) t.objects object
               (All-weaker (IsUpTo pack before) (IsUpTo pack (Some range))
               (up_to_next pack range object is before behind) t.objects t.up_to)
-              (All-cons (IsUpTo pack (Some range)) object [] (up_to_this pack range object is)
-              (All-nil (IsUpTo pack (Some range))));
+              (up_to_this pack range object is);
           last = λ other e. rw (← same_Some range other e) here;
           told = for_each_more (λ object. TellsStringsOf object (found pack object)) t.objects
               object faults more t.told told;
-          others = one_further (t.objects ++ (object ∷ []))
-              (λ k d h. among_more pack t.objects _ (get_or listed k d).0 (t.others k d h)) here;
+          others = All-more (IsOneOf (t.objects ++ (object ∷ []))) listed i e lt
+              (All-weaker (IsOneOf t.objects) (IsOneOf (t.objects ++ (object ∷ [])))
+              (λ one. among_more pack t.objects (object ∷ []) one.0) (take i listed) t.others) here;
         }
 
   pub first_all : (i : ℕ) (before : Option StringRange) → length listed ≤ i
@@ -168,10 +151,8 @@ module _ (pack : Package) (listed : Listed) where
     objects = t.objects;
     once = t.once;
     told = t.told;
-    others = λ range there.
-        let lt = there.1.1 in
-        let one = t.others there.1.0 (range, there.0) (omega arith) in
-        rw there.1.2 at one;
+    others = λ range there. All-contains (IsOneOf t.objects) listed (range, there.0)
+        (rw (take_all i listed le) at t.others) there.1;
   }
 
 -- the same of those in another order

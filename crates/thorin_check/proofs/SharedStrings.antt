@@ -21,7 +21,7 @@ use Rattle.dwp_table.specs.declared.object.DwarfObject.{DwarfObject}
 use Rattle.thorin_check.specs.Ends.{IsReach, HasEnds, is_inside, AllEnd}
 use Rattle.thorin_check.specs.declared.strings.Ends.{Ends}
 use Rattle.std.proofs.lemmas.Option.{same_Some}
-use Rattle.std.proofs.lemmas.List.Elements.{All-nil, All-append, All-cons, Contains-append_left}
+use Rattle.std.proofs.lemmas.List.Elements.{All-nil, All-push, Contains-append_left}
 use Rattle.std.proofs.lemmas.List.Elements.{Contains-push}
 use Rattle.dwp_base.specs.declared.section.Contribution.{Contribution}
 use Rattle.dwp_bytes.specs.declared.encoding.Format.{Format}
@@ -223,9 +223,8 @@ module _ (pack : Package) (old : UnreadStrings) (unit : FoundUnit) (object : Dwa
           gathers = record {
             ends = rw ends g.ends;
             last = λ other e. rw (← same_Some range other (sym last ∙ e)) here;
-            are = rw unread (All-append (IsOfUnit pack) old.unread.items _ g.are
-                (All-cons (IsOfUnit pack) (range, object) [] (unit, is, sym has)
-                (All-nil (IsOfUnit pack))));
+            are = rw unread (All-push (IsOfUnit pack) old.unread.items (range, object) g.are
+                (unit, is, sym has));
           };
           kept = λ other there.
               rw unread (kept_behind pack old.unread.items _ other there);

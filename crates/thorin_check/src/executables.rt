@@ -3,19 +3,17 @@
 ghost use Rattle.std.specs.Prelude.{◌≡◌, ◌≢◌, ◌<◌, ◌≤◌, ◌+◌, true, false, length, IfOk, OnOk};
 ghost use Rattle.std.specs.Prelude.{string_bytes};
 ghost use Rattle.dwp_index.specs.Package.{found};
-ghost use Rattle.thorin_executable.specs.Skeletons.{skeletons_by};
 ghost use Rattle.thorin_errors.specs.declared.error.Error.TheVariants.{Memory};
 ghost use Rattle.thorin_check.specs.Checking.{IsOfChecking, IsOfReading, TellsExecutables};
 ghost use Rattle.thorin_check.specs.Checking.{TellsExecutable};
 ghost use Rattle.thorin_check.specs.Faults.{TellsNamed, missing_text, missing_faults, IsBroken};
-ghost use Rattle.thorin_check.specs.Faults.{longest_path, long_size, room_of};
+ghost use Rattle.thorin_check.specs.Faults.{longest_path, long_size};
 ghost use Rattle.thorin_check.specs.Rendering.{of_executable};
 ghost use Rattle.thorin_print.specs.Shown.{shown};
 ghost use Rattle.thorin_check.specs.Telling.{so_far, Tells, TellsOr, Is, IsFault};
 
 use crate::faults::{Fault, Faults, some, tell, tell_fault};
 use bumpalo::Bump;
-use dwp_bytes::RelocationEntry;
 use dwp_index::PackageFile;
 use dwp_table::DwarfObject;
 use std::alloc::{AllocError, Global};
@@ -24,7 +22,7 @@ use thorin_errors::Error;
 use thorin_executable::{NamedUnits, NamelessUnits};
 use thorin_find::{FileReader, read_named};
 use thorin_print::{Failure, Form, shown, shown_briefly};
-use thorin_sessions::{BytesSession, Session};
+use thorin_sessions::BytesSession;
 use thorin_words::printed;
 
 /// The longest path that Linux opens: its PATH_MAX (limits.h) counts a zero byte behind it.
@@ -100,34 +98,11 @@ fn check_executable<F: FileReader, O: Write>(
         naming.entry.executable.now)
         (so_far (O.contents out.old) faults.old) (so_far (O.contents out.new) faults.new) result }
 {
-    let bytes = read_named(files, naming.executable)?;
+    let read = read_named(files, naming.executable)?;
+    let bytes = read.as_slice();
     let bump = Bump::new(alloc);
     let session = BytesSession::new(&bump);
-    check_named(
-        &session,
-        naming,
-        bytes.as_slice(),
-        reading.nameless,
-        faults,
-        out,
-    )
-}
-
-/// Checks what the bytes of an executable name; the session holds what is made of them.
-fn check_named<'s, Sess: Session<RelocationEntry>, O: Write>(
-    session: &'s Sess,
-    naming: Naming<'_, '_>,
-    bytes: &'s [u8],
-    nameless: NamelessUnits,
-    faults: &mut Faults,
-    out: &mut O,
-) -> Result<(), Failure>
-    ensures { Tells (TellsNamed naming.entry.pack.now naming.entry.executable.now
-        (room_of bytes.now) (skeletons_by nameless bytes.now))
-        (so_far (O.contents out.old) faults.old) (so_far (O.contents out.new) faults.new) result }
-{
-    let alloc = *faults.waiting.allocator();
-    match NamedUnits::read_by(alloc, session, bytes, nameless) {
+    match NamedUnits::read_by(alloc, &session, bytes, reading.nameless) {
         Ok(mut units) => {
             let room = bytes.len().max(LEAST_ROOM);
             check_listed(naming, &mut units, room, faults, out)

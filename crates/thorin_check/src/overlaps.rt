@@ -1,7 +1,7 @@
 //! Ranges of units that clash with those of others, in `thorin check`: they overlap, or are the
 //! same bytes of units, and their rows have other abbreviations.
 
-ghost use Rattle.std.specs.Prelude.{◌≡◌, ◌⊎◌, ◌≤◌, ◌<◌, ◌+◌, ◌-◌, ◌^◌, min, true, false, IfOk};
+ghost use Rattle.std.specs.Prelude.{◌≡◌, ◌+◌, ◌-◌, ◌^◌, min, true, false, IfOk};
 ghost use Rattle.std.specs.Prelude.{OnOk};
 ghost use Rattle.std.specs.List.{AllPairs};
 ghost use Rattle.std.specs.List.Sorted.{IsPermutation};
@@ -9,10 +9,9 @@ ghost use Rattle.dwp_table.specs.Columns.{contribution_kinds};
 ghost use Rattle.thorin_check.specs.Apart.{IsApart, IsLast, HasRanges, AreApart};
 ghost use Rattle.thorin_check.specs.Overlaps.{slot_range};
 
-use crate::tables::has_column;
 use crate::units::{has_units, is_same as is_same_range};
 use dwp_base::{Contribution, SectionKind};
-use dwp_index::{PackageFile, Row, UnitEntry};
+use dwp_index::{PackageFile, UnitEntry};
 use dwp_table::{CONTRIBUTION_KINDS, DwarfObject};
 use std::alloc::{AllocError, Global};
 
@@ -27,13 +26,6 @@ struct Placed {
     /// The unit's abbreviations, where the section has the bytes of units.
     tables: Option<Contribution>,
     entry: usize,
-}
-
-/// The ranges that units have of a section.
-#[derive(Drop)]
-struct Column {
-    kind: SectionKind,
-    ranges: Vec<Placed>,
 }
 
 /// What the ranges of a unit have in common with those of others.
@@ -105,7 +97,7 @@ impl Overlaps {
         for range in ranges {
             self.mark_both(kind, before, *range);
             let is_twin = is_last(before, *range);
-            clash |= !is_behind(is_twin, farthest, *range);
+            clash |= !(is_twin | (farthest <= range.offset) & (farthest < u64::MAX));
             farthest = farthest.max(end(*range));
             before = Some(*range);
         }
@@ -125,8 +117,10 @@ impl Overlaps {
         }
     }
 
-    /// Marks each range of the units that are found in the row of their entry that seems to clash
-    /// with one of another.
+    /// Marks each range of the units that are found in the row of their entry that another of these
+    /// seems to overlap, and then those that are read otherwise. Sorted by their places, a range
+    /// overlaps one before it where the farthest end before is past its place, and one behind it
+    /// where the next place is before its end.
     fn find_clashes(
         &mut self,
         alloc: Global,
@@ -134,43 +128,23 @@ impl Overlaps {
         entries: &[UnitEntry],
     ) -> Result<(), AllocError> {
         self.clashes.resize(entries.len(), None)?;
+        let mut found = Vec::new(alloc);
+        for entry in entries {
+            found.push(match pack.find(entry.object) {
+                Ok(Some(unit)) => unit.row() == entry.row,
+                _ => false,
+            })?;
+        }
         let mut columns = Vec::new(alloc);
         for kind in &CONTRIBUTION_KINDS {
-            let compilations = pack.compilation_index();
-            if has_column(compilations, *kind) || has_column(pack.type_index(), *kind) {
-                columns.push(Column {
-                    kind: *kind,
-                    ranges: Vec::new(alloc),
-                })?;
-            }
+            let mut ranges = sorted_ranges(alloc, pack, entries, *kind)?;
+            ranges.retain(|range| found.get(range.entry).copied().unwrap_or(false));
+            self.mark_earlier(*kind, ranges.as_slice(), entries);
+            self.mark_later(*kind, ranges.as_slice(), entries);
+            columns.push((*kind, ranges))?;
         }
-        for entry in 0..entries.len() {
-            if let Ok(Some(unit)) = pack.find(entries[entry].object) {
-                if unit.row() == entries[entry].row {
-                    gather(unit.ranges(), entry, &mut columns)?;
-                }
-            }
-        }
-        self.mark_clashes(&mut columns, entries)
-    }
-
-    /// Marks each range that another seems to overlap, and then those that are read otherwise.
-    /// Sorted by their places, a range overlaps one before it where the farthest end before is past
-    /// its place, and one behind it where the next place is before its end.
-    fn mark_clashes(
-        &mut self,
-        columns: &mut Vec<Column>,
-        entries: &[UnitEntry],
-    ) -> Result<(), AllocError> {
-        for i in 0..columns.len() {
-            if let Some(column) = columns.get_mut(i) {
-                sort(&mut column.ranges)?;
-                self.mark_earlier(column.kind, column.ranges.as_slice(), entries);
-                self.mark_later(column.kind, column.ranges.as_slice(), entries);
-            }
-        }
-        for column in columns {
-            self.mark_others(column.kind, column.ranges.as_slice(), entries);
+        for (kind, ranges) in &columns {
+            self.mark_others(*kind, ranges.as_slice(), entries);
         }
         Ok(())
     }
@@ -283,27 +257,6 @@ fn slot_range(pack: &PackageFile<'_>, slot: UnitEntry, kind: SectionKind) -> Opt
     }
 }
 
-/// Gathers the ranges of a row, of the sections of these columns.
-fn gather(row: &Row<'_>, entry: usize, columns: &mut Vec<Column>) -> Result<(), AllocError> {
-    for i in 0..columns.len() {
-        if let Some(column) = columns.get_mut(i) {
-            if let Some(range) = row.range(column.kind) {
-                column.ranges.push(Placed {
-                    offset: range.offset.0,
-                    size: range.size,
-                    tables: if has_units(column.kind) {
-                        row.range(SectionKind::Abbrev)
-                    } else {
-                        None
-                    },
-                    entry,
-                })?;
-            }
-        }
-    }
-    Ok(())
-}
-
 /// Sorts ranges by their places, unless they are sorted, as mostly in the order of rows.
 fn sort(ranges: &mut Vec<Placed>) -> Result<(), AllocError>
     ensures { OnOk result (IsPermutation ranges.old.items ranges.new.items) }
@@ -333,15 +286,6 @@ fn is_last(before: Option<Placed>, range: Placed) -> bool
         Some(last) => is_same(last, range) && is_same_range(last.tables, range.tables),
         None => false,
     }
-}
-
-/// Whether a range begins behind those before, which end there at the farthest, or is the same as
-/// the one before.
-fn is_behind(is_twin: bool, farthest: u64, range: Placed) -> bool
-    ensures { result ≡ true
-        → (is_twin ≡ true) ⊎ ((farthest ≤ range.offset) × (farthest < 2 ^ 64 - 1)) }
-{
-    is_twin || (farthest <= range.offset && farthest < u64::MAX)
 }
 
 /// Where a range ends, as far as 64 bits go.

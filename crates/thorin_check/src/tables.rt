@@ -38,7 +38,10 @@ pub(crate) fn check_tables<O: Write>(
     check_section(SectionKind::Abbrev, lacks_abbreviations, empty, faults, out)?;
     check_section(SectionKind::Str, lacks_strings, empty, faults, out)?;
     check_indexes(pack, faults, out)?;
-    check_all_rows(pack, indexed.entries, faults, out)
+    let end = end_of(pack.compilation_index());
+    check_rows("cu", false, end, indexed.entries, faults, out)?;
+    let end = end_of(pack.type_index());
+    check_rows("tu", true, end, indexed.entries, faults, out)
 }
 
 /// Tells what is wrong with a section, where something is.
@@ -113,7 +116,7 @@ fn lacks_column(pack: &PackageFile<'_>, kind: SectionKind) -> bool
 }
 
 /// Whether an index has a column for a section.
-pub(crate) fn has_column(index: Option<&UnitIndex<'_>>, kind: SectionKind) -> bool
+fn has_column(index: Option<&UnitIndex<'_>>, kind: SectionKind) -> bool
     ensures { result ≡ has_column kind (option_copied index.entry) }
 {
     match index {
@@ -140,23 +143,6 @@ fn end_of(index: Option<&UnitIndex<'_>>) -> u64
         Some(index) => u64::from(index.unit_count()) + 1,
         None => 1,
     }
-}
-
-/// A slot names each row of both indexes; `entries` are in the order of rows.
-fn check_all_rows<O: Write>(
-    pack: &PackageFile<'_>,
-    entries: &[UnitEntry],
-    faults: &mut Faults,
-    out: &mut O,
-) -> Result<(), Failure>
-    requires { AreByRow pack.now entries.now }
-    ensures { Tells (TellsRows pack.now entries.now) (so_far (O.contents out.old) faults.old)
-        (so_far (O.contents out.new) faults.new) result }
-{
-    let end = end_of(pack.compilation_index());
-    check_rows("cu", false, end, entries, faults, out)?;
-    let end = end_of(pack.type_index());
-    check_rows("tu", true, end, entries, faults, out)
 }
 
 /// A slot names each row of an index up to its end: tells each row before that of a slot of its

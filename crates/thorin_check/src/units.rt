@@ -4,11 +4,11 @@ ghost use Rattle.std.specs.Prelude.{◌≡◌, if◌then◌else◌, None, Some, 
 ghost use Rattle.std.specs.Prelude.{IfSome};
 ghost use Rattle.dwp_index.specs.Package.{found};
 ghost use Rattle.thorin_check.specs.Checking.{TellsUnits};
-ghost use Rattle.thorin_check.specs.Faults.{TellsUnit, TellsFound, TellsItself, is_bare};
+ghost use Rattle.thorin_check.specs.Faults.{TellsUnit, TellsFound, is_bare};
 ghost use Rattle.thorin_check.specs.Texts.{IsUnreadText, IsTextOf};
-ghost use Rattle.thorin_check.specs.Gathered.{IsSeen, GoesOn, Gathered, IsGatheredIn, TellsSeen};
-ghost use Rattle.thorin_check.specs.Telling.{so_far, Tells, ForEach};
-ghost use Rattle.thorin_check.specs.Overlaps.{IsClash, begins_inside, differ_in_tables, has_units};
+ghost use Rattle.thorin_check.specs.Gathered.{IsSeen, GoesOn, Gathered, IsGatheredIn};
+ghost use Rattle.thorin_check.specs.Telling.{so_far, Tells};
+ghost use Rattle.thorin_check.specs.Overlaps.{IsClash, begins_inside, has_units};
 ghost use Rattle.thorin_check.specs.Overlaps.{overlap, overlap_text, same_range, tables_text};
 
 use crate::abbreviations::Remembered;
@@ -17,7 +17,7 @@ use crate::faults::{Faults, some, tell};
 use crate::overlaps::{Clash, Overlaps, Shares};
 use crate::strings::{Ends, UnreadStrings, check_strings};
 use dwp_base::{Contribution, SectionKind};
-use dwp_index::{PackageError, PackageFile, PackagedUnit, Row, UnitEntry};
+use dwp_index::{PackageError, PackageFile, PackagedUnit, UnitEntry};
 use dwp_table::{Bucketable, DwarfObject};
 use std::alloc::{AllocError, Global};
 use std::io::Write;
@@ -63,33 +63,15 @@ pub(crate) fn check_units<O: Write>(
         },
     };
     let count = faults.count;
-    check_each(pack, indexed.entries, &overlaps, &mut seen, faults, out)?;
+    for i in 0..indexed.entries.len() {
+        let entry = indexed.entries[i];
+        let text = text_of(pack, entry, overlaps.of(i), &mut seen);
+        tell(entry.object, text, faults, out)?;
+    }
     if overlaps.clash & (faults.count == count) {
         return Err(Failure::Memory);
     }
     check_strings(pack, ends, &mut seen.strings.unread, faults, out)
-}
-
-/// Checks each unit that a slot names, and gathers those whose strings are still to be checked.
-fn check_each<'a, O: Write>(
-    pack: &PackageFile<'a>,
-    entries: &[UnitEntry],
-    overlaps: &Overlaps,
-    seen: &mut Seen<'a>,
-    faults: &mut Faults,
-    out: &mut O,
-) -> Result<(), Failure>
-    requires seen { IsSeen pack.now seen.old }
-    ensures told { Tells (ForEach (TellsSeen pack.now seen.new.strings.unread.items)
-        entries.now) (so_far (O.contents out.old) faults.old)
-        (so_far (O.contents out.new) faults.new) result }
-    ensures seen { OnOk result (IsSeen pack.now seen.new) }
-{
-    for i in 0..entries.len() {
-        let text = text_of(pack, entries[i], overlaps.of(i), seen);
-        tell(entries[i].object, text, faults, out)?;
-    }
-    Ok(())
 }
 
 /// What is told of the unit that a slot names, if anything.
@@ -114,8 +96,10 @@ fn text_of<'a>(
 }
 
 /// What is told of the unit that is found under the identifier of a slot, if anything: it is to be
-/// that of the slot's row, and this row is to have abbreviations where the package has some.
-#[tactic(auto, using(crate::proofs::Told::other_row, crate::proofs::Told::in_bare_row, crate::proofs::Told::in_whole_row, crate::proofs::Told::made, crate::proofs::Distinct::stays_seen))]
+/// that of the slot's row, and this row is to have abbreviations where the package has some; none of
+/// its ranges is to clash with that of another, and its own identifier is to be that of the slot.
+/// Then the unit is gathered for the check of its strings.
+#[tactic(auto, using(crate::proofs::Told::other_row, crate::proofs::Told::in_bare_row, crate::proofs::Told::in_whole_row, crate::proofs::Told::made, crate::proofs::Told::clashed, crate::proofs::Told::of_its_own, crate::proofs::Distinct::stays_seen))]
 fn text_of_found<'a>(
     pack: &PackageFile<'a>,
     entry: UnitEntry,
@@ -137,7 +121,19 @@ fn text_of_found<'a>(
     if is_bare(pack, unit) {
         return some(format!(in seen.alloc; "its row has no abbreviations"));
     }
-    text_of_itself(pack, entry.object, unit, shares, seen)
+    if let Some(text) = text_of_clash(seen.alloc, pack, unit, shares.clash)? {
+        return Ok(Some(text));
+    }
+    match seen
+        .abbreviations
+        .text_of(pack, entry.object, unit, shares.has_twin)?
+    {
+        Some(text) => Ok(Some(text)),
+        None => {
+            seen.strings.add(unit, entry.object)?;
+            Ok(None)
+        }
+    }
 }
 
 /// Whether the row of a unit has no abbreviations, where its package has some.
@@ -145,39 +141,6 @@ fn is_bare(pack: &PackageFile<'_>, unit: &PackagedUnit<'_>) -> bool
     ensures { result ≡ is_bare pack.now unit.now }
 {
     !pack.content(SectionKind::Abbrev).is_empty() && unit.range(SectionKind::Abbrev).is_none()
-}
-
-/// What is told of a unit by its ranges and its own bytes, if anything: none of its ranges is to
-/// clash with that of another, and its own identifier is to be that of the slot. Then the unit is
-/// gathered for the check of its strings.
-#[tactic(auto, using(crate::proofs::Told::clashed, crate::proofs::Told::of_its_own, crate::proofs::Distinct::stays_seen))]
-fn text_of_itself<'a>(
-    pack: &PackageFile<'a>,
-    object: DwarfObject,
-    unit: &PackagedUnit<'a>,
-    shares: Shares,
-    seen: &mut Seen<'a>,
-) -> Result<Option<String>, AllocError>
-    requires seen { IsSeen pack.now seen.old }
-    requires is_found { found pack.now object ≡ Ok (Some unit.now) }
-    ensures text { IsTextOf (TellsItself pack.now object unit.now) object result }
-    ensures on { OnOk result (GoesOn pack.now seen.old seen.new) }
-    ensures gathered { IfOk result (λ text. text ≡ None
-        → Gathered pack.now seen.new.strings.unread.items unit.now) }
-{
-    if let Some(text) = text_of_clash(seen.alloc, pack, unit, shares.clash)? {
-        return Ok(Some(text));
-    }
-    match seen
-        .abbreviations
-        .text_of(pack, object, unit, shares.has_twin)?
-    {
-        Some(text) => Ok(Some(text)),
-        None => {
-            seen.strings.add(unit, object)?;
-            Ok(None)
-        }
-    }
 }
 
 /// What is told where what the index says of a unit can't be read.
@@ -215,7 +178,11 @@ fn text_of_clash(
     if overlap(a.range(kind), b.range(kind)) {
         return some(clash_text(alloc, kind, other, false));
     }
-    if differ_in_tables(kind, a, b) {
+    if has_units(kind)
+        && a.range(kind).is_some()
+        && is_same(a.range(kind), b.range(kind))
+        && !is_same(a.range(SectionKind::Abbrev), b.range(SectionKind::Abbrev))
+    {
         return some(clash_text(alloc, kind, other, true));
     }
     Ok(None)
@@ -243,16 +210,6 @@ fn clash_text(
     )
 }
 
-/// Whether two rows have the same bytes of a unit, and other abbreviations.
-fn differ_in_tables(kind: SectionKind, a: &Row<'_>, b: &Row<'_>) -> bool
-    ensures { result ≡ differ_in_tables kind a.now b.now }
-{
-    has_units(kind)
-        && a.range(kind).is_some()
-        && is_same(a.range(kind), b.range(kind))
-        && !is_same(a.range(SectionKind::Abbrev), b.range(SectionKind::Abbrev))
-}
-
 /// Whether a section has the bytes of units.
 pub(crate) fn has_units(kind: SectionKind) -> bool
     ensures { result ≡ has_units kind }
@@ -277,10 +234,7 @@ fn overlap(a: Option<Contribution>, b: Option<Contribution>) -> bool
 {
     match (a, b) {
         (Some(a), Some(b)) => {
-            if a.offset.0 == b.offset.0 && a.size == b.size {
-                return false;
-            }
-            begins_inside(a, b) || begins_inside(b, a)
+            !is_same(Some(a), Some(b)) && (begins_inside(a, b) || begins_inside(b, a))
         }
         _ => false,
     }

@@ -1,14 +1,24 @@
+use Rattle.std.proofs.Common.{◌≡◌, rules}
 use Rattle.std.proofs.lemmas.Result.{err_from_is_err_and}
-use Rattle.thorin_check.proofs.Checked.{executable_read, executable_unread}
+use Rattle.thorin_check.specs.Faults.{room_of}
+use Rattle.thorin_check.proofs.Checked.{executable_read, executable_unread, named_broken}
 use Rattle.thorin_check.proofs.executables.check_executable.Goals as goal
 
-pub returns-in_err-bytes : goal.returns-in_err-bytes
-returns-in_err-bytes g c =
+pub returns-in_err-read : goal.returns-in_err-read
+returns-in_err-read g c =
     let p = err_from_is_err_and c.from_residual.result c.from_residual.ensures.1 in
     rw (p.1, p.2) (executable_unread (g.F.FileReader.offer c.args.files.now)
-    c.args.naming.executable.now _ _ c.in_err-bytes.ensures.refused)
+    c.args.naming.executable.now _ _ c.in_err-read.ensures.refused)
+
+pub returns-in-Ok : goal.returns-in-Ok
+returns-in-Ok g c =
+    let room : c.max-room.result ≡ room_of c.as_slice-bytes.result.now = search rules in
+    executable_read _ _ _ _ _ _ c.check_listed.result _ _ c.in_ok-read.ensures.read
+    c.as_slice-bytes.ensures.value
+    (rw c.in-Ok.ensures.opened (rw room at c.check_listed.ensures))
 
 pub returns : goal.returns
 returns g c =
-    executable_read _ _ _ _ _ _ c.check_named.result _ _ c.in_ok-bytes.ensures.read
-    c.as_slice.ensures.value c.check_named.ensures
+    executable_read _ _ _ _ _ _ c.tell_error.result _ _ c.in_ok-read.ensures.read
+    c.as_slice-bytes.ensures.value (named_broken _ _ _ _ _ _ _ c.tell_error.result
+    c.in-Err.ensures.opened c.tell_error.ensures.known c.tell_error.ensures.told)

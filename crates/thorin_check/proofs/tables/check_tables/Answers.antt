@@ -23,6 +23,14 @@ returns-in_err-check_indexes g c =
     rw (p.1, p.2) (stopped_behind _ c.in_ok-check_section.ensures
     (stopped_behind _ c.in_ok-check_section-2.ensures c.in_err-check_indexes.ensures))
 
+pub returns-in_err-check_rows : goal.returns-in_err-check_rows
+returns-in_err-check_rows g c =
+    let exit = c.from_residual-in_err-check_rows in
+    let p = err_from_is_err_and exit.result exit.ensures.1 in
+    rw (p.1, p.2) (stopped_behind _ c.in_ok-check_section.ensures
+    (stopped_behind _ c.in_ok-check_section-2.ensures
+    (stopped_behind _ c.in_ok-check_indexes.ensures c.in_err-check_rows.ensures)))
+
 pub returns : goal.returns
 returns g c =
     let pack = c.args.indexed.pack.now in
@@ -30,8 +38,13 @@ returns g c =
     ≡ lacks_abbreviations pack c.args.indexed.entries.now = grind rules in
     let strings : (not c.is_empty-2.result && c.is_empty-no_strings.result)
     ≡ lacks_strings pack = grind rules in
-    let result = c.check_all_rows.result in
+    let compilations = rw (c.end_of-end.ensures.end, c.compilation_index.ensures.index) at
+    c.in_ok-check_rows.ensures in
+    let types = rw (c.end_of-end-2.ensures.end, c.type_index.ensures.index) at
+    c.check_rows-2.ensures in
+    let result = c.check_rows-2.result in
     in_turn_or _ _ _ _ _ _ result (told_then in_turn
     (rw abbreviations at c.in_ok-check_section.ensures)
     (rw strings at c.in_ok-check_section-2.ensures))
-    (in_turn_or _ _ _ _ _ _ result c.in_ok-check_indexes.ensures c.check_all_rows.ensures)
+    (in_turn_or _ _ _ _ _ _ result c.in_ok-check_indexes.ensures
+    (in_turn_or _ _ _ _ _ _ result compilations types))
