@@ -3,12 +3,12 @@
 use Rattle.thorin_join.proofs.Terms
 use Terms.{adding, ap, append-nil, arith, begun_by, bind-ok, can_join, content_of, Contents}
 use Terms.{DwarfObject, Each, Elf, false, first, has_info, indexes_of, inl, InProgress}
-use Terms.{input_file_of, InputFile, inr, is_copied, IsSound, IsSoundBegun, IsTable, joined_parts}
-use Terms.{joining, Joins, keys, kind_of, List, map, Meaning, Members, names_of, New, new_units}
-use Terms.{None, offsets_used, Ok, opened, Option, order_test, package_or_new, parts_of, refl}
-use Terms.{Represents, same_kind, SectionKind, Some, Source, source_units, Str, subst, sum_by, sym}
-use Terms.{true, unit_bytes, units_begun, units_of, with_input, with_new_units, with_parts}
-use Terms.{with_source, [], ℕ, ◌++◌, ◌∙◌, ◌∷◌, ◌≡◌, ◌⊎◌}
+use Terms.{input_file_of, InputFile, inr, IsSound, IsSoundBegun, IsTable, joined_parts, joining}
+use Terms.{Joins, keys, kind_of, List, map, Meaning, Members, names_of, New, new_units, None}
+use Terms.{offsets_used, Ok, opened, Option, order_test, package_or_new, parts_of, refl, Represents}
+use Terms.{Some, Source, source_units, Str, subst, sum_by, sym, true, unit_bytes, units_begun}
+use Terms.{units_of, with_input, with_new_units, with_parts, with_source, [], ℕ, ◌++◌, ◌∙◌, ◌∷◌}
+use Terms.{◌≡◌, ◌⊎◌}
 use Rattle.thorin_join.specs.State.{held_units, with_all}
 use Rattle.thorin_join.specs.Meaning.{input_meaning, meant, object_meaning, source_meaning}
 use Rattle.thorin_join.proofs.Units.InRows.{apart-none, joined_distinct, keys-units, rows-keys}
@@ -22,11 +22,11 @@ use Rattle.thorin_join.proofs.Parts.Added.{Brings, content-with_parts, each-brin
 use Rattle.thorin_join.proofs.Parts.Added.{parts-none, units-strings}
 use Rattle.thorin_join.proofs.Rows.OfUnits.{is-unit_row, row-shares}
 use Rattle.thorin_join.proofs.Units.Whole.{Goes, units-go}
-use Rattle.dwp_base.specs.declared.section.SectionKind.TheVariants as kinds
-use Rattle.dwp_units.specs.declared.unit.UnitSection.TheVariants as places
 use Rattle.thorin_input.specs.Encodings.{encoding_of}
 use Rattle.thorin_join.specs.Builder.{order_of, source_for, with_source_or_new, with_units}
 use Rattle.thorin_join.specs.FirstUse.{named_in, named_in_file, strings_begun, used_by, UsesStrings}
+use Rattle.dwp_base.specs.declared.section.SectionKind.TheVariants as kinds
+use Rattle.dwp_units.specs.declared.unit.UnitSection.TheVariants as places
 
 -- joining keeps what belongs to units
 abbrev all_meant : Source → Reads → List (DwarfObject × Option Meaning)
@@ -132,17 +132,11 @@ source-joins bytes source before now sound same meaning h =
     (keep-rows before.file.order old q.file.contents before.strings m.after before.rows ms
     (grows-with_parts parts old) kept.kept rep.rows) (laid-lies before parts
     (λ place. none (kind_of place) (not-shared place).0 (not-shared place).2) sound.laid) in
-    let still : (kind : SectionKind) → same_kind kinds.Info kind ≡ false
-    → same_kind kinds.Types kind ≡ false → is_copied kind ≡ false
-    → same_kind kinds.StrOffsets kind ≡ false → content_of kind old ≡ []
-    → content_of kind (with_new_units q us).file.contents ≡ [] = λ kind info types copied apart was.
-    a.other kind (elim [ places.Info ↦ info | places.Types ↦ types ])
-    ∙ content-with_parts kind parts old ∙ rw (was, none kind copied apart) refl in
     let has : Represents (with_new_units q us) (ms ++ r.members) = record {
       table = rw a.strings kept.table;
-      no_strings = still kinds.Str refl refl refl refl rep.no_strings;
-      no_compilations = still kinds.CuIndex refl refl refl refl rep.no_compilations;
-      no_types = still kinds.TuIndex refl refl refl refl rep.no_types;
+      no_strings = grind (arith, a.other, content-with_parts, none, rep.no_strings);
+      no_compilations = grind (arith, a.other, content-with_parts, none, rep.no_compilations);
+      no_types = grind (arith, a.other, content-with_parts, none, rep.no_types);
       rows = rw (a.order, a.strings) a.rows;
     } in
     let are = units-are (with_new_units q us) (ms ++ r.members) has in

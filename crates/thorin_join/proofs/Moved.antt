@@ -1,13 +1,11 @@
 -- What is read of bytes is read alike wherever they stand, and a unit whatever follows it.
 use Rattle.thorin_join.proofs.Terms
-use Terms.{ap, arith, Bool, cond, drop, drop-append-le, Encoding, Endianness, entry_identity, Err}
-use Terms.{first_identifier, Format, identity, Input, is_some, length, length-append, List}
-use Terms.{nat_tests, number_front, offset_size, Ok, ReadError, refl, Result, root_identity, suc}
-use Terms.{sym, take, take-append-drop, take-append-le, true, type_signature, unit_takes}
-use Terms.{UnitSection, zero, [], ℕ, ◌++◌, ◌+◌, ◌-◌, ◌>>=◌, ◌∙◌, ◌∷◌, ◌≡◌, ◌≤◌, ◌⊎◌}
-use Rattle.dwp_bytes.specs.Input.{after, byte_at, is_address_size, number_at, offset_at}
-use Rattle.dwp_bytes.specs.Input.{relocated_at, skip_at, split_at}
-pub use Rattle.dwp_index.proofs.TwoPlaces.{plain}
+use Terms.{after, ap, arith, Bool, cond, drop, drop-append-le, Encoding, Endianness, entry_identity}
+use Terms.{Err, first_identifier, Format, Header, identity, Input, is_address_size, is_some, length}
+use Terms.{length-append, List, nat_tests, number_front, offset_size, Ok, ReadError, refl, Result}
+use Terms.{root_identity, suc, sym, take, take-append-drop, take-append-le, true, type_signature}
+use Terms.{unit_takes, UnitSection, zero, [], ℕ, ◌++◌, ◌+◌, ◌-◌, ◌>>=◌, ◌∙◌, ◌∷◌, ◌≡◌, ◌≤◌, ◌⊎◌}
+use Rattle.dwp_bytes.specs.Input.{byte_at, number_at, offset_at, relocated_at, skip_at, split_at}
 use Rattle.dwp_bytes.specs.Leb.{sleb_at, uleb_at}
 use Rattle.dwp_units.proofs.Readings.{Answer, bind-bind, bind_alike, by-result, more, Reads}
 use Rattle.dwp_units.proofs.Readings.{reads_byte, reads_sleb, reads_uleb}
@@ -20,12 +18,12 @@ use Rattle.dwp_dwarf.specs.Forms.{past_value, text_at, value_at}
 use Rattle.std.specs.Prelude.{is_ok}
 use Rattle.dwp_bytes.specs.declared.encoding.Format.TheVariants.{Dwarf32, Dwarf64}
 use Rattle.dwp_units.specs.Units.{address_size_at, header_at, initial_length_at, newer_at, older_at}
-use Rattle.dwp_units.specs.Units.{older_type_at, type_at, Unit as Header, unit_at, unit_code_at}
-use Rattle.dwp_units.specs.Units.{unit_type_at}
+use Rattle.dwp_units.specs.Units.{older_type_at, type_at, unit_at, unit_code_at, unit_type_at}
 use Rattle.dwp_units.specs.declared.unit.UnitSection.TheVariants.{Types}
 use Rattle.std.proofs.Common.{add_assoc, length-take-le, ℤ}
 use Rattle.std.specs.Option.{ok_or}
 use Rattle.dwp_units.specs.declared.unit.UnitType.{UnitType}
+pub use Rattle.dwp_index.proofs.TwoPlaces.{plain}
 
 -- what was read, moved
 abbrev pub moved : {A : Type 0} → (A → A) → Result A ReadError → Result A ReadError

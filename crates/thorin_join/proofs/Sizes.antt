@@ -2,28 +2,26 @@
 -- and finishing adds the strings and both indexes.
 use Rattle.thorin_join.proofs.Terms
 use Terms.{Adding, adding, All, ap, appended, arith, begun_by, bind-was, bytes_of_contents}
-use Terms.{bytes_of_strings, Contents, data_of, DwarfObject, Elf, Endianness, ErrorValue, every}
-use Terms.{first, flat_map-map, IndexEntry, InProgress, IsFinished, IsIndexOf, joining, KindsDiffer}
-use Terms.{leb-true, length, length-append, List, map, name_of, nat_le, nat_tests, NewUnit, None}
+use Terms.{bytes_of_strings, bytes_of_unit, Contents, data_of, DwarfObject, Elf, Endianness}
+use Terms.{ErrorValue, every, File, file_text, first, flat_map-map, Header, IndexEntry, InProgress}
+use Terms.{IsFinished, IsIndexOf, joining, KindsDiffer, leb-true, length, length-append}
+use Terms.{length-KindsDiffer, length-map, List, map, name_of, nat_le, nat_tests, NewUnit, None}
 use Terms.{offsets_used, Ok, Option, refl, same-ok, SectionKind, Some, Source, Str, suc, sum_by}
 use Terms.{sym, unit_section, UnitRead, units_whole, UnitSection, Used, with_bytes, with_input}
 use Terms.{with_new_units, with_parts, with_source, [], ℕ, ◌*◌, ◌++◌, ◌+◌, ◌∙◌, ◌∷◌, ◌≡◌, ◌≤◌}
 use Rattle.std.proofs.lemmas.List.Concat.{length-flat_map}
 use Rattle.std.proofs.lemmas.List.Sums.{sum_by-append, sum_by-cons, sum_by-le-sum_by}
-use Rattle.dwp_units.specs.Units.{Unit as Header, unit_bytes as bytes_of_unit}
 use Rattle.thorin_join.specs.Sizes.{bytes_begun, bytes_of_index, carried, carried_size}
 use Rattle.thorin_join.specs.Sizes.{container_most, IsSizeFinished, IsSizeOfIndex, sections_in}
 use Rattle.thorin_join.specs.Sizes.{sections_of_input, used_size, with_inputs}
 use Rattle.thorin_join.proofs.Joined.{same-begun, source-brings, source-made, takes}
 use Rattle.thorin_join.proofs.Parts.Added.{each-brings, each-unit, long, part_bytes, used-most}
 use Rattle.thorin_join.proofs.Units.ReadInTurn.{AreAdded, each-named, News, Reads, units-joined}
-use Rattle.dwp_elf.specs.FileText.{content_bytes, file_text, names_of, Object as File}
+use Rattle.dwp_elf.specs.FileText.{content_bytes, names_of}
 use Rattle.dwp_elf.proofs.Limits.{length-file_text, length-number_bytes}
 use Rattle.thorin_index.specs.IndexText.{index_bytes}
-use Rattle.std.proofs.lemmas.List.{length-map}
 use Rattle.thorin_join.specs.Meaning.{named_at, named_sections}
 use Rattle.thorin_join.specs.FirstUse.{strings_begun}
-use Rattle.dwp_elf.proofs.KindCounts.{length-KindsDiffer}
 
 -- bytes that are added to a kind's
 appended-long : (k : SectionKind) (bytes : List ℕ) (c : Contents)

@@ -1,28 +1,25 @@
 -- A written file is read as the package of its contents, with its indexes.
 use Rattle.thorin_join.proofs.Terms
-use Terms.{AreDistinct, arith, Bool, by-bool, codes, content_of, count_of, elf_of, Endianness}
-use Terms.{entry_ids, Err, IdentifiersFit, Index, index_tests, index_version_of, IndexEntry, inl}
-use Terms.{inr, is-same, IsIndexOf, KindsDiffer, length, List, None, Ok, Option, refl, rows_of}
-use Terms.{same_kind, SectionKind, slice_index, Some, [], ℕ, ◌+◌, ◌<◌, ◌^◌, ◌∷◌, ◌≡◌, ◌≤◌}
+use Terms.{another_kind, AreDistinct, arith, Bool, by-bool, codes, content_of, count_of, elf_of}
+use Terms.{Endianness, entry_ids, Err, file_text, HasContent, IdentifiersFit, Index, index_tests}
+use Terms.{index_version_of, IndexEntry, inl, inr, is-same, IsIndexOf, KindsDiffer, length}
+use Terms.{length-KindsDiffer, List, None, Ok, Option, refl, rows_of, same_kind, SectionKind}
+use Terms.{slice_index, Some, [], ℕ, ◌+◌, ◌<◌, ◌^◌, ◌∷◌, ◌≡◌, ◌≤◌}
 use Rattle.dwp_base.specs.declared.class.Class.TheVariants.{Elf32, Elf64}
 use Rattle.dwp_base.specs.declared.section.SectionKind.TheVariants.{CuIndex, TuIndex}
 use Rattle.dwp_elf_read.specs.Layout.{word_size}
-use Rattle.dwp_elf.specs.FileText.{file_text, headers_place, name_table, Object}
+use Rattle.dwp_elf.specs.FileText.{headers_place, name_table, Object}
 use Rattle.dwp_elf.specs.Numbers.{Fits}
 use Rattle.dwp_elf.specs.Written.{written_elf, written_sections}
-use Rattle.dwp_index.specs.Holding.{HasContent}
-use Rattle.dwp_index.proofs.HeldContents.{another_kind, empty, foreign, index_missing, index_there}
-use Rattle.dwp_index.proofs.HeldContents.{package_is}
+use Rattle.dwp_index.proofs.HeldContents.{empty, foreign, index_missing, index_there, package_is}
 use Rattle.dwp_elf.proofs.ReadingBack.{elf_of-file_text}
 use Rattle.thorin_join.specs.WrittenPackage.{IsIndexIn, package_with}
 use Rattle.dwp_index.specs.IndexBytes.{index_of, version_of}
-use Rattle.thorin_index.proofs.ReadAgain.{index_is_read}
-use Rattle.thorin_index.proofs.ReadAgain.{written_rows}
+use Rattle.thorin_index.proofs.ReadAgain.{index_is_read, written_rows}
 use Rattle.dwp_base.specs.declared.class.Class.{Class}
 use Rattle.dwp_bytes.specs.declared.error.ReadError.TheVariants.{UnexpectedEof}
 use Rattle.dwp_index.specs.Package.{index_in_section, package_of}
 use Rattle.thorin_index.specs.ReadRows.{HasEntries}
-use Rattle.dwp_elf.proofs.KindCounts.{length-KindsDiffer}
 
 -- the headers' place
 pub fitting : (class : Class) (machine : ℕ) (order : Endianness) (cs : List (SectionKind × List ℕ))

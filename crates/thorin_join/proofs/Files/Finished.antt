@@ -2,32 +2,27 @@
 -- a name is found, or the name has none.
 use Rattle.thorin_join.proofs.Terms
 use Terms.{ap, AreRowsOf, arith, Bool, by-bool, cond, content_of, Contents, Contribution}
-use Terms.{contribution_to, data_of, DwarfObject, Endianness, entry_ids, false, filter}
-use Terms.{identifier_of, IdentifiersFit, Index, index_tests, IndexEntry, InProgress, is_chosen}
-use Terms.{is_compilation, IsFinished, IsRowOf, IsSound, IsSoundBegun, IsTable, kind_of, length}
-use Terms.{List, lookup, map, MatchOption, Meaning, meaning_at, Members, names_of, nat_tests, None}
-use Terms.{not, Ok, Option, part_of, range_in, refl, rows_of, same_kind, same_name, SectionKind}
-use Terms.{slice_get, slice_index, Some, suc, sym, take-length, true, units_in, units_of}
-use Terms.{UnitSection, with_bytes, zero, [], ℕ, ◌++◌, ◌+◌, ◌<◌, ◌∙◌, ◌∷◌, ◌≡◌, ◌≤◌}
+use Terms.{contribution_to, data_of, DwarfObject, Endianness, entry_ids, false, File, file_text}
+use Terms.{filter, GivesNone, held_content, identifier_of, IdentifiersFit, Index, index_for}
+use Terms.{index_tests, IndexEntry, InProgress, is_chosen, is_compilation, IsFinished, IsRowOf}
+use Terms.{IsSound, IsSoundBegun, IsTable, kind_of, length, length-map, List, lookup, map}
+use Terms.{MatchOption, Meaning, meaning_at, Members, names_of, nat_tests, None, not, Ok, Option}
+use Terms.{Package, part_of, range_in, refl, row_bytes, rows_of, same_kind, same_name, SectionKind}
+use Terms.{sections_of, slice_get, slice_index, Some, suc, sym, take-length, true, units_in}
+use Terms.{units_of, UnitSection, with_bytes, zero, [], ℕ, ◌++◌, ◌+◌, ◌<◌, ◌∙◌, ◌∷◌, ◌≡◌, ◌≤◌}
 use Rattle.thorin_join.proofs.Units.InRows.{chosen-sort, distinct_chosen, same-sort, same_name-true}
 use Rattle.dwp_table.proofs.Tables.{finds_exactly}
 use Rattle.dwp_index.specs.Contents.{content}
-use Rattle.dwp_index.specs.Package.{index_for, Package, row_bytes}
-use Rattle.dwp_index.proofs.HeldContents.{held_content}
 use Rattle.dwp_index.proofs.PackageLookUp.{absent_unit, no_index, present_unit}
 use Rattle.thorin_index.specs.ReadRows.{HasContributions, HasEntries, non_empty}
 use Rattle.thorin_join.proofs.Files.Contents.{chosen-fit, HasRows, index-read, package_held}
-use Rattle.dwp_base.specs.declared.section.SectionKind.TheVariants as kinds
 use Rattle.dwp_index.proofs.UsedOnce.{entries_once}
 use Rattle.thorin_join.specs.Builder.{finish_test, indexes_test, IsFinishedState, State}
 use Rattle.thorin_join.proofs.Rows.OneAdded.{Grows, grows-trans, grows-with_bytes, keep-rows}
 use Rattle.thorin_join.proofs.Parts.Added.{content-with_bytes}
-use Rattle.std.proofs.lemmas.List.{length-map}
-use Rattle.dwp_elf.specs.FileText.{file_text, Object as File}
 use Rattle.dwp_index.specs.Finding.{IsNotNamed, IsUnitOf, own_bytes, own_place, unit_of}
-use Rattle.dwp_index.specs.Holding.{sections_of}
-use Rattle.thorin_join.specs.Join.{GivesNone, GivesUnit, IsPackageOnceWritten, IsUnit, limit_of}
-use Rattle.thorin_join.specs.Join.{same_sort}
+use Rattle.thorin_join.specs.Join.{GivesUnit, IsPackageOnceWritten, IsUnit, limit_of, same_sort}
+use Rattle.dwp_base.specs.declared.section.SectionKind.TheVariants as kinds
 
 -- the identifier at the place of a row
 pub id-at : (rows : List IndexEntry) (place : ℕ) (row : IndexEntry) → slice_get rows place ≡ Some

@@ -4,21 +4,19 @@
 use Rattle.thorin_join.proofs.Terms
 use Terms.{ap, append-nil, append_assoc, appended, arith, bind-was, by-bool, bytes_of_contents}
 use Terms.{bytes_of_strings, cond, content_of, Contents, Contribution, drop, DwarfObject, Encoding}
-use Terms.{Endianness, entry_count, eqb, ErrorValue, false, first, has_part, header_size}
-use Terms.{if◌then◌else◌, inl, InProgress, inr, is-same, is_copied, is_package, IsTable, IsZeroFree}
-use Terms.{joined_parts, kept_more, length, length-append, length-drop, length-take, List, list_any}
-use Terms.{list_any-append, nat_tests, NewUnit, nil_from_length, offsets_used, Ok, packaged_offsets}
-use Terms.{Parts, parts_of, position_or_len, refl, remapped, result_unwrap_or, rewritten, same-ok}
-use Terms.{same-self, same_kind, SectionKind, slice_range, Source, stands_once, Str, string_at}
-use Terms.{strings_of, StrOffsets, subst, suc, sum_by, sym, take, take-length, true, Used}
-use Terms.{with_bytes, with_each_part, with_new_unit, with_new_units, with_offsets, with_part}
-use Terms.{with_parts, with_string, with_unit_added, zero, [], ℕ, ◌&&◌, ◌*◌, ◌++◌, ◌+◌, ◌-◌, ◌<◌}
-use Terms.{◌||◌, ◌∙◌, ◌∷◌, ◌≡◌, ◌≤◌, ◌⊎◌}
-use Rattle.thorin_join.specs.Meaning.{joined_content}
+use Terms.{Endianness, entry_count, eqb, ErrorValue, false, first, fitting_offset, has_part}
+use Terms.{header_size, if◌then◌else◌, inl, InProgress, inr, is-same, is_copied, is_package}
+use Terms.{IsTable, IsZeroFree, joined_content, joined_parts, kept_more, length, length-append}
+use Terms.{length-drop, length-take, List, list_any, list_any-append, named_at, nat_tests, NewUnit}
+use Terms.{nil_from_length, offsets_used, Ok, packaged_offsets, Parts, parts_of, position_or_len}
+use Terms.{refl, remapped, result_unwrap_or, rewritten, same-ok, same-self, same_kind, SectionKind}
+use Terms.{slice_range, Source, stands_once, Str, string_at, strings_of, StrOffsets, subst, suc}
+use Terms.{sum_by, sym, take, take-length, true, Used, with_bytes, with_each_part, with_new_unit}
+use Terms.{with_new_units, with_offsets, with_part, with_parts, with_string, with_unit_added, zero}
+use Terms.{[], ℕ, ◌&&◌, ◌*◌, ◌++◌, ◌+◌, ◌-◌, ◌<◌, ◌||◌, ◌∙◌, ◌∷◌, ◌≡◌, ◌≤◌, ◌⊎◌}
 use Rattle.std.proofs.Math.Nat.{mul-le-mul_right}
 use Rattle.std.proofs.lemmas.List.Sums.{sum_by-append, sum_by-cons, sum_by_push}
-use Rattle.thorin_strings.specs.StringOffsets.{fitting_offset, named_at, offset_at}
-use Rattle.thorin_strings.specs.StringOffsets.{remapped_entries, remapped_entry}
+use Rattle.thorin_strings.specs.StringOffsets.{offset_at, remapped_entries, remapped_entry}
 use Rattle.dwp_strings.proofs.Named.{read_free, string_was, used}
 use Rattle.thorin_strings.proofs.NamedEntries.{entries_long, header_long}
 use Rattle.thorin_package_input.specs.PackagedOffsets.{ranges_test, rewritten_from}
@@ -26,7 +24,6 @@ use Rattle.thorin_package_input.proofs.RewriteSteps.{next_passed}
 use Rattle.thorin_join.specs.FirstUse.{named_by_ranges, named_by_section, named_in, with_strings}
 use Rattle.thorin_join.proofs.Parts.Ranges.{count-fits, count-none, range-of}
 use Rattle.thorin_join.proofs.Units.ReadInTurn.{News}
-pub use Rattle.thorin_strings.proofs.NamedEntries.{as_error_ok as error-inv}
 use Rattle.thorin_join.specs.Strings.{each_from, offset_of_entry, strings_at}
 use Rattle.std.proofs.lemmas.Bool.{false_from_ne_true}
 

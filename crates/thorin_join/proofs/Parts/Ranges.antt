@@ -1,15 +1,14 @@
 -- What is read of ranges of string offsets: of their whole entries alone, of none, and of joined
 -- ones; and the strings that a range names, one by one.
 use Rattle.thorin_join.proofs.Terms
-use Terms.{ap, arith, cond, drop-append-le, Encoding, Endianness, entry_count, eqb, false, Format}
-use Terms.{header_size, length, length-drop, length-take, List, nat_tests, None, number_front}
-use Terms.{offset_size, Ok, range_named, ReadsAlike, refl, remapped, slice_get, Some, string_at}
-use Terms.{string_in, strings_again, strings_of, suc, take-append-drop, whole_entries, zero, [], ℕ}
-use Terms.{◌*◌, ◌++◌, ◌+◌, ◌-◌, ◌∙◌, ◌∷◌, ◌≡◌, ◌≤◌, ◌⊎◌}
+use Terms.{ap, arith, cond, drop-append-le, Encoding, Endianness, entry_count, entry_in, eqb, false}
+use Terms.{Format, header_size, length, length-drop, length-take, List, nat_tests, None}
+use Terms.{number_front, offset_size, Ok, range_named, ReadsAlike, refl, remapped, slice_get, Some}
+use Terms.{string_at, string_for, string_in, strings_again, strings_of, suc, take-append-drop}
+use Terms.{whole_entries, zero, [], ℕ, ◌*◌, ◌++◌, ◌+◌, ◌-◌, ◌∙◌, ◌∷◌, ◌≡◌, ◌≤◌, ◌⊎◌}
 use Rattle.std.proofs.lemmas.Nat.{row_fits}
 use Rattle.thorin_strings.specs.StringOffsets.{entry_bytes, header_of, remapped_entries}
 use Rattle.thorin_package_input.proofs.ReadAlike.{AlikeLaw, NamesLaw}
-use Rattle.dwp_bytes.specs.StringOffsets.{entry_in, string_for}
 use Rattle.thorin_join.specs.Strings.{each_from, offset_of_entry, offsets_in, strings_at}
 use Rattle.std.proofs.Common.{IsOk, nat_lt, take_all, ◌/◌}
 

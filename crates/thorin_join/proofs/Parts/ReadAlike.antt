@@ -3,12 +3,11 @@
 use Rattle.thorin_join.proofs.Terms
 use Terms.{append-nil, append_assoc, arith, Bool, by-bool, Contents, Contribution, data_of}
 use Terms.{Encoding, entry_count, false, first, has_part, Index, Indexes, inl, InputFile, inr}
-use Terms.{is-same, is_copied, is_package, IsTable, joined_parts, joined_read, kept_more, length}
-use Terms.{length-append, List, no_header, offset_size, Ok, Parts, parts_of, range_in, range_named}
-use Terms.{Ranges, ReadsAlike, refl, row_in, same-self, same_kind, SectionKind, Some, Source, Str}
-use Terms.{strings_again, StrOffsets, sym, take, true, Used, whole_entries, with_each_part, [], ℕ}
-use Terms.{◌*◌, ◌++◌, ◌+◌, ◌-◌, ◌<◌, ◌∙◌, ◌∷◌, ◌≡◌, ◌≤◌, ◌⊎◌}
-use Rattle.thorin_join.specs.Meaning.{joined_offsets}
+use Terms.{is-same, is_copied, is_package, IsTable, joined_offsets, joined_parts, joined_read}
+use Terms.{kept_more, length, length-append, List, no_header, offset_size, Ok, Parts, parts_of}
+use Terms.{range_in, range_named, Ranges, ReadsAlike, refl, row_in, same-self, same_kind}
+use Terms.{SectionKind, Some, Source, Str, strings_again, StrOffsets, sym, take, true, Used}
+use Terms.{whole_entries, with_each_part, [], ℕ, ◌*◌, ◌++◌, ◌+◌, ◌-◌, ◌<◌, ◌∙◌, ◌∷◌, ◌≡◌, ◌≤◌, ◌⊎◌}
 use Rattle.thorin_join.proofs.Parts.Ranges.{count-none, empty-alike, names-same, reads-alike}
 use Rattle.thorin_join.proofs.Parts.Ranges.{whole-long, whole-read}
 use Rattle.thorin_join.proofs.Parts.Added.{each-brings, each-part, has_part-more, joined_parts-more}

@@ -1,12 +1,12 @@
 -- The units of an input that are added lie one after another, and stand in their rows.
 use Rattle.thorin_join.proofs.Terms
-use Terms.{adding, ap, append-nil, append_assoc, AreRowsOf, arith, Compilation, content_of}
-use Terms.{Contents, contribution_to, DwarfObject, Endianness, false, filter-append, IndexEntry}
-use Terms.{InProgress, IsWhole, joined_parts, joining, keys, kind_of, length, length-append, List}
-use Terms.{list_any, map-append, Members, names_of, NewUnit, None, place_for, refl, row_at}
-use Terms.{same_kind, same_name, SectionKind, Some, Source, sym, take-length, TypeUnit, UnitRead}
-use Terms.{UnitSection, with_bytes, with_new_unit, with_new_units, with_parts, with_unit_added, []}
-use Terms.{ℕ, ◌++◌, ◌+◌, ◌∙◌, ◌∷◌, ◌≡◌}
+use Terms.{adding, All-append, ap, append-nil, append_assoc, AreRowsOf, arith, Compilation}
+use Terms.{content_of, Contents, contribution_to, DwarfObject, Endianness, false, filter-append}
+use Terms.{IndexEntry, InProgress, IsWhole, joined_parts, joining, keys, kind_of, length}
+use Terms.{length-append, List, list_any, map-append, Members, names_of, NewUnit, None, place_for}
+use Terms.{refl, row_at, same_kind, same_name, SectionKind, Some, Source, sym, take-length}
+use Terms.{TypeUnit, UnitRead, UnitSection, with_bytes, with_new_unit, with_new_units, with_parts}
+use Terms.{with_unit_added, [], ℕ, ◌++◌, ◌+◌, ◌∙◌, ◌∷◌, ◌≡◌}
 use Rattle.thorin_join.specs.Laid.{HaveOneRange, Heads, is_at, IsLaid, Lie, rows_at, same_place}
 use Rattle.thorin_join.proofs.Units.ReadInTurn.{IsAdded, News}
 use Rattle.thorin_join.proofs.Units.Whole.{Goes}
@@ -41,12 +41,6 @@ module _ (order : Endianness) (place : UnitSection) (row : IndexEntry) (own : Li
         is = head.is;
       } in
       (first, lie-append (offset + length head.own) rs head.rest next h.1)
-
-once-append : (rows : List IndexEntry) (row : IndexEntry) → HaveOneRange rows
-    → ((place : UnitSection) → is_at place row ≡ false → contribution_to (kind_of place) row ≡ None)
-    → HaveOneRange (rows ++ row ∷ [])
-once-append [] row h own = (own, tt)
-once-append (r ∷ rs) row h own = (h.0, once-append rs row h.1 own)
 
 -- how the rows of a package lie
 pub record RowsLie (order : Endianness) (rows : List IndexEntry) (c : Contents) : Type 0 where
@@ -83,8 +77,12 @@ module _ (order : Endianness) (c : Contents) (rows : List IndexEntry) (u : Dwarf
             let put = content-with_bytes (kind_of other) (kind_of place) u.1.bytes c in
             let none = append-nil (rows_at other rows) in
             grind (arith, split, at-is other, put, kinds-same, none, lie.lies other, behind);
-        once = once-append rows row lie.once (λ other apart.
-            grind (arith, row-other, kinds-same, at-is other, can.no_info, can.fits.no_types));
+        once = All-append (λ row. (other : UnitSection) → is_at other row ≡ false
+            → contribution_to (kind_of other) row ≡ None) rows (row ∷ []) lie.once (
+              λ other apart.
+                  grind (arith, row-other, kinds-same, at-is other, can.no_info, can.fits.no_types),
+              tt,
+            );
       }
 
 -- those of an input

@@ -3,15 +3,13 @@
 use Rattle.thorin_join.proofs.Terms
 use Terms.{All, AllPairs, ap, append-nil, append_assoc, AreApart, AreDistinct, AreRowsOf, arith}
 use Terms.{Bool, content_of, Contents, contribution_to, data_of, DwarfObject, Endianness, entry_ids}
-use Terms.{false, filter_passes, identifier_of, IndexEntry, InProgress, is_chosen, is_compilation}
-use Terms.{is_copied, IsRowOf, IsTable, joining, keys, List, list_any, list_any_at, map, Meaning}
-use Terms.{meaning_at, Members, names_of, Ok, part_of, refl, Represents, result_unwrap_or, rows_of}
-use Terms.{same_name, SectionKind, strings_of, StrOffsets, sym, take-length, true, unit_bytes}
-use Terms.{units_of, [], ℕ, ◌++◌, ◌∷◌, ◌≡◌}
+use Terms.{false, filter_passes, get_or-at, identifier_of, IndexEntry, InProgress, is_chosen}
+use Terms.{is_compilation, IsRowOf, IsTable, joining, keys, length-map, List, list_any, list_any_at}
+use Terms.{map, Meaning, meaning_at, Members, names_of, Ok, part_of, refl, Represents}
+use Terms.{result_unwrap_or, rows_of, same_name, strings_of, StrOffsets, sym, take-length, true}
+use Terms.{unit_bytes, units_of, [], ℕ, ◌++◌, ◌∷◌, ◌≡◌}
 use Rattle.std.proofs.lemmas.List.Kept.{AllPairs-filter}
 use Rattle.std.proofs.lemmas.List.Quantifiers.{all_pairs_push}
-use Rattle.std.proofs.lemmas.List.{get_or-map as get_or-at, length-map}
-use Rattle.thorin_join.specs.Meaning.{Contributions, contributions_by}
 use Rattle.thorin_join.proofs.Parts.Ranges.{strings-are}
 
 -- one name is the other
@@ -72,12 +70,6 @@ distinct_chosen b rows names h apart =
     let long = length-map rows (λ (r : IndexEntry). r.id) in
     grind (arith, h, long, at i d d.id, at j d d.id, apart i j d.id)))
 
--- the contributions of a unit, where each kind's bytes are its contribution
-pub contributions-same : (bytes : SectionKind → List ℕ) (contributions : Contributions)
-    → ((kind : SectionKind) (copied : is_copied kind ≡ true)
-    → bytes kind ≡ contributions kind copied) → contributions_by bytes ≡ contributions
-contributions-same bytes contributions same = λ i kind copied. same kind copied i
-
 module _ (order : Endianness) (contents : Contents) (strings : List (List ℕ))
     (table : IsTable strings) where
   module _ (row : IndexEntry) (member : DwarfObject × Meaning) (is : IsRowOf order contents strings
@@ -94,7 +86,7 @@ module _ (order : Endianness) (contents : Contents) (strings : List (List ℕ))
     meaning-is : member.1 ≡ meaning_at order contents strings row
     meaning-is = λ i. record {
       bytes = bytes-are i;
-      contributions = sym (contributions-same _ member.1.contributions is.shares.content) i;
+      contributions = λ kind copied. sym (is.shares.content kind copied) i;
       strings = sym (ap (λ found. result_unwrap_or found []) strings-found) i;
       encoding = sym is.encoding i;
     }

@@ -2,9 +2,9 @@
 -- another, each added to what those before it gave, and so joined to the names that are there.
 use Rattle.thorin_join.proofs.Terms
 use Terms.{Adding, All-append, ap, append-nil, append_assoc, arith, as_error, bind-was, can_join}
-use Terms.{DwarfObject, Each, ErrorValue, identity, Input, is_some, joining, kept_bytes, keys}
-use Terms.{kind_of, List, list_any, list_any-append, map-append, name_for, New, new_units, NewUnit}
-use Terms.{None, Ok, Option, ParseUnitHeader, place_for, ReadError, refl, Result, same-ok}
+use Terms.{DwarfObject, Each, ErrorValue, Header, identity, Input, is_some, joining, kept_bytes}
+use Terms.{keys, kind_of, List, list_any, list_any-append, map-append, name_for, New, new_units}
+use Terms.{NewUnit, None, Ok, Option, ParseUnitHeader, place_for, ReadError, refl, Result, same-ok}
 use Terms.{same_name, section, SectionKind, slice_get, Some, Source, source_units, suc, sym, true}
 use Terms.{unit_section, UnitRead, UnitSection, Used, with_unit, [], ℕ, ◌++◌, ◌∙◌, ◌∷◌, ◌≡◌}
 use Rattle.thorin_join.specs.Meaning.{named_at, named_each, named_sections, named_unit}
@@ -12,7 +12,7 @@ use Rattle.thorin_input.specs.NewUnits.{none_met, SeenSections, with_each_read, 
 use Rattle.thorin_input.specs.NewUnits.{with_first, with_read, with_section, with_section_at}
 use Rattle.thorin_input.specs.NewUnits.{with_section_in}
 use Rattle.std.proofs.lemmas.Map.Made.{is_some-lookup}
-use Rattle.dwp_units.specs.Units.{Unit as Header, units}
+use Rattle.dwp_units.specs.Units.{units}
 use Rattle.thorin_input.specs.Rows.{row_test, unit_row}
 
 abbrev pub Listed : Type 0
@@ -211,13 +211,9 @@ steps-joined adding before after (u ∷ us) h =
     let named = same_name u.0 in
     let there = is_some-lookup named before.units in
     let held = is_some-lookup named adding.held in
-    by (kept_bytes adding.held before.units u.0) (grind (
-      arith,
-      there,
-      held,
-      list_any-append named
-          (keys adding.held),
-    )) h.1.is (steps-joined adding h.0 after us h.2)
+    let either = list_any-append named (keys adding.held) in
+    by (kept_bytes adding.held before.units u.0) (grind (arith, there, held, either)) h.1.is
+    (steps-joined adding h.0 after us h.2)
   where
     by : (kept : Option (List ℕ)) → is_some kept ≡ list_any (same_name u.0)
         (before_names adding before) → with_unit kept adding h.1.from u.0 u.1.unit before ≡ Ok h.0

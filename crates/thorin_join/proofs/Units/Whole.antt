@@ -2,12 +2,12 @@
 -- units of an input are whole units of their names, wherever their bytes come to stand.
 use Rattle.thorin_join.proofs.Terms
 use Terms.{All-weaker, ap, arith, bind-was, Bool, cond, drop, DwarfObject, Each, encoding_in}
-use Terms.{Endianness, entry_identity, first_identifier, identity, inl, Input, inr, IsWhole}
+use Terms.{Endianness, entry_identity, first_identifier, Header, identity, inl, Input, inr, IsWhole}
 use Terms.{kind_of, length, List, name_signature, nat_eq, None, Ok, place_for, ReadError, Result}
 use Terms.{root_identity, same-ok, section, slice_get, Some, Source, source_units, suc, sym}
 use Terms.{take-append-drop, type_signature, unit_taken, UnitRead, UnitSection, zero, [], ℕ, ◌++◌}
 use Terms.{◌+◌, ◌-◌, ◌∙◌, ◌∷◌, ◌≡◌, ◌⊎◌}
-use Rattle.dwp_units.specs.Units.{listed, Unit as Header, unit_at, units, units_within}
+use Rattle.dwp_units.specs.Units.{listed, unit_at, units, units_within}
 use Rattle.dwp_index.proofs.TwoPlaces.{units_alone}
 use Rattle.thorin_join.proofs.Units.ReadInTurn.{each-all, Listed, name-identity, Reads}
 use Rattle.thorin_join.proofs.Units.ReadInTurn.{sections-are, WasRead}

@@ -1,5 +1,5 @@
-use Rattle.thorin_join.proofs.Sizes.{bytes-grow, input-most, inputs-most, carried-used}
-use Rattle.thorin_join.proofs.Sizes.{files-within}
+use Rattle.thorin_join.proofs.Sizes.{bytes-grow, carried-used, files-within, input-most}
+use Rattle.thorin_join.proofs.Sizes.{inputs-most}
 use Rattle.thorin_join.proofs.laws.packages_grow_by_used_sections.Goals as goal
 
 pub returns : goal.returns
