@@ -1,7 +1,7 @@
 mod Terms
-mod Kept
+pub mod Kept
 mod Offsets
-mod Opened
+pub mod Opened
 mod Meant
-mod Accepted
+pub mod Accepted
 mod Lists

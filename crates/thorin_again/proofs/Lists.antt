@@ -5,25 +5,23 @@
 use Rattle.thorin_again.proofs.Terms
 use Terms.{All, All-cons, All-head, All-map, All-nil, All-tail, All-weaker, all_there, AllOf, ap}
 use Terms.{AreRowsOf, arith, bind-was, content_of, Contents, DwarfObject, each-all, EachRow, Elf}
-use Terms.{elf_of, Encoding, encoding_of, Endianness, File, file_encoding, file_text, finished-is}
-use Terms.{finished-order, finished-own, first_encoding, Header, header_at, HoldsOwn, HoldsPlain}
-use Terms.{IfSome, IndexEntry, inl, InProgress, Input, input-keeps, input_encoding, inr, IsPlain}
-use Terms.{IsSound, IsSoundBegun, kind_of, KindsDiffer, length, length-append, length-map, List}
-use Terms.{list_all, lookup, made-order, map, Meaning, meaning_at, Members, members, NamesItself}
-use Terms.{None, Ok, older_at, opened, Option, own_encoding, package_or_new, place_of, ReadError}
-use Terms.{Reads, refl, same-begun, same-ok, same_name, section, section_has, sections-are}
-use Terms.{slice_get-get_or, Some, Source, source-made, source_units, subst, sym, takes, TakesUnits}
-use Terms.{true, unit_at, unit_bytes, units, units_begun, units_in, units_of, units_within}
-use Terms.{UnitSection, WasRead, with_input, written_elf, written_object, [], ℕ, ◌+◌, ◌<◌, ◌↔◌, ◌∙◌}
-use Terms.{◌∷◌, ◌≡◌}
+use Terms.{elf_of, Encoding, encoding_in, encoding_of, Endianness, File, file_encoding, file_text}
+use Terms.{finished-is, finished-order, finished-own, first_encoding, found_counted, Header}
+use Terms.{header_at, HoldsOwn, HoldsPlain, IfSome, IndexEntry, inl, InProgress, Input, input-keeps}
+use Terms.{input_encoding, inr, IsPlain, IsSound, IsSoundBegun, Joins, kind_of, KindsDiffer, length}
+use Terms.{length-append, length-map, List, list_all, lookup, made-order, map, Meaning, meaning_at}
+use Terms.{Members, members, NamesItself, None, Ok, older_at, opened, Option, own_encoding, Package}
+use Terms.{package_of, package_or_new, place_of, ReadError, Reads, refl, same-begun, same-ok}
+use Terms.{same_name, section, section_has, sections-are, slice_get-get_or, Some, Source}
+use Terms.{source-made, source_units, subst, sym, takes, TakesUnits, true, unit_at, unit_at_row}
+use Terms.{unit_bytes, unit_in, units, units_begun, units_in, units_of, units_within, UnitSection}
+use Terms.{WasRead, with_input, written_elf, written_object, [], ℕ, ◌+◌, ◌<◌, ◌↔◌, ◌∙◌, ◌∷◌, ◌≡◌}
 use Rattle.std.proofs.Common.{MatchOption, unwrap_or}
 use Rattle.thorin_again.proofs.Kept.OneEncoding.{Before, begun-all, begun-now, CanMean, own-adds}
 use Rattle.thorin_again.proofs.Kept.OneEncoding.{taken-holds, taken-plain, units-hold, units-names}
 use Rattle.thorin_again.specs.InFormat.{AreInFormat, HasEncodingOfOne, HaveEncodingsOf, IsInFormat}
 use Rattle.thorin_again.specs.InFormat.{IsOneOf}
 use Rattle.thorin_again.proofs.Kept.EachUnit.{input-rows, of-one, OfOne, order-added}
-use Rattle.dwp_index.specs.Package.{encoding_in, found_counted, Package, package_of, unit_at_row}
-use Rattle.dwp_index.specs.Package.{unit_in}
 use Rattle.std.proofs.lemmas.Map.Views.{IfSome-lookup_from_All}
 use Rattle.thorin_again.specs.OneEncoding.{AnswersAs, AnswersOnceWritten, GivesWhole}
 use Rattle.thorin_again.specs.OneEncoding.{HaveEncodingOnceWritten, IsOfEncoding, IsOfOneEncoding}
@@ -34,7 +32,7 @@ use Rattle.dwp_bytes.specs.declared.encoding.Format.TheVariants.{Dwarf32}
 use Rattle.dwp_units.proofs.Readings.{one_answer}
 use Rattle.thorin_again.specs.PlainInputs.{AreTaken, EachAdds, IsOfPlainObjects, IsPlainOf}
 use Rattle.thorin_again.specs.Own.{has_sections, packs_again}
-use Rattle.thorin_join.specs.Join.{GivesNone, GivesUnit, Joins, look_limit}
+use Rattle.thorin_join.specs.Join.{GivesNone, GivesUnit, look_limit}
 use Rattle.thorin_join.specs.Builder.{finish_test, IsFinished, IsFinishedState, names_in, order_of}
 use Rattle.thorin_join.specs.Builder.{start, State, taken}
 use Rattle.dwp_index.specs.Package as index

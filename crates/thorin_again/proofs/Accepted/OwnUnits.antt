@@ -1,20 +1,21 @@
 -- The units of a written package of plain objects are taken as those of an input, and each gets a
 -- row: by a package without units all of them, since no name comes twice; by any other unless a
 -- compilation unit is there already.
-use Rattle.thorin_join.proofs.Rows.OfUnits.{adjustor, own-index, some-index, whole-part}
 use Rattle.thorin_again.proofs.Terms
 use Terms.{Adding, adding, adjusted, all_kept_by, all_kinds, ap, AreApart, arith, both_ways}
 use Terms.{by-bool, content_of, Contents, Contribution, contribution_put, contribution_to, count_of}
-use Terms.{DwarfObject, EachRow, Encoding, eqb-false, ErrorValue, false, File, finished-grows}
-use Terms.{finished-order, get_or-map, get_or_from_slice_get, HasRows, Header, identifier_of}
-use Terms.{identity-shifted, Index, IndexEntry, Indexes, InProgress, is_at, is_chosen, is_shared}
-use Terms.{is_used, IsPlain, IsTable, joined_parts, kind-place, kind_of, KindsDiffer, length}
-use Terms.{length-append, length-map, LieInside, List, lookup, map, moved, name_for, NamesItself}
-use Terms.{New, new_units, NewUnit, None, Ok, Option, own_source, part-there, parts_of, place-put}
-use Terms.{place_of, range-none, ReadError, refl, Result, row_of, row_test, rows_of, same-self}
+use Terms.{DwarfObject, EachRow, Encoding, eqb-false, ErrorValue, false, File, finished-order}
+use Terms.{get_or-map, get_or_from_slice_get, HasRows, Header, identifier_of, identity-shifted}
+use Terms.{Index, IndexEntry, Indexes, InProgress, is_at, is_chosen, is_shared, is_used, IsPlain}
+use Terms.{IsTable, joined_parts, kind-place, kind_of, KindsDiffer, length, length-append}
+use Terms.{length-map, LieInside, List, lookup, map, moved, name_for, NamesItself, New, new_units}
+use Terms.{NewUnit, None, Ok, Option, own_source, part-there, parts_of, place-put, place_of}
+use Terms.{range-none, range_in, ReadError, refl, Result, row_of, row_test, rows_of, same-self}
 use Terms.{same_name, same_name-sym, same_place, section, SectionKind, slice_get, slice_get_within}
 use Terms.{Some, sound-inside, Source, StrOffsets, subst, sym, true, unit_section, units}
 use Terms.{UnitSection, Used, written_used, [], ℕ, ◌++◌, ◌+◌, ◌<◌, ◌>>=◌, ◌∙◌, ◌∷◌, ◌≡◌, ◌≤◌, ◌⊎◌}
+use Rattle.thorin_join.proofs.Rows.OfUnits.{adjustor, own-index, some-index, whole-part}
+use Rattle.thorin_join.proofs.Files.Finished.{finished-grows}
 use Rattle.std.proofs.Common.{Bool, eqb, is_some, le-leb, ◌||◌, ◌≢◌}
 use Rattle.dwp_base.specs.Reading.{read_each}
 use Rattle.thorin_input.specs.Adjusting.{Adjustor, has_column_for, moved_range, other_index}
@@ -35,7 +36,6 @@ use Rattle.thorin_again.proofs.Meant.OneRow.{row-tested}
 use Rattle.thorin_again.proofs.Kept.Names.{keep-names}
 use Rattle.thorin_join.proofs.Parts.ReadAlike.{parts-first, rows-read}
 use Rattle.thorin_join.proofs.Parts.Added.{copied-or-offsets}
-use Rattle.dwp_index.specs.Index.{range_in}
 use Rattle.std.proofs.Math.Bool.{and-false}
 use Rattle.thorin_errors.specs.Errors.{DuplicateUnit}
 

@@ -4,25 +4,25 @@ use Rattle.thorin_again.proofs.Terms
 use Terms.{abbreviations_test, adding, All-from_recursion, AllOf, ap, append_assoc, arith, both}
 use Terms.{content_of, counts_once, data_of, DwarfObject, elf_of, Encoding, ErrorValue, false, File}
 use Terms.{file_encoding, file_text, finished-is, finished-order, finished-own, finished-strings}
-use Terms.{HoldsOwn, HoldsPlain, Indexes, indexes_of, inl, InProgress, input-keeps, inr, is_used}
-use Terms.{IsEquivalence, IsForeseen, IsOwn, IsPlain, IsSoundBegun, joining, keys, keys-units}
-use Terms.{KindsDiffer, length, length-append, length-map, List, list_any-append, list_any_none}
-use Terms.{Meaning, Members, nat_tests, new-sound, new_units, None, Ok, Option, own_encoding}
-use Terms.{own_source, package_or_new, Parts, parts_of, refl, rewritten, same_name, same_name-self}
-use Terms.{same_name-true, SectionKind, Some, subst, sym, true, units_begun, units_in, units_of}
-use Terms.{with_source, written_elf, written_object, [], ℕ, ◌++◌, ◌<◌, ◌∙◌, ◌∷◌, ◌≡◌}
+use Terms.{HoldsOwn, HoldsPlain, Indexes, indexes_of, inl, InProgress, input-keeps, input_meaning}
+use Terms.{inr, is_used, IsEquivalence, IsForeseen, IsOwn, IsPermutation-map, IsPlain, IsSoundBegun}
+use Terms.{joining, Joins, keys, keys-units, KindsDiffer, length, length-append, length-map, List}
+use Terms.{list_any-append, list_any_none, lookup, Meaning, Members, nat_tests, new-sound}
+use Terms.{new_units, None, Ok, Option, own_encoding, own_source, package_or_new, Parts, parts_of}
+use Terms.{refl, rewritten, same_name, same_name-self, same_name-true, SectionKind, Some, subst}
+use Terms.{sym, true, units_begun, units_in, units_of, with_source, written_elf, written_object, []}
+use Terms.{ℕ, ◌++◌, ◌<◌, ◌∙◌, ◌∷◌, ◌≡◌}
 use Rattle.thorin_again.proofs.Lists.{answers-whole, AreEncoded, Finds, first-of, input-order}
 use Rattle.thorin_again.proofs.Lists.{meant_or, own-encoded, there-back}
-use Rattle.std.proofs.Common.{Bool, cond, IsPermutation, ltb-true, nat_lt, not, ◌||◌}
+use Rattle.std.proofs.Common.{Bool, cond, filter, IsPermutation, ltb-true, nat_lt, not, ◌||◌}
 use Rattle.thorin_join.specs.Builder.{begun_by, finish_test, IsFinishedState, order_of, start}
 use Rattle.thorin_join.specs.Builder.{State, taken, with_source_or_new}
-use Rattle.std.proofs.lemmas.List.Sorted.{IsPermutation-map, IsPermutation-middle}
-use Rattle.std.proofs.lemmas.List.Sorted.{sum_by-IsPermutation}
+use Rattle.std.proofs.lemmas.List.Sorted.{IsPermutation-middle, sum_by-IsPermutation}
 use Rattle.std.specs.List.{IsDistinct}
 use Rattle.std.proofs.lemmas.Simd.{map-map}
 use Rattle.std.proofs.lemmas.Map.Keys.{IsDistinct-from_apart, IsDistinct-IsPermutation}
 use Rattle.indexmap.proofs.MapLemmas.{lookup_permutation}
-use Rattle.thorin_join.specs.Join.{IsPackageOf, Joins, limit_of, look_limit, same_sort}
+use Rattle.thorin_join.specs.Join.{IsPackageOf, limit_of, look_limit, same_sort}
 use Rattle.thorin_again.proofs.Accepted.OwnUnits.{flips, taken-all}
 use Rattle.thorin_again.specs.OwnAccepted.{IsAccepted, IsAcceptedByNew}
 use Rattle.thorin_again.proofs.Opened.Indexes.{finished-shared, in-format, lie-kept, lie-used}
@@ -36,17 +36,35 @@ use Rattle.thorin_again.proofs.Meant.Package.{again-is}
 use Rattle.thorin_again.specs.Again.{all_meant, HaveEncodingOf}
 use Rattle.thorin_again.specs.Own.{has_content, has_sections, packs_again}
 use Rattle.std.proofs.lemmas.List.Sums.{length-filter}
-use Rattle.thorin_join.specs.Meaning.{input_meaning}
 use Rattle.dwp_base.specs.declared.section.SectionKind.TheVariants as kinds
 use Rattle.dwp_units.specs.declared.unit.UnitSection.TheVariants as places
 
 -- names
-equivalence : IsEquivalence same_name
+pub equivalence : IsEquivalence same_name
 equivalence = record {
   refl = same_name-self;
   symm = flips;
   congr = λ x y z h. ap (λ n. same_name n z) (same_name-true x y h);
 }
+
+-- units of distinct names, in another order
+pub apart-again : {X : Type 0} (us vs : List (DwarfObject × X)) → IsPermutation us vs
+    → IsDistinct same_name (keys us) → IsDistinct same_name (keys vs)
+apart-again us vs h = IsDistinct-IsPermutation same_name flips (keys us) (keys vs)
+    (IsPermutation-map (λ u. u.0) us vs h)
+
+-- they are found alike
+pub found-again : {X : Type 0} (us vs : List (DwarfObject × X)) → IsDistinct same_name (keys us)
+    → IsPermutation us vs → (name : DwarfObject)
+    → lookup (same_name name) us ≡ lookup (same_name name) vs
+found-again us vs apart h name = sym (lookup_permutation equivalence us vs h
+    (apart-again us vs h apart) (same_name name) (equivalence.congr name))
+
+-- as many of them pass a test
+pub count-again : {X : Type 0} (test : X → Bool) (us vs : List X) → IsPermutation us vs
+    → length (filter test us) ≡ length (filter test vs)
+count-again test us vs h =
+    simp length-filter (sym (sum_by-IsPermutation (λ u. cond (test u) 1 0) us vs h))
 
 -- units of distinct names are joined as they are
 joining-apart : {X : Type 0} (names : List DwarfObject) (us : List (DwarfObject × X))
@@ -67,8 +85,7 @@ alone-units : (bytes : List ℕ) (us now : Members) → IsDistinct same_name (ke
     → input_meaning bytes ≡ Ok meant → IsPermutation (all_meant us) meant) → IsPermutation us now
 alone-units bytes us now distinct joins means =
     let perm = means joins.units joins.meaning in
-    let apart = IsDistinct-IsPermutation same_name flips (keys (all_meant us)) (keys joins.units)
-    (IsPermutation-map (λ u. u.0) (all_meant us) joins.units perm) (rw map-map distinct) in
+    let apart = apart-again (all_meant us) joins.units perm (rw map-map distinct) in
     let units : joins.units ≡ all_meant joins.added = sym (joining-apart [] joins.units apart)
     ∙ joins.joined in
     let full = IsPermutation-map meant_or (all_meant us) _ (rw units at perm) in
@@ -78,14 +95,10 @@ alone-units bytes us now distinct joins means =
 alone-finds : (us vs : Members) (bytes : List ℕ) → IsPermutation us vs → IsDistinct same_name
     (keys us) → (p : IsPackageOf vs bytes) → Finds p.pack us
 alone-finds us vs bytes perm distinct p name =
-    let apart = IsDistinct-IsPermutation same_name flips (keys us) (keys vs)
-    (IsPermutation-map (λ u. u.0) us vs perm) distinct in
-    let same = lookup_permutation equivalence us vs perm apart (same_name name)
-    (equivalence.congr name) in
-    let test : DwarfObject × Meaning → Bool = λ u. same_sort name u.0 in
-    let limit : look_limit us name ≡ look_limit vs name = ap limit_of (length-filter test us ∙ sym
-    (sum_by-IsPermutation (λ u. cond (test u) 1 0) us vs perm) ∙ sym (length-filter test vs)) in
-    rw (limit, ← same) (p.finds name)
+    let same = found-again us vs distinct perm name in
+    let limit : look_limit us name ≡ look_limit vs name =
+    ap limit_of (count-again (λ u. same_sort name u.0) us vs perm) in
+    rw (limit, same) (p.finds name)
 
 -- what the state of a written file has
 data-there : (strings : List (List ℕ)) → 0 < length strings → 0 < length (data_of strings)

@@ -9,16 +9,15 @@ use Terms.{HasNamedParts, Header, IndexEntry, inl, InProgress, input_encoding, i
 use Terms.{is_in_format, is_package, is_shared, is_used, joined_parts, joining, keys, kind-place}
 use Terms.{kind_of, length, length-append, List, list_all, list_any, list_any-append, Made, moved}
 use Terms.{nat_tests, NewUnit, None, Ok, Option, or-right, package_or_new, Parts, Reads}
-use Terms.{recursion_from_All, refl, row_at, same-begun, same-ok, same_encoding, section}
-use Terms.{section_has, SectionKind, sections-are, slice_get_within, Source, source-made, subst}
-use Terms.{sym, takes, true, UnitRead, units, UnitSection, Used, WasRead, with_all_parts}
+use Terms.{recursion_from_All, refl, row_at, rows_begun, same-begun, same-ok, same_encoding}
+use Terms.{section, section_has, SectionKind, sections-are, slice_get_within, Source, source-made}
+use Terms.{subst, sym, takes, true, UnitRead, units, UnitSection, Used, WasRead, with_all_parts}
 use Terms.{with_input, with_new_units, with_unit_added, [], ℕ, ◌++◌, ◌<◌, ◌∙◌, ◌∷◌, ◌≡◌}
 use Rattle.thorin_join.proofs.Parts.Added.{content-with_bytes, content-with_parts}
 use Rattle.thorin_join.proofs.Parts.Added.{each-unit as unit-by-unit, joined_parts-other, step}
 use Rattle.thorin_join.proofs.Units.ReadInTurn.{AllSo, IsAdded, News, units-joined, UnitsJoined}
 use Rattle.thorin_join.proofs.Rows.OfUnits.{adjusted-plain, is-unit_row, IsUnitRow, whole-else}
 use Rattle.thorin_join.proofs.Rows.OfUnits.{whole-part}
-use Rattle.thorin_join.specs.StandApart.{rows_begun}
 use Rattle.thorin_join.proofs.Rows.OneAdded.{row-part}
 use Rattle.std.proofs.ByRecursion.{All-append}
 use Rattle.std.proofs.Common.{eqb, eqb-true, is_some}

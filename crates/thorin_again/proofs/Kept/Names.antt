@@ -6,16 +6,16 @@ use Rattle.thorin_again.proofs.Terms
 use Terms.{abbreviations_for, adding, ap, append-nil, append_assoc, arith, bind-was, by-bool}
 use Terms.{content_of, Contents, contribution_to, drop-append-le, DwarfObject, Each, each-all}
 use Terms.{EachRow, Encoding, encoding_of, Endianness, ErrorValue, false, first, first_encoding}
-use Terms.{grows-with_parts, HasFront, HasNamedUnits, Header, header_at, identity-shifted}
+use Terms.{grows-with_parts, HasFront, HasNamedUnits, Header, header_at, identity, identity-shifted}
 use Terms.{IndexEntry, InProgress, Input, is-same, is_package, IsSound, joined_parts, joining, keys}
 use Terms.{keys-held, kind_of, length, length-append, LieInside, List, list_all, list_any}
 use Terms.{list_any-append, Made, map, map-append, name-identity, name_for, name_signature}
 use Terms.{NamesItself, newer-five, NewUnit, nil_from_length, None, Ok, older_at, Option, or-right}
-use Terms.{part_of, place_for, place_of, ReadError, Reads, refl, row_at, same-ok, same_kind}
-use Terms.{same_name, same_name-self, same_name-true, section, section_has, SectionKind, slice_get}
-use Terms.{Some, sound-inside, Source, subst, sym, true, type_signature, unit_at, unit_bytes}
-use Terms.{unit_section, UnitRead, units, units_within, Used, WasRead, with_bytes, with_new_units}
-use Terms.{with_unit_added, [], ℕ, ◌++◌, ◌<◌, ◌∙◌, ◌∷◌, ◌≡◌, ◌⊎◌}
+use Terms.{part_of, place_for, place_of, ReadError, Reads, refl, root_identity, row_at, same-ok}
+use Terms.{same_kind, same_name, same_name-self, same_name-true, section, section_has, SectionKind}
+use Terms.{slice_get, Some, sound-inside, Source, subst, sym, true, type_signature, unit_at}
+use Terms.{unit_bytes, unit_section, UnitRead, units, units_within, Used, WasRead, with_bytes}
+use Terms.{with_new_units, with_unit_added, [], ℕ, ◌++◌, ◌<◌, ◌∙◌, ◌∷◌, ◌≡◌, ◌⊎◌}
 use Rattle.dwp_units.proofs.Readings.{more, takes_more}
 use Rattle.dwp_units.specs.Units.{older_type_at}
 use Rattle.thorin_join.proofs.Rows.OneAdded.{content-put, front-long, Grows, grows-trans}
@@ -26,7 +26,6 @@ use Rattle.dwp_dwarf.proofs.Offsets.{from_is, from_within}
 use Rattle.dwp_dwarf.specs.Offsets.{from_at}
 use Rattle.dwp_dwarf.specs.Grammar.{DeclarationsLie, IsBehindOthers}
 use Rattle.dwp_dwarf.specs.Abbreviations.{Declaration, declaration}
-use Rattle.thorin_identity.specs.Identity.{identity, root_identity}
 use Rattle.thorin_join.specs.Meaning.{joined_content, named_at, named_each, named_sections}
 use Rattle.thorin_join.specs.State.{names_of, with_new_unit}
 use Rattle.thorin_join.proofs.Units.ReadInTurn.{added-keys, each-named, IsAdded, Listed, News}
@@ -35,12 +34,12 @@ use Rattle.thorin_again.proofs.Kept.EachUnit.{of-one, OfOne, order-added, parted
 use Rattle.thorin_again.proofs.Kept.EachUnit.{shared-row, with-any, with-each}
 use Rattle.thorin_again.proofs.Meant.RowByRow.{part-middle}
 use Rattle.thorin_join.proofs.Rows.AllAdded.{AllNew, can-lie, joined-new, names-added}
-use Rattle.dwp_base.specs.declared.section.SectionKind.TheVariants as kinds
-use Rattle.dwp_units.specs.declared.unit.UnitSection.TheVariants as places
 use Rattle.std.proofs.ByRecursion.{All-append}
 use Rattle.thorin_input.specs.Parts.{with_parts}
 use Rattle.thorin_join.proofs.Units.Whole.{Goes, goes-alone, identity-sort, known-in}
 use Rattle.thorin_join.proofs.Parts.Added.{content-with_bytes, content-with_parts, parts-copied}
+use Rattle.dwp_base.specs.declared.section.SectionKind.TheVariants as kinds
+use Rattle.dwp_units.specs.declared.unit.UnitSection.TheVariants as places
 
 -- what is read of a table of abbreviations stays where more bytes follow
 module _ (rest : List ℕ) where

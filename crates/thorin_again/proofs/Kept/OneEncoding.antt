@@ -5,19 +5,17 @@ use Terms.{All, All-append, All-cons, All-nil, All-weaker, all_there, ap, arith,
 use Terms.{data_of, DwarfObject, Each, each-all, each-joining, each-mapped, Elf, Encoding}
 use Terms.{ErrorValue, false, file_encoding, first, has_info, HasTiledOffsets, HoldsOwn, HoldsPlain}
 use Terms.{IfSome, IfSome_then, index_in, IndexEntry, Indexes, indexes_of, inl, InProgress}
-use Terms.{input-keeps, InputFile, inr, is_index, is_package, is_plain, IsPlain, IsSoundBegun, keys}
-use Terms.{length, length-map, List, list_all, list_any, made-order, Meaning, Members, nat_tests}
-use Terms.{new-sound, new-units, None, Ok, Option, own_encoding, package_or_new, Ranges, Reads}
-use Terms.{refl, same-ok, same_Some, section_has, Some, Source, source-made, source_units, subst}
-use Terms.{sym, Takes, takes, TakesUnits, true, TuIndex, UnitRead, units_begun, units_of, Used}
-use Terms.{with_input, [], ℕ, ◌<◌, ◌↔◌, ◌∙◌, ◌∷◌, ◌≡◌}
+use Terms.{input-keeps, input_meaning, InputFile, inr, is_index, is_package, is_plain, IsPlain}
+use Terms.{IsSoundBegun, Joins, keys, length, length-map, List, list_all, list_any, made-order}
+use Terms.{Meaning, meaning_by, Members, nat_tests, new-sound, new-units, None, Ok, Option}
+use Terms.{own_encoding, package_or_new, Ranges, Reads, refl, same-ok, same_Some, section_has, Some}
+use Terms.{Source, source-made, source_units, subst, sym, Takes, takes, TakesUnits, true, TuIndex}
+use Terms.{UnitRead, units_begun, units_of, Used, with_input, [], ℕ, ◌<◌, ◌↔◌, ◌∙◌, ◌∷◌, ◌≡◌}
 use Rattle.thorin_again.proofs.Kept.EachUnit.{encoding-eq, named-kept}
 use Rattle.thorin_again.proofs.Kept.Names.{info-there, names-kept}
 use Rattle.thorin_again.proofs.Offsets.RewrittenAgain.{no-turn}
 use Rattle.thorin_again.proofs.Offsets.Tiled.{tiled-kept}
-use Rattle.thorin_join.specs.Meaning.{input_meaning, meaning_by, meant, object_meaning}
-use Rattle.thorin_join.specs.Meaning.{source_meaning, unit_meaning}
-use Rattle.thorin_join.specs.Join.{Joins}
+use Rattle.thorin_join.specs.Meaning.{meant, object_meaning, source_meaning, unit_meaning}
 use Rattle.thorin_join.specs.Builder.{names_in, State, taken}
 
 -- a unit has the encoding of its input, and the bytes that were read

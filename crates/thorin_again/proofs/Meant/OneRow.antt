@@ -1,31 +1,27 @@
 -- What a unit of a written package means as an input: just what was joined.
 use Rattle.thorin_again.proofs.Terms
 use Terms.{abbreviations_for, All-filter, AllOf, ap, AreRowsOf, arith, by-bool, content_of}
-use Terms.{Contents, Contribution, contribution_to, contributions-same, DwarfObject, Encoding}
-use Terms.{Endianness, entry_ids, false, File, first, get_or_append_left, HasContributions}
-use Terms.{HasEntries, HasRows, Header, id-at, identifier_of, Index, index_for, IndexEntry, Indexes}
+use Terms.{Contents, Contribution, contribution_to, DwarfObject, Encoding, Endianness, entry_ids}
+use Terms.{false, File, filter-append, first, get_or_append_left, HasContributions, HasEntries}
+use Terms.{HasRows, Header, id-at, identifier_of, identity, Index, index_for, IndexEntry, Indexes}
 use Terms.{InProgress, Input, is_chosen, is_compilation, is_outside, IsRowOf, kind_of, length}
-use Terms.{LieInside, List, looked_up, Meaning, meaning_at, members, name-identity, name_for}
-use Terms.{name_signature, nat_tests, None, none-some, not-outside, Ok, Option, own_source}
-use Terms.{part-there, part_of, Ranges, refl, row_of, row_test, rows_of, section, SectionKind}
-use Terms.{slice_get, slice_get-get_or, slice_get_within, Some, Source, strings_of, suc, sym}
-use Terms.{take-length, true, UnitSection, zero, [], ℕ, ◌++◌, ◌+◌, ◌<◌, ◌∙◌, ◌∷◌, ◌≡◌, ◌≤◌}
+use Terms.{LieInside, List, looked_up, Meaning, meaning_at, meaning_by, members, name-identity}
+use Terms.{name_for, name_signature, nat_tests, None, none-some, not-outside, Ok, Option}
+use Terms.{own_source, part-there, part_of, range_in, Ranges, refl, row_in, row_of, row_test}
+use Terms.{rows_of, section, SectionKind, slice_get, slice_get-get_or, slice_get_within, Some}
+use Terms.{Source, strings-are, strings_of, suc, sym, take-length, true, UnitSection, zero, [], ℕ}
+use Terms.{◌++◌, ◌+◌, ◌<◌, ◌∙◌, ◌∷◌, ◌≡◌, ◌≤◌}
 use Rattle.std.proofs.Common.{ap₂, Bool, eqb-true, find, get_or, is_none, nat_eq, ◌≢◌}
-use Rattle.thorin_join.specs.Meaning.{lie_inside, meaning_by, meaning_with, shared_kinds}
-use Rattle.thorin_join.specs.Meaning.{unit_meaning}
-use Rattle.dwp_index.specs.Index.{range_in, row_in}
+use Rattle.thorin_join.specs.Meaning.{lie_inside, meaning_with, shared_kinds, unit_meaning}
 use Rattle.dwp_table.specs.Probing.{found_row, look_count}
 use Rattle.thorin_package_input.specs.RowPlaces.{row_by_place}
 use Rattle.thorin_input.specs.Rows.{numbered_abbreviations, own_contribution, row_abbreviations}
 use Rattle.thorin_again.proofs.Meant.RowByRow.{at-seam, bytes-own, IsBelow, IsUnitOf, range_at}
 use Rattle.thorin_package_input.proofs.FirstRow.{first_found}
 use Rattle.dwp_table.proofs.Tables.{finds_exactly}
-use Rattle.thorin_join.proofs.Parts.Ranges.{strings-are}
 use Rattle.thorin_again.proofs.Opened.Indexes.{IsReadOf, rows-kept}
 use Rattle.dwp_table.specs.Table.{FindsExactly}
 use Rattle.thorin_join.proofs.Units.Whole.{identity-sort}
-use Rattle.thorin_identity.specs.Identity.{identity}
-use Rattle.std.proofs.lemmas.List.Elements.{filter-append}
 use Rattle.dwp_base.specs.declared.section.SectionKind.TheVariants as kinds
 
 -- names of one sort, and of type units of one signature, are one where compilations of one index
@@ -165,8 +161,7 @@ module _ {encoding : Encoding} {file : File} {indexes : Indexes} {made : InProgr
       rw inside (ap (meaning_with source u.own (Some parts.row)) strings_are
       ∙ (λ i. Some (record {
         bytes = own_is i;
-        contributions = contributions-same _ _ (λ k copied.
-            bytes-are k ∙ is.shares.content k copied) i;
+        contributions = λ k copied. (bytes-are k ∙ is.shares.content k copied) i;
         strings = (mean row).strings;
         encoding = joined.1 i;
       })))

@@ -1,22 +1,21 @@
 -- A finished package, taken as an input, means the units that were joined in it.
 use Rattle.thorin_again.proofs.Terms
-use Terms.{Adding, adding, All, All-drop, All-from_recursion, All-head, All-tail, All-take, AllOf}
-use Terms.{Any-from_list_any, ap, append-nil, AreAdded, arith, bind-was, by-bool, content_of}
-use Terms.{Contents, DwarfObject, Each, elf_of, Encoding, encoding_of, ErrorValue, File, file_text}
-use Terms.{first, has_info, IndexEntry, Indexes, indexes_of, InProgress, is_at, is_compilation}
-use Terms.{IsOwn, IsSound, IsSoundBegun, joining, kind_of, KindsDiffer, length, length-map, List}
-use Terms.{map, map-append, Meaning, meaning_at, Members, members, name_for, NewUnit}
-use Terms.{nil_from_length, Ok, opened, Option, own_source, package_or_new, Reads, refl, Result}
-use Terms.{row_test, rows_at, same-ok, section, SectionKind, Source, source-made, source_for}
-use Terms.{source_units, subst, sym, true, unit_section, UnitRead, units, units_in, units_of}
-use Terms.{units_within, UnitSection, with_input, with_source, with_units, written_elf}
-use Terms.{written_object, written_used, [], ℕ, ◌++◌, ◌<◌, ◌∙◌, ◌∷◌, ◌≡◌}
-use Rattle.std.proofs.lemmas.List.Sorted.{All-permutation, IsPermutation-append_comm}
-use Rattle.std.proofs.lemmas.List.Sorted.{IsPermutation-append_right, IsPermutation-filter_both}
-use Rattle.std.proofs.lemmas.List.Sorted.{IsPermutation-map, IsPermutation-refl, IsPermutation-sym}
-use Rattle.std.proofs.lemmas.List.Sorted.{IsPermutation-trans}
-use Rattle.thorin_join.specs.Meaning.{can_join, input_meaning, meant, named_at, named_each}
-use Rattle.thorin_join.specs.Meaning.{named_sections, named_unit, object_meaning, source_meaning}
+use Terms.{Adding, adding, All, All-drop, All-from_recursion, All-head, All-permutation, All-tail}
+use Terms.{All-take, AllOf, Any-from_list_any, ap, append-nil, AreAdded, arith, bind-was, by-bool}
+use Terms.{content_of, Contents, DwarfObject, Each, elf_of, Encoding, encoding_of, ErrorValue, File}
+use Terms.{file_text, first, has_info, IndexEntry, Indexes, indexes_of, InProgress, input_meaning}
+use Terms.{is_at, is_compilation, IsOwn, IsPermutation-map, IsSound, IsSoundBegun, joining, kind_of}
+use Terms.{KindsDiffer, length, length-map, List, map, map-append, Meaning, meaning_at, Members}
+use Terms.{members, name_for, NewUnit, nil_from_length, Ok, opened, Option, own_source}
+use Terms.{package_or_new, Reads, refl, Result, row_test, rows_at, same-ok, section, SectionKind}
+use Terms.{Source, source-made, source_for, source_units, subst, sym, true, unit_section, UnitRead}
+use Terms.{units, units_in, units_of, units_within, UnitSection, with_input, with_source}
+use Terms.{with_units, written_elf, written_object, written_used, [], ℕ, ◌++◌, ◌<◌, ◌∙◌, ◌∷◌, ◌≡◌}
+use Rattle.std.proofs.lemmas.List.Sorted.{IsPermutation-append_comm, IsPermutation-append_right}
+use Rattle.std.proofs.lemmas.List.Sorted.{IsPermutation-filter_both, IsPermutation-refl}
+use Rattle.std.proofs.lemmas.List.Sorted.{IsPermutation-sym, IsPermutation-trans}
+use Rattle.thorin_join.specs.Meaning.{can_join, meant, named_at, named_each, named_sections}
+use Rattle.thorin_join.specs.Meaning.{named_unit, object_meaning, source_meaning}
 use Rattle.thorin_again.proofs.Opened.Sections.{empty-first, first-written, input-encoding, no-info}
 use Rattle.thorin_again.proofs.Opened.Sections.{none-behind, object-written, opened-elf}
 use Rattle.thorin_again.proofs.Opened.Sections.{rest-differ, section_of}

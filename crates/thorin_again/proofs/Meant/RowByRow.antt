@@ -1,15 +1,14 @@
 -- What the rows of a written package are for an input, and which begin before a place. A section of
 -- units of such a package is read as the units of its rows, one after another.
 use Rattle.thorin_again.proofs.Terms
-use Terms.{All, All-nil, ap, append_assoc, arith, by-bool, content_of, Contents, Contribution}
-use Terms.{contribution_to, data_of, Endianness, false, first, HasRows, HaveOneRange, Header}
-use Terms.{IndexEntry, Input, is_at, is_package, IsShifted, IsTable, kind_of, length, length-append}
-use Terms.{Lie, List, name_signature, ne_eqb, Ok, part-inside, part_of, place_of, plain, ReadError}
-use Terms.{refl, Result, rows_at, rows_of, same_place, section, SectionKind, slice_get, Some}
-use Terms.{Source, suc, sym, true, type_signature, unit-moves, unit_at, unit_bytes, units}
-use Terms.{units_within, UnitSection, zero, [], ℕ, ◌++◌, ◌+◌, ◌-◌, ◌<◌, ◌∙◌, ◌∷◌, ◌≡◌, ◌≤◌}
+use Terms.{after, All, All-nil, ap, append_assoc, arith, by-bool, content_of, Contents}
+use Terms.{Contribution, contribution_to, data_of, Endianness, false, first, HasRows, HaveOneRange}
+use Terms.{Header, IndexEntry, Input, is_at, is_package, IsShifted, IsTable, kind_of, length}
+use Terms.{length-append, Lie, List, name_signature, ne_eqb, Ok, part-inside, part_of, place_of}
+use Terms.{plain, ReadError, refl, Result, rows_at, rows_of, same_place, section, SectionKind}
+use Terms.{slice_get, Some, Source, suc, sym, true, type_signature, unit-moves, unit_at, unit_bytes}
+use Terms.{units, units_within, UnitSection, zero, [], ℕ, ◌++◌, ◌+◌, ◌-◌, ◌<◌, ◌∙◌, ◌∷◌, ◌≡◌, ◌≤◌}
 use Rattle.std.proofs.lemmas.List.Elements.{All-push, All-weaker}
-use Rattle.dwp_bytes.specs.Input.{after}
 use Rattle.std.proofs.Math.Seq.{drop-append_seam, take-append_seam}
 use Rattle.dwp_base.specs.declared.section.SectionKind.TheVariants as kinds
 

@@ -4,7 +4,7 @@
 -- from the same strings on, give the same strings.
 use Rattle.thorin_again.proofs.Terms
 use Terms.{All-from_recursion, all_kept_by, Any-from_list_any, arith, bind-was, Contribution}
-use Terms.{contribution_to, drop-append-le, Each, EachRow, Encoding, Endianness, false}
+use Terms.{contribution_to, count-again, drop-append-le, Each, EachRow, Encoding, Endianness, false}
 use Terms.{get_or_from_slice_get, HasContributions, HasOneOf, HasRows, Index, IndexEntry, inl, inr}
 use Terms.{is_chosen, is_used, IsAmong, IsOfSome, IsWholeRange, length, length-append, List}
 use Terms.{list_any, list_any-append, map, nat_tests, no_header, None, number_front, offset_size}
@@ -27,7 +27,6 @@ use Rattle.thorin_strings.specs.StringOffsets.{remapped, remapped_entries, remap
 use Rattle.dwp_bytes.specs.StringOffsets.{entry_in, header_size, string_at, string_in}
 use Rattle.std.proofs.Math.Seq.{drop-append-add}
 use Rattle.std.proofs.lemmas.Option.{slice_get_cases, slice_get_read}
-use Rattle.thorin_join.proofs.Parts.Ranges.{count-again}
 
 -- the rows of compilation units and those of type units
 pub at-row : (P : IndexEntry → Type 0) (rows : List IndexEntry) (n : ℕ) (row : IndexEntry)

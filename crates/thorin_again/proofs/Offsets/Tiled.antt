@@ -2,22 +2,20 @@
 -- what each gives to string offsets is nothing, or a whole range.
 use Rattle.thorin_again.proofs.Terms
 use Terms.{Added, All-weaker, ap, arith, by-bool, content_of, Contents, Contribution}
-use Terms.{contribution_put, data_of, EachRow, Encoding, Endianness, entry_count, eqb-false, false}
-use Terms.{first, GiveStrings, has_part, HasOneOf, HasTiledOffsets, IndexEntry, inl, InProgress}
-use Terms.{inr, is-same, is_package, IsAmong, IsOfSome, IsTable, IsWholeRange, joined_parts, length}
-use Terms.{length-append, List, no_header, none-some, offset_size, Ok, own-bytes, Parts, parts_of}
-use Terms.{place-put, range_for, refl, same_Some, Some, Source, source-made, Str, StrOffsets, subst}
-use Terms.{sym, take-length, Tile, true, Used, with_source, [], ℕ, ◌++◌, ◌+◌, ◌<◌, ◌∙◌, ◌∷◌, ◌≡◌}
-use Terms.{◌⊎◌}
+use Terms.{contribution_put, count-again, data_of, EachRow, Encoding, Endianness, entry_count}
+use Terms.{eqb-false, false, first, GiveStrings, has_part, HasOneOf, HasTiledOffsets, IndexEntry}
+use Terms.{inl, InProgress, inr, is-same, is_package, IsAmong, IsOfSome, IsTable, IsWholeRange}
+use Terms.{joined_parts, length, length-append, List, names-same, no_header, none-some, offset_size}
+use Terms.{Ok, own-bytes, Parts, parts_of, place-put, range-of, range_for, refl, same_Some, Some}
+use Terms.{Source, source-made, stands_once, Str, StrOffsets, subst, sym, take-length, Tile, true}
+use Terms.{Used, with_source, [], ℕ, ◌++◌, ◌+◌, ◌<◌, ◌∙◌, ◌∷◌, ◌≡◌, ◌⊎◌}
 use Rattle.std.proofs.Common.{add-mul, Bool, eqb, eqb-true, leb, leb-false, lt-ltb, take}
 use Rattle.std.proofs.Common.{true≢false, zero-mul, ⊎_elim, ◌&&◌, ◌*◌}
-use Rattle.thorin_input.specs.Parts.{stands_once}
 use Rattle.thorin_strings.specs.StringOffsets.{entry_bytes, header_of, remapped, remapped_entries}
 use Rattle.thorin_again.proofs.Offsets.RewrittenAgain.{entries-alike, grown, InTurn, Lead}
 use Rattle.thorin_again.proofs.Offsets.RewrittenAgain.{leads-joined, no-turn, turn, whole-remapped}
 use Rattle.thorin_join.proofs.Parts.Added.{Adds, each-part, joined_parts-more, joined_parts-other}
 use Rattle.thorin_join.proofs.Parts.Added.{no-entries, Rewritten, rewritten-plain, units-strings}
-use Rattle.thorin_join.proofs.Parts.Ranges.{count-again, names-same, range-of}
 use Rattle.thorin_join.proofs.Parts.ReadAlike.{has-more, has-other}
 use Rattle.thorin_again.proofs.Kept.EachUnit.{content-added, once-more, order-added, parted}
 use Rattle.thorin_again.proofs.Kept.EachUnit.{row_with, RowHas, rows-share, with-any, with-each}

@@ -2,29 +2,26 @@
 -- sections are in the format of its units. A written package of plain objects is read again: its
 -- indexes, and its string offsets.
 use Rattle.thorin_again.proofs.Terms
-use Terms.{All, All-filter, All-tail, AllOf, ap, AreRowsOf, arith, content_of, Contents}
+use Terms.{All, All-filter, All-tail, AllOf, ap, AreRowsOf, arith, chosen-fit, content_of, Contents}
 use Terms.{Contribution, counts_once, data_of, DwarfObject, Encoding, Endianness, entry_ids, false}
-use Terms.{File, file_text, finished-grows, finished-order, finished-own, finished-strings, first}
-use Terms.{get_or-map, HasRows, HasTiledOffsets, Index, index_in, index_tests, IndexEntry, Indexes}
-use Terms.{indexes_of, inl, InProgress, inr, is_chosen, is_in_format, is_of_units, is_package}
-use Terms.{is_shared, is_used, IsIndexOf, IsLaid, IsOfSome, IsOwn, IsPlain, IsSound, IsTable}
-use Terms.{IsWholeRange, keep-rows, kind_of, KindsDiffer, length, length-map, Lie, List, Meaning}
-use Terms.{meaning_at, Members, nat_tests, nil_from_length, None, Ok, Option, own_source}
-use Terms.{part-inside, range_bytes, refl, rewritten, rows_at, rows_of, same-each, same-ok}
-use Terms.{same_Some, SectionKind, slice_get, Some, source_for, subst, sym, take-length}
+use Terms.{File, file_text, finished-order, finished-own, finished-strings, first, get_or-map}
+use Terms.{HasRows, HasTiledOffsets, Index, index_in, index_tests, index_version_of, IndexEntry}
+use Terms.{Indexes, indexes_of, inl, InProgress, inr, is_chosen, is_in_format, is_of_units}
+use Terms.{is_package, is_shared, is_used, IsIndexOf, IsLaid, IsOfSome, IsOwn, IsPlain, IsSound}
+use Terms.{IsTable, IsWholeRange, keep-rows, kind_of, KindsDiffer, length, length-map, Lie, List}
+use Terms.{Meaning, meaning_at, Members, nat_tests, nil_from_length, no-bytes, None, Ok, Option}
+use Terms.{own_source, part-inside, range_bytes, refl, rewritten, rows_at, rows_of, same-each}
+use Terms.{same-ok, same_Some, SectionKind, slice_get, Some, source_for, subst, sym, take-length}
 use Terms.{TakesUpToParts, true, units_of, UnitSection, UnlessStringOffset, version_test}
 use Terms.{with_input, with_units, written_elf, written_object, [], ℕ, ◌<◌, ◌∙◌, ◌∷◌, ◌≡◌}
+use Rattle.thorin_join.proofs.Files.Finished.{finished-compilations, finished-content}
+use Rattle.thorin_join.proofs.Files.Finished.{finished-grows, finished-types, Tested, tested-state}
 use Rattle.std.proofs.Common.{Bool, cond, is_some, not, slice_index, ◌^◌, ◌||◌}
 use Rattle.thorin_join.specs.Builder.{IsFinished, order_of, order_test, same_order, State}
-use Rattle.thorin_join.proofs.Files.Contents.{chosen-fit, no-bytes}
-use Rattle.dwp_bytes.specs.Encoding.{index_version_of}
 use Rattle.thorin_index.proofs.Each.{have_passed, used_known}
-use Rattle.thorin_index.proofs.ReadAgain.{index_is_read}
-use Rattle.thorin_index.proofs.ReadAgain.{written_rows}
+use Rattle.thorin_index.proofs.ReadAgain.{index_is_read, written_rows}
 use Rattle.thorin_again.proofs.Opened.Sections.{first-written, info-written, object-written}
 use Rattle.thorin_again.proofs.Opened.Sections.{opened-elf}
-use Rattle.thorin_join.proofs.Files.Finished.{finished-compilations, finished-content}
-use Rattle.thorin_join.proofs.Files.Finished.{finished-types, Tested, tested-state}
 use Rattle.dwp_table.specs.Columns.{column_of}
 use Rattle.thorin_join.proofs.Units.InRows.{distinct_chosen}
 use Rattle.thorin_again.proofs.Meant.RowByRow.{IsAgain}

@@ -5,10 +5,10 @@ use Rattle.thorin_again.proofs.Terms
 use Terms.{ap, append-nil, append_assoc, arith, CanTake, content_of, Contents, count_of, Elf}
 use Terms.{elf_of, encoding_of, ErrorValue, false, File, file_text, first, has_info, has_part, Info}
 use Terms.{input_encoding, is-same, is_in_format, KindsDiffer, length, List, list_any}
-use Terms.{list_any-append, name_of, name_table, nat_tests, nil_from_length, Ok, opened, Parts}
-use Terms.{parts_of, refl, Result, rewritten, same-self, same_kind, SectionKind, Source, StrOffsets}
-use Terms.{subst, sym, TakesParts, true, Used, used_kind, written_elf, written_object, written_used}
-use Terms.{[], ℕ, ◌++◌, ◌+◌, ◌<◌, ◌>>=◌, ◌∙◌, ◌∷◌, ◌≡◌, ◌≤◌}
+use Terms.{list_any-append, name_of, name_table, nat_tests, nil_from_length, nothing, Ok, opened}
+use Terms.{or_right, Parts, parts_of, refl, Result, rewritten, same-self, same_kind, SectionKind}
+use Terms.{Source, StrOffsets, subst, sym, TakesParts, true, Used, used_kind, written_elf}
+use Terms.{written_object, written_used, [], ℕ, ◌++◌, ◌+◌, ◌<◌, ◌>>=◌, ◌∙◌, ◌∷◌, ◌≡◌, ◌≤◌}
 use Rattle.thorin_input.specs.Parts.{with_each_part, with_offsets, with_part}
 use Rattle.std.proofs.Common.{Bool, bytes_eq, cond, Err}
 use Rattle.dwp_base.proofs.EveryKind.{every, kind-named, not-older}
@@ -16,8 +16,6 @@ use Rattle.dwp_elf_read.specs.Elf.{is_named, is_of, SectionMeaning}
 use Rattle.dwp_elf_read.specs.Identification.{identity_of}
 use Rattle.dwp_index.specs.Contents.{is_of_kind}
 use Rattle.thorin_input.specs.Used.{has_kind, input_file_of, is_present, used_bytes, used_from}
-use Rattle.thorin_join.proofs.Files.Contents.{nothing}
-use Rattle.std.proofs.lemmas.Bool.{or_right}
 use Rattle.thorin_input.proofs.Walking.{found-any}
 use Rattle.dwp_elf.specs.Written.{plain_section, written_sections}
 use Rattle.dwp_index.specs.Contents as contents
