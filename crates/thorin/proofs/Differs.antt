@@ -1,21 +1,20 @@
 -- The type units that an input's steps pass over and find to differ are those of its list of units.
 use Rattle.thorin.proofs.Terms
-use Terms.{ap, append-nil, append_assoc, bind-was, Compilation, DwarfObject, Elf, inl, InProgress}
-use Terms.{inr, List, lookup, map, map-append, Meaning, None, Ok, Option, refl, rules, same-ok}
-use Terms.{same_name, Some, Source, source_units, State, sym, taken, takes, TypeUnit, UnitRead}
-use Terms.{units_in, Used, ℕ, [], ◌++◌, ◌∙◌, ◌∷◌, ◌≡◌}
-use Rattle.thorin_join.proofs.Terms.{Adding, IndexEntry, kept_bytes, meaning_at, New, new_units}
-use Rattle.thorin_join.proofs.Terms.{NewUnit, package_or_new, parts_of, units_begun, with_new_unit}
-use Rattle.thorin_join.proofs.Terms.{with_new_units, with_source, with_unit, with_unit_added}
-use Rattle.thorin_builder.proofs.Terms.{held_units, or_held, with_all, with_first}
+use Terms.{ap, append-nil, append_assoc, begun-now, bind-was, Compilation, DwarfObject, Elf}
+use Terms.{IndexEntry, inl, InProgress, inr, List, lookup, map, map-append, Meaning, None, Ok}
+use Terms.{Option, refl, rules, same-ok, same_name, Some, Source, source-made, source_units, State}
+use Terms.{sym, taken, takes, TypeUnit, UnitRead, units_in, Used, [], ℕ, ◌++◌, ◌∙◌, ◌∷◌, ◌≡◌}
+use Rattle.thorin_input.specs.NewUnits.{Adding, New, NewUnit, or_held, with_first, with_unit}
+use Rattle.thorin_join.specs.Represents.{meaning_at, units_begun}
+use Rattle.thorin_join.specs.Builder.{differing_begun, differing_in, package_or_new}
+use Rattle.thorin_join.specs.State.{adding, held_units, with_source}
 use Rattle.std.proofs.lemmas.Simd.{map-map}
 use Rattle.dwp_units.specs.Units.{Unit as Header}
 use Rattle.thorin.specs.Differing.{Bytes, differing, differing_by, input_units, object_units}
 use Rattle.thorin.specs.Differing.{or_there, own_bytes, read_bytes}
-use Rattle.thorin_join.specs.Builder.{differing_begun, differing_in}
-use Rattle.thorin_join.specs.State.{abbreviations_test, adding as adding_to}
 use Rattle.thorin_join.proofs.Units.ReadInTurn.{Steps, units-read}
-use Rattle.thorin.proofs.Running.{begun-then}
+use Rattle.thorin_join.proofs.Parts.Added.{each-unit}
+use Rattle.thorin_join.proofs.Joined.{with_all_parts}
 
 -- ---- what steps do
 
@@ -42,11 +41,9 @@ module _ (adding : Adding) where
   one-step (Some old) from (Compilation id) unit before after later h = absurd cc
   one-step (Some old) from (TypeUnit signature) unit before after later h =
       grind (rules, append_assoc)
-  one-step None from name unit before after later h = grind (
-    rules,
-    map-append {B = DwarfObject × List ℕ} (λ (u : DwarfObject × NewUnit). (u.0, u.1.bytes))
-        before.units,
-  )
+  one-step None from name unit before after later h =
+      let own : DwarfObject × NewUnit → DwarfObject × List ℕ = λ u. (u.0, u.1.bytes) in
+      grind (rules, map-append own before.units)
 
   -- what is found to differ, unit by unit
   steps-differ : (before after : New) (us : List (DwarfObject × UnitRead))
@@ -56,36 +53,24 @@ module _ (adding : Adding) where
   steps-differ before after [] same = rw (← same) (sym (append-nil before.differing))
   steps-differ before after (u ∷ us) (next, step, steps) =
       let rest : Bytes → List ℕ = λ brought. differing adding.held brought (read_bytes us) in
-      grind (
-        rules,
-        steps-differ next after us steps,
-        one-step (kept_bytes adding.held before.units u.0) step.from u.0 u.1.unit before next rest
-            step.is,
-        lookup-bytes u.0 before.units (lookup (same_name u.0) adding.held),
-      )
+      let one = one-step _ step.from u.0 u.1.unit before next rest step.is in
+      let kept = lookup-bytes u.0 before.units (lookup (same_name u.0) adding.held) in
+      grind (rules, steps-differ next after us steps, one, kept)
 
 -- ---- a package
-
-units-keep : (made : InProgress) (us : List (DwarfObject × NewUnit))
-    → (with_new_units made us).differing ≡ made.differing
-unfolding with_new_units with_new_unit
-units-keep made [] = refl
-units-keep made (u ∷ us) =
-    grind (rules, units-keep made us, units-keep (with_unit_added made u) us)
 
 source-differs : (source : Source) (before now : InProgress) (all : List (DwarfObject × UnitRead))
     → with_source source before ≡ Ok now → source_units source ≡ Ok all
     → now.differing ≡ before.differing ++ differing (held_units before) [] (read_bytes all)
-unfolding with_source with_all
 source-differs source before now all h k =
-    let s1 = bind-was (parts_of source before.strings) _ now h in
-    let s2 = bind-was (abbreviations_test source.object) _ now s1.2 in
-    let adding = adding_to source before s1.0.0 in
-    let s3 = bind-was (new_units adding) _ now s2.2 in
-    let read = units-read adding s3.0 s3.1 in
-    ap (λ (p : InProgress). p.differing) (sym (same-ok _ now s3.2)) ∙ units-keep _ s3.0.units
-    ∙ ap (λ l. before.differing ++ l)
-    (steps-differ adding (record { units = []; differing = [] }) s3.0 read.all read.steps
+    let m = source-made source before now h in
+    let read = units-read (adding source before m.parts) m.new m.new_are in
+    let parted = with_all_parts before m.parts m.after (before.differing ++ m.new.differing) in
+    let keep = each-unit (λ p us now. now.differing ≡ p.differing) (λ p. refl)
+    (λ p u us now same. same) (λ p u us now same. same) parted m.new.units in
+    ap (λ (p : InProgress). p.differing) (sym m.is) ∙ keep ∙ ap (λ l. before.differing ++ l)
+    (steps-differ (adding source before m.parts) (record { units = []; differing = [] }) m.new
+    read.all read.steps
     ∙ ap (λ l. differing (held_units before) [] (read_bytes l))
     (same-ok read.all all (sym read.is ∙ k)))
 
@@ -106,7 +91,7 @@ pub taken-differs : (bytes : List ℕ) (old new : State) (units : Bytes) → tak
     → differing_in new ≡ differing_in old ++ differing (own_bytes (units_in old)) [] units
 unfolding input_units object_units
 taken-differs bytes old new units h k =
-    let t = takes bytes old.begun new.begun (begun-then bytes old new h) in
+    let t = takes bytes old.begun new.begun (begun-now bytes old new h) in
     let made = package_or_new t.file old.begun in
     let read = rw t.opens at k in
     elim t.does [

@@ -1,31 +1,31 @@
--- Joining in groups: joining what groups joined is joining all of them.
+-- Joining in groups: joining what groups joined is joining all of them. And what packing in groups
+-- means: the join of all inputs at once.
 use Rattle.thorin.proofs.Terms
-use Terms.{◌&&◌, ◌+◌, ◌++◌, ◌==◌, [], ap, append-nil, append_assoc, AreJoined, arith, Bool}
-use Terms.{can_join, cond, DwarfObject, filter, filter-append, flat_map, IsPermutation}
-use Terms.{IsPermutation-sym, joining, keys, length, length-append, List, lookup, None, refl}
-use Terms.{remove, rules, same_name, Some, sym, true, ℕ, ◌∷◌, ◌≡◌}
-use Rattle.thorin_join.proofs.Terms.{is_compilation, list_any, list_any-append, nat_tests}
-use Rattle.std.specs.Cmp.{IsEquivalence}
-use Rattle.std.specs.List.{IsDistinct}
-use Rattle.std.specs.Option.{option_or}
-use Rattle.std.proofs.lemmas.List.Sorted
-use Sorted.{Contains-permutation, IsPermutation-cons, IsPermutation-map, IsPermutation-refl}
-use Sorted.{IsPermutation-remove, IsPermutation-trans, sum_by-IsPermutation}
-use Rattle.std.proofs.lemmas.List.Sums.{length-filter}
+use Terms.{ap, append-nil, append_assoc, AreJoined, ArePackedAlone, AreTaken, arith, begun-now}
+use Terms.{bind-was, Bool, both-true, can_join, cond, drop, drop-map, DwarfObject, File, filter}
+use Terms.{filter-append, finish_test, flat_map, HaveTheirEncodings, InProgress, input_meaning}
+use Terms.{inputs_of, is_compilation, IsDistinct, IsFinishedState, IsPackageOf, IsPackageOfAll}
+use Terms.{IsPackedInGroups, IsPermutation, IsPermutation-sym, IsSoundBegun, JoinAll, joining, keys}
+use Terms.{length, length-append, length-map, List, list_any, lookup, map, map-append, map-set}
+use Terms.{Meaning, Members, nat_tests, None, Ok, Option, option_or, refl, remove, rules, same_name}
+use Terms.{Some, start, State, subst, swap, sym, take, take-append-drop, take-map, taken}
+use Terms.{taken_each, true, units_in, with_input, [], ℕ, ◌&&◌, ◌++◌, ◌+◌, ◌==◌, ◌∙◌, ◌∷◌, ◌≡◌}
+use Rattle.std.proofs.lemmas.List.Folds.{list_any-append}
+use Rattle.std.proofs.lemmas.List.Sorted.{IsPermutation-cons, IsPermutation-refl}
+use Rattle.std.proofs.lemmas.List.Sorted.{IsPermutation-remove, IsPermutation-trans}
 use Rattle.std.proofs.lemmas.Map.{lookup-none}
 use Rattle.std.proofs.lemmas.Map.Entries.{none_past_head}
-use Rattle.std.proofs.lemmas.Map.Keys.{IsDistinct-IsPermutation, IsDistinct-from_apart}
-use Rattle.std.proofs.lemmas.Map.Keys.{IsDistinct-tail}
-use Rattle.std.proofs.lemmas.Map.Views.{Contains-from_lookup, lookup-from_Contains}
+use Rattle.std.proofs.lemmas.Map.Keys.{IsDistinct-from_apart, IsDistinct-tail}
+use Rattle.std.proofs.lemmas.Map.Views.{Contains-from_lookup}
 use Rattle.thorin_join.proofs.Units.InRows.{apart-none, joined_distinct, same_name-self}
-use Rattle.thorin_join.proofs.Units.InRows.{same_name-sym, same_name-true}
-
-names-equal : IsEquivalence same_name
-names-equal = record {
-  refl = same_name-self;
-  symm = λ a b. grind (rules, same_name-sym a b, same_name-sym b a);
-  congr = λ x y z h. ap (λ n. same_name n z) (same_name-true x y h);
-}
+use Rattle.thorin_join.proofs.Units.InRows.{same_name-true}
+use Rattle.thorin_again.proofs.Accepted.Written.{apart-again, count-again, equivalence, found-again}
+use Rattle.thorin_again.specs.Again.{all_meant, HaveEncodingOf, MeansOnceWritten, MeansWhereTaken}
+use Rattle.std.proofs.Math.ListN.{get_or-map}
+use Rattle.std.specs.List.Sorted.{apply_swaps}
+use Rattle.std.proofs.lemmas.Map.Made.{keys_of-map_values}
+use Rattle.thorin.proofs.Running.{as-written, each-taken}
+use Rattle.std.proofs.Math.Seq.{drop-append_seam, take-append_seam}
 
 abbrev pub Named : Type 0 → Type 0
 Named X = List (DwarfObject × X)
@@ -50,13 +50,9 @@ module _ {X : Type 0} where
       ≡ cond (list_any (same_name name) names) None (lookup (same_name name) us)
   found-joined name names [] = grind rules
   found-joined name names (u ∷ us) =
-      grind (
-        rules,
-        found-joined name names us,
-        found-joined name (names ++ u.0 ∷ []) us,
-        list_any-append (same_name name) names (u.0 ∷ []),
-        same_name-true name u.0,
-      )
+      let new = found-joined name (names ++ u.0 ∷ []) us in
+      let named = list_any-append (same_name name) names (u.0 ∷ []) in
+      grind (rules, found-joined name names us, new, named, same_name-true name u.0)
 
   lookup-append : (test : DwarfObject → Bool) (us vs : Named X)
       → lookup test (us ++ vs) ≡ option_or (lookup test us) (lookup test vs)
@@ -69,32 +65,11 @@ module _ {X : Type 0} where
   joined-apart us = IsDistinct-from_apart same_name (keys (joining [] us))
       (joined_distinct [] us apart-none)
 
-  apart-again : (us vs : Named X) → IsPermutation us vs → IsDistinct same_name (keys us)
-      → IsDistinct same_name (keys vs)
-  apart-again us vs h = IsDistinct-IsPermutation same_name names-equal.symm (keys us) (keys vs)
-      (IsPermutation-map (λ (u : DwarfObject × X). u.0) us vs h)
-
-  still-found : (us vs : Named X) → IsDistinct same_name (keys vs) → IsPermutation us vs
-      → (name : DwarfObject) (x : X) → lookup (same_name name) us ≡ Some x
-      → lookup (same_name name) vs ≡ Some x
-  still-found us vs apart h name x found = lookup-from_Contains names-equal name x vs apart
-      (Contains-permutation us vs (name, x) h (Contains-from_lookup same_name-true name x us found))
-
-  -- they are found alike in any order
-  pub found-again : (us vs : Named X) → IsDistinct same_name (keys us) → IsPermutation us vs
-      → (name : DwarfObject) → lookup (same_name name) us ≡ lookup (same_name name) vs
-  found-again us vs apart h name =
-      grind (
-        rules,
-        still-found us vs (apart-again us vs h apart) h name,
-        still-found vs us apart (IsPermutation-sym us vs h) name,
-      )
-
   -- behind the first of a list its name is not found
   past-first : (u : DwarfObject × X) (us : Named X) → IsDistinct same_name (keys (u ∷ us))
       → (name : DwarfObject) → same_name name u.0 ≡ true → lookup (same_name name) us ≡ None
   past-first u us apart name same =
-      lookup-none (same_name name) us (none_past_head names-equal name u us apart same)
+      lookup-none (same_name name) us (none_past_head equivalence name u us apart same)
 
   -- and those that are found alike are the same, in some order
   same-units : (us vs : Named X) → IsDistinct same_name (keys us) → IsDistinct same_name (keys vs)
@@ -109,13 +84,9 @@ module _ {X : Type 0} where
       let turned = IsPermutation-remove vs there.0 u there.1 (sym there.2) in
       let apart = apart-again vs (u ∷ rest) turned d in
       let later = same-units us rest (IsDistinct-tail same_name u.0 (keys us) c)
-      (IsDistinct-tail same_name u.0 (keys rest) apart) (λ name. grind (
-        rules,
-        same name,
-        found-again vs (u ∷ rest) d turned name,
-        past-first u us c name,
-        past-first u rest apart name,
-      )) in
+      (IsDistinct-tail same_name u.0 (keys rest) apart) (λ name.
+      let found = found-again vs (u ∷ rest) d turned name in
+      grind (rules, same name, found, past-first u us c name, past-first u rest apart name)) in
       IsPermutation-trans (u ∷ us) (u ∷ rest) vs (IsPermutation-cons u us rest later)
       (IsPermutation-sym vs (u ∷ rest) turned)
 
@@ -130,10 +101,6 @@ module _ {X : Type 0} where
   compilations-append : (us vs : Named X)
       → compilations (us ++ vs) ≡ compilations us + compilations vs
   compilations-append us vs = simp (filter-append, length-append)
-
-  compilations-again : (us vs : Named X) → IsPermutation us vs → compilations us ≡ compilations vs
-  compilations-again us vs h =
-      simp length-filter (sym (sum_by-IsPermutation (λ u. cond (is_one u) 1 0) us vs h))
 
   -- so many of them are passed over; a list can be joined where none is
   counted : (names : List DwarfObject) (us : Named X) → (n : ℕ)
@@ -163,14 +130,9 @@ module _ {X : Type 0} where
   groups-alike (g ∷ gs) (r ∷ rs) are =
       let later = groups-alike gs rs are.2 in
       let c = counted [] g in (
-        λ name. grind (
-          rules,
-          lookup-append (same_name name),
-          found-joined name [] g,
-          found-again (joining [] g) r (joined-apart g) are.1 name,
-          later.0 name,
-        ),
-        grind (arith, nat_tests, compilations-append, compilations-again (joining [] g) r are.1),
+        λ name. let found = found-again (joining [] g) r (joined-apart g) are.1 name in
+            grind (rules, lookup-append (same_name name), found-joined name [] g, found, later.0 name),
+        grind (arith, nat_tests, compilations-append, count-again is_one (joining [] g) r are.1),
       )
   groups-alike _ _ are = absurd are
 
@@ -185,6 +147,222 @@ module _ {X : Type 0} where
         let a = counted [] (flat groups) in
         let b = counted [] (flat results) in
         let alike = groups-alike groups results are in
-        let again = compilations-again (joining [] (flat groups)) (joining [] (flat results))
+        let again = count-again is_one (joining [] (flat groups)) (joining [] (flat results))
         groups-joined in
         grind (arith, nat_tests)
+
+-- ---- inputs, and the list of all their units
+
+abbrev pub Units : Type 0
+Units = List (DwarfObject × Option Meaning)
+
+-- a unit with all that belongs to it
+abbrev pub meant_one : DwarfObject × Meaning → DwarfObject × Option Meaning
+meant_one unit = (unit.0, Some unit.1)
+
+-- what inputs mean, one after the other: the units of the first, and those of the others
+abbrev pub AllMean : List (List ℕ) → Units → Type 0
+AllMean [] all = all ≡ []
+AllMean (bytes ∷ rest) all = (here : Units) × (later : Units) × (input_meaning bytes ≡ Ok here)
+    × AllMean rest later × (all ≡ here ++ later)
+
+pub mean-append : (cs bs : List (List ℕ)) (us vs : Units) → AllMean cs us → AllMean bs vs
+    → AllMean (cs ++ bs) (us ++ vs)
+mean-append [] bs us vs h k = rw h k
+mean-append (c ∷ cs) bs us vs (here, later, meaning, others, whole) k = (
+  here,
+  later ++ vs,
+  meaning,
+  mean-append cs bs later vs others k,
+  ap (λ l. l ++ vs) whole ∙ append_assoc here later vs,
+)
+
+-- the names that are there once some units were joined
+names-then : (before added : Members) (us : Units) → joining (keys before) us ≡ all_meant added
+    → keys (before ++ added) ≡ keys before ++ keys (joining (keys before) us)
+names-then before added us h =
+    rw (h, keys_of-map_values Some added) (map-append (λ u. u.0) before added)
+
+-- the join of inputs is that of the list of all their units
+pub record IsJoinOf (inputs : List (List ℕ)) (before now : Members) : Type 0 where
+  pub all : Units
+  pub meant : AllMean inputs all
+  pub defined : can_join (keys before) all ≡ true
+  pub added : Members
+  pub joined : joining (keys before) all ≡ all_meant added
+  pub is : now ≡ before ++ added
+
+pub join-of : (inputs : List (List ℕ)) (before now : Members) → JoinAll inputs before now
+    → IsJoinOf inputs before now
+join-of [] before now h = record {
+  all = [];
+  meant = refl;
+  defined = refl;
+  added = [];
+  joined = refl;
+  is = rw append-nil h;
+}
+join-of (bytes ∷ rest) before now (middle, j, others) =
+    let later = join-of rest middle now others in
+    let names : keys middle ≡ keys before ++ keys (joining (keys before) j.units) =
+    ap keys j.is ∙ names-then before j.added j.units j.joined in
+    let a = joined-append (keys before) j.units later.all in
+    record {
+      all = j.units ++ later.all;
+      meant = (j.units, later.all, j.meaning, later.meant, refl);
+      defined = rw (a.1, j.defined, ← names) later.defined;
+      added = j.added ++ later.added;
+      joined = rw (a.0, ← names, j.joined, later.joined)
+          (sym (map-append meant_one j.added later.added));
+      is = later.is ∙ ap (λ l. l ++ later.added) j.is ∙ append_assoc before j.added later.added;
+    }
+
+-- a list of units with all that belongs to them, in two
+parted : (front back : Units) (units : Members) → front ++ back ≡ all_meant units
+    → (front ≡ all_meant (take (length front) units))
+    × (back ≡ all_meant (drop (length front) units))
+parted front back units h =
+    let n = length front in
+    let first = take-append_seam front back in
+    let rest = drop-append_seam front back in
+    grind (rules, first, rest, take-map meant_one n units, drop-map meant_one n units)
+
+-- and the join of that list is the join of the inputs
+pub joins-all : (inputs : List (List ℕ)) (all : Units) (before added : Members) → AllMean inputs all
+    → can_join (keys before) all ≡ true → joining (keys before) all ≡ all_meant added
+    → JoinAll inputs before (before ++ added)
+joins-all [] all before [] meant defined joined = append-nil before
+joins-all [] all before (unit ∷ units) meant defined joined = grind rules
+joins-all (bytes ∷ rest) all before added (here, later, meaning, others, whole) defined joined =
+    let front = joining (keys before) here in
+    let a = joined-append (keys before) here later in
+    let can = both-true (can_join (keys before) here)
+    (can_join (keys before ++ keys front) later) (rw (whole, a.1) at defined) in
+    let parts = parted front (joining (keys before ++ keys front) later) added
+    (rw (whole, a.0) at joined) in
+    let first = take (length front) added in
+    let second = drop (length front) added in
+    let named : keys (before ++ first) ≡ keys before ++ keys front =
+    names-then before first here parts.0 in (
+      before ++ first,
+      record {
+        units = here;
+        meaning = meaning;
+        defined = can.0;
+        added = first;
+        joined = parts.0;
+        is = refl;
+      },
+      rw (append_assoc, take-append-drop (length front) added) at
+          (joins-all rest later (before ++ first) second others (rw named can.1)
+          (rw named parts.1)),
+    )
+
+-- what the laws of the builder say
+abbrev pub KeepsSound : Type 0
+KeepsSound = (bytes : List ℕ) (begun now : Option InProgress) → IsSoundBegun begun
+    → with_input bytes begun ≡ Ok now → IsSoundBegun now
+
+abbrev pub MeansAgain : Type 0
+MeansAgain = (state : State) (file : File) → IsSoundBegun state.begun → finish_test state ≡ Ok tt
+    → IsFinishedState state file → MeansOnceWritten (units_in state) file
+
+pub sound-taken : KeepsSound → (list : List (List ℕ)) (old new : State) → IsSoundBegun old.begun
+    → AreTaken list old new → IsSoundBegun new.begun
+sound-taken keeps [] old new sound are = rw are.1 sound
+sound-taken keeps (bytes ∷ rest) old new sound are =
+    sound-taken keeps rest are.1 new (keeps bytes old.begun are.1.begun sound
+    (begun-now bytes (record old { targets = are.0 }) are.1 are.2)) are.3
+
+-- ---- units in another order
+
+swap-map : {A B : Type 0} (f : A → B) (xs : List A) (i j : ℕ)
+    → swap (map f xs) i j ≡ map f (swap xs i j)
+swap-map f [] i j = refl
+swap-map f (x ∷ xs) i j = simp (map-set, get_or-map f (x ∷ xs) j x, get_or-map f (x ∷ xs) i x)
+
+swaps-map : {A B : Type 0} (f : A → B) (xs : List A) (moves : List (ℕ × ℕ))
+    → apply_swaps (map f xs) moves ≡ map f (apply_swaps xs moves)
+swaps-map f xs [] = refl
+swaps-map f xs (m ∷ ms) = rw (swaps-map f xs ms) (swap-map f (apply_swaps xs ms) m.0 m.1)
+
+-- another order of what is made of a list is made of the list in another order
+lifted : {A B : Type 0} (f : A → B) (xs : List A) (ys : List B) → IsPermutation (map f xs) ys
+    → (zs : List A) × (ys ≡ map f zs) × IsPermutation xs zs
+lifted f xs ys h = (
+  apply_swaps xs h.moves,
+  h.is ∙ swaps-map f xs h.moves,
+  record { moves = h.moves; below = rw (← length-map xs f) h.below; is = refl },
+)
+
+-- ---- groups
+
+-- the units of groups, and those of their packages, which are the same
+record AreGrouped (groups : List (List (List ℕ))) (all : Units) : Type 0 where
+  lists : List Units
+  results : List Units
+  meant : AllMean (inputs_of groups) (flat_map (λ units. units) lists)
+  are : AreJoined lists results
+  whole : all ≡ flat_map (λ units. units) results
+
+module _ (keeps : KeepsSound) (again : MeansAgain) where
+  grouped : (groups : List (List (List ℕ))) (packages : List (List ℕ)) (old new : State)
+      (all : Units) (each : ArePackedAlone groups packages)
+      → HaveTheirEncodings groups packages each → taken_each packages old ≡ Ok new
+      → AllMean packages all → AreGrouped groups all
+  unfolding taken_each
+  grouped [] [] old new all packed has took mean =
+      record { lists = []; results = []; meant = refl; are = tt; whole = mean }
+  grouped (g ∷ gs) (p ∷ ps) old new all packed has took (here, later, meaning, others, whole) =
+      let alone = packed.0 in
+      let w = alone.written in
+      let units = units_in alone.state in
+      let join = join-of g [] units alone.joined in
+      let next = bind-was (taken p old) _ new took in
+      let rest = grouped gs ps next.0 new later packed.1 has.1 next.2 others in
+      let joined = rw (← join.is) at join.joined in
+      record {
+        lists = join.all ∷ rest.lists;
+        results = here ∷ rest.results;
+        meant = mean-append g (inputs_of gs) join.all (flat_map (λ units. units) rest.lists)
+            join.meant rest.meant;
+        are = (
+          join.defined,
+          rw joined (as-written alone.state p w
+              (λ b. HaveEncodingOf b units → MeansWhereTaken units b)
+              (again alone.state w.file (sound-taken keeps g start alone.state tt
+              (each-taken g start alone.state alone.taken)) w.tested w.finished) has.0 old next.0
+              next.1 here meaning),
+          rest.are,
+        );
+        whole = whole ∙ ap (λ l. here ++ l) rest.whole;
+      }
+  grouped _ _ old new all packed has took mean = absurd packed
+
+  -- what is packed in groups is a package of all inputs
+  pub means-all : (groups : List (List (List ℕ))) (file : List ℕ)
+      (packed : IsPackedInGroups groups file)
+      → HaveTheirEncodings groups packed.packages packed.each
+      → IsPackageOfAll (inputs_of groups) file
+  means-all groups file packed has =
+      let together = packed.together in
+      let join = join-of packed.packages [] (units_in together.state) together.joined in
+      let parts = grouped groups packed.packages start together.state join.all packed.each has
+      together.taken join.meant in
+      let lists = flat_map (λ (units : Units). units) parts.lists in
+      let joined = rw parts.whole at join.joined in
+      let order = lifted meant_one join.added (joining [] lists)
+      (IsPermutation-sym (joining [] lists) (all_meant join.added)
+      (subst (IsPermutation (joining [] lists)) joined
+      (groups-joined parts.lists parts.results parts.are))) in
+      record {
+        units = order.0;
+        joined = joins-all (inputs_of groups) lists [] order.0 parts.meant
+            (groups-defined parts.lists parts.results parts.are
+            ∙ ap (can_join []) (sym parts.whole) ∙ join.defined) order.1;
+        packed = join.added;
+        same = IsPermutation-sym join.added order.0 order.2;
+        found = found-again join.added order.0 (rw
+            (join.joined, keys_of-map_values Some join.added) at (joined-apart join.all)) order.2;
+        package_of = subst (λ units. IsPackageOf units file) join.is together.package_of;
+      }

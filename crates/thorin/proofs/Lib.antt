@@ -1,8 +1,6 @@
 pub mod Terms
 pub mod Running
 pub mod GroupJoins
-pub mod GroupMeaning
-pub mod LongSections
 pub mod Unfinished
 pub mod TakenAgain
 pub mod MeaningRead

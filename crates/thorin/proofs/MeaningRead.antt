@@ -1,25 +1,25 @@
 -- What a package means as an input is what a reader of packages finds in it.
 use Rattle.thorin.proofs.Terms
-use Terms.{[], ap, bind-was, both, by-choice, Compilation, cond, DwarfObject, Elf, elf_of, Encoding}
-use Terms.{encoding_of, Endianness, Err, false, find, inl, input_file_of, input_meaning, InputFile}
-use Terms.{inr, is-false, is_none, is_some, List, map, Meaning, None, Ok, opened, Option}
-use Terms.{option_and_then, own_contribution, ParseFileKind, refl, Result, rules, same-ok}
-use Terms.{SectionMeaning, Some, Source, source_units, sym, true, TypeUnit, UnitRead, Used, ℕ, ◌&&◌}
-use Terms.{◌++◌, ◌>>=◌, ◌||◌, ◌∙◌, ◌∷◌, ◌≡◌, ◌⊎◌}
-use Rattle.thorin_join.proofs.Terms as Joined
-use Joined.{all_kinds, as_error, by-bool, first, has_info, Index, Indexes, is-same, is_outside}
-use Joined.{is_package, Package, part_of, range_in, Ranges, ReadError, row_bytes, same-self}
-use Joined.{same_kind, SectionKind, Str, strings_of, StrOffsets}
-use Rattle.dwp_base.specs.declared.section.SectionKind.TheVariants.{CuIndex, TuIndex}
+use Terms.{ap, as_error, bind-was, both, by-bool, by-choice, Compilation, cond, DwarfObject, Elf}
+use Terms.{elf_of, Encoding, encoding_of, Endianness, Err, false, find, has_name, Indexes, inl}
+use Terms.{input_meaning, inr, is-false, is-same, is_none, is_some, List, map, Meaning, None, Ok}
+use Terms.{Option, option_and_then, own_contribution, ParseFileKind, refl, Result, rules, same-ok}
+use Terms.{same-self, SectionKind, SectionMeaning, Some, Source, source_units, Str, sym, true}
+use Terms.{TypeUnit, UnitRead, Used, [], ℕ, ◌&&◌, ◌++◌, ◌>>=◌, ◌||◌, ◌∙◌, ◌∷◌, ◌≡◌, ◌⊎◌}
+use Rattle.thorin_input.specs.Used.{counts_once, elf_in, first, has_info, has_kind, input_file_of}
+use Rattle.thorin_input.specs.Used.{InputFile, opened, unusable, used_bytes, used_from, used_kind}
+use Rattle.thorin_input.specs.Used.{with_used}
+use Rattle.dwp_base.specs.Sections.{all_kinds, same_kind}
+use Rattle.dwp_index.specs.Index.{Index, range_in, Ranges}
+use Rattle.dwp_index.specs.Package.{index_in_section, is_outside, Package, package_of, part_of}
+use Rattle.dwp_index.specs.Package.{row_bytes}
+use Rattle.thorin_input.specs.Indexes.{index_for, index_in, indexes_of, is_package, version_test}
+use Rattle.dwp_bytes.specs.declared.error.ReadError.{ReadError}
+use Rattle.dwp_base.specs.declared.section.SectionKind.TheVariants.{CuIndex, StrOffsets, TuIndex}
+use Rattle.thorin_join.specs.Strings.{strings_of}
 use Rattle.dwp_base.proofs.KindsRead.{read-kind}
-use Rattle.dwp_elf_read.specs.Elf.{has_name}
-use Rattle.dwp_elf_read.specs.declared.kind.FileKind.{FileKind}
 use Rattle.dwp_index.proofs.HeldContents.{found-passes, named-of}
 use Rattle.dwp_index.specs.Contents.{content, content_among, contents_of, is_of_kind}
-use Rattle.dwp_index.specs.Package.{index_in_section, package_of}
-use Rattle.thorin_input.specs.Indexes.{index_for, index_in, indexes_of, version_test}
-use Rattle.thorin_input.specs.Used.{counts_once, elf_in, has_kind, unusable, used_bytes, used_from}
-use Rattle.thorin_input.specs.Used.{used_kind, with_used}
 use Rattle.thorin_join.specs.Meaning.{contributions_by, meaning_by, meaning_with, object_meaning}
 use Rattle.thorin_join.specs.Meaning.{placed_row, shared_kinds, source_meaning, unit_meaning}
 use Rattle.thorin.specs.MeaningRead.{has_index, lies_in, MeansByReader, unit_of_package}
@@ -27,6 +27,7 @@ use Rattle.thorin.specs.MeaningRead.{unit_of_row, unit_with}
 use Rattle.std.proofs.Math.Bool.{and-false}
 use Rattle.std.proofs.lemmas.List.Folds.{find-append}
 use Rattle.thorin_input.proofs.Walking.{kind-full}
+use Rattle.dwp_elf_read.specs.declared.kind.FileKind.{FileKind}
 use Rattle.dwp_elf_read.specs.Identification as identification
 use Rattle.dwp_index.specs.Package as reader
 use Rattle.dwp_index.specs.declared.error.PackageError.TheVariants as errors

@@ -1,19 +1,17 @@
 -- A run, one input after the other, what it accepted, and groups that are packed one by one.
 use Rattle.thorin.proofs.Terms
-use Terms.{[], ap, append-nil, append_assoc, ArePackedAlone, AreTaken, bind-was, Compilation, drop}
+use Terms.{ap, append-nil, append_assoc, ArePackedAlone, AreTaken, bind-was, Compilation, drop}
 use Terms.{drop_more, DwarfObject, elf_of, Err, ErrorValue, file_text, get_or, IfOk, inl, Input}
-use Terms.{inr, IsPackedAlone, IsWritten, JoinAll, length, List, map, map-append, Members, Ok}
-use Terms.{Option, Ran, refl, Result, rules, same-ok, State, subst, sym, take, take-append-drop}
-use Terms.{taken, taken_each, TakesInput, TypeUnit, units_in, with_input, written_elf, ℕ, ◌++◌, ◌+◌}
-use Terms.{◌<◌, ◌∙◌, ◌∷◌, ◌≡◌}
-use Rattle.dwp_elf.specs.Contents.{KindsDiffer}
+use Terms.{inr, IsPackedAlone, IsWritten, JoinAll, KindsDiffer, length, List, map, map-append}
+use Terms.{Members, Ok, Option, Outcome, Ran, refl, Result, rules, same-ok, State, subst, sym, take}
+use Terms.{take-append-drop, taken, taken_each, TakesInput, TypeUnit, units_in, written_elf, [], ℕ}
+use Terms.{◌++◌, ◌+◌, ◌<◌, ◌∙◌, ◌∷◌, ◌≡◌}
 use Rattle.thorin_errors.specs.declared.error.InputError.{InputError}
 use Rattle.thorin_errors.specs.declared.error.InputError.TheVariants.{Io, Memory as no_memory}
 use Rattle.thorin_errors.specs.declared.error.MissingReferencedObjectBehaviour.{MissingReferencedObjectBehaviour}
-use Rattle.thorin_executable.specs.Skeletons.{Listed, skeletons_of, named_skeletons_of}
-use Rattle.thorin_builder.specs.Taking.{Came, Outcome, TakesBytes, TakesRead, TakesReferred, came}
-use Rattle.thorin_builder.specs.Taking.{TakesSkeleton, TakesSkeletons, TakesExecutableRead}
-use Rattle.thorin_builder.specs.Taking.{with_target}
+use Rattle.thorin_executable.specs.Skeletons.{Listed, named_skeletons_of, skeletons_of}
+use Rattle.thorin_builder.specs.Taking.{Came, came, TakesBytes, TakesExecutableRead, TakesRead}
+use Rattle.thorin_builder.specs.Taking.{TakesReferred, TakesSkeleton, TakesSkeletons, with_target}
 use Rattle.thorin_builder.proofs.Running.{Offer}
 use Rattle.thorin.specs.declared.packing.Input.TheVariants as inputs
 
@@ -144,12 +142,6 @@ run-accepts offer (i ∷ is) old new (o ∷ os) accepted (s, takes, rest, all) =
 run-accepts offer _ old new _ accepted ran = absurd ran
 
 -- ---- inputs that are all taken
-
--- what one input made of a package
-pub begun-then : (bytes : List ℕ) (old new : State) → taken bytes old ≡ Ok new
-    → with_input bytes old.begun ≡ Ok new.begun
-unfolding taken
-begun-then bytes old new h = grind rules
 
 -- those that are all taken
 pub each-taken : (list : List (List ℕ)) (old new : State) → taken_each list old ≡ Ok new

@@ -1,39 +1,15 @@
 -- The names that proofs of this crate cite most, passed on from one place. Declares nothing.
-pub use Rattle.std.proofs.Common.{ap, append-nil, append_assoc, arith, Bool, Bor, cond, drop, Err}
-pub use Rattle.std.proofs.Common.{false, filter, find, flat_map, get_or, IfOk, inl, inr, is_none}
-pub use Rattle.std.proofs.Common.{is_some, IsPermutation, length, length-append, List, map, None}
-pub use Rattle.std.proofs.Common.{not, Ok, Option, option_and_then, refl, remove, Result, rules}
-pub use Rattle.std.proofs.Common.{Some, subst, swap, sym, take, take-append-drop, take_all, true, ℕ}
-pub use Rattle.std.proofs.Common.{[], ⊎_elim, ◌&&◌, ◌*◌, ◌++◌, ◌+◌, ◌<◌, ◌==◌, ◌^◌, ◌||◌, ◌∙◌, ◌∷◌}
-pub use Rattle.std.proofs.Common.{◌≡◌, ◌≤◌, ◌⊎◌}
-pub use Rattle.thorin_builder.proofs.Terms.{drop_more, DwarfObject, Encoding, err_from_is_err_and}
-pub use Rattle.thorin_builder.proofs.Terms.{ErrorValue, finish_test, InProgress, IsFinishedState}
-pub use Rattle.thorin_builder.proofs.Terms.{keys, lookup, map-append, Meaning, same_name, Source}
-pub use Rattle.thorin_builder.proofs.Terms.{State, units_in, Used, with_input}
-pub use Rattle.thorin_join.proofs.Terms.{bind-ok, bind-was, Compilation, Elf, elf_of, Endianness}
-pub use Rattle.thorin_join.proofs.Terms.{file_text, filter-append, InputFile, IsSoundBegun, joining}
-pub use Rattle.thorin_join.proofs.Terms.{length-map, Members, same-ok, source_units, TypeUnit}
-pub use Rattle.thorin_join.proofs.Terms.{UnitRead, ◌>>=◌}
+pub use Rattle.dwp_base.proofs.Bools.{both, both as both-true, is-false}
+pub use Rattle.dwp_base.proofs.Steps.{bind-err, by-choice}
+pub use Rattle.dwp_elf.specs.Written.{written_elf}
+pub use Rattle.dwp_elf_read.specs.Elf.{has_name, SectionMeaning}
+pub use Rattle.std.proofs.Common.{Bor, flat_map, IsPermutation, length-take-le, option_and_then}
+pub use Rattle.std.proofs.Common.{remove, swap, take_all, ⊎_elim, ◌==◌}
 pub use Rattle.std.proofs.lemmas.List.{map-set, map_more, take_more}
 pub use Rattle.std.proofs.lemmas.List.Elements.{All-head, All-tail}
 pub use Rattle.std.proofs.lemmas.List.Sorted.{IsPermutation-sym}
-pub use Rattle.dwp_base.proofs.Bools.{both, both as both-true, is-false}
-pub use Rattle.dwp_base.proofs.Steps.{bind-err, by-choice}
-pub use Rattle.dwp_elf.specs.FileText.{Object as File}
-pub use Rattle.dwp_elf.specs.Written.{written_elf}
-pub use Rattle.dwp_elf_read.specs.Elf.{SectionMeaning}
-pub use Rattle.thorin_again.specs.OneEncoding.{AnswersAs, IsOfEncoding}
-pub use Rattle.thorin_again.specs.PlainInputs.{AreTaken, IsPlainOf}
-pub use Rattle.thorin_builder.specs.Taking.{accepted_of}
-pub use Rattle.thorin_errors.specs.Errors.{ParseFileKind}
-pub use Rattle.thorin_input.specs.Encodings.{encoding_of}
-pub use Rattle.thorin_input.specs.Rows.{own_contribution}
-unfoldable pub use Rattle.thorin_input.specs.Used.{input_file_of, opened}
-pub use Rattle.thorin_join.specs.Builder.{is_missing, names_in, start}
-unfoldable pub use Rattle.thorin_builder.proofs.Terms.{taken}
-pub use Rattle.thorin_join.specs.Join.{IsPackageOf, JoinAll}
-pub use Rattle.thorin_join.specs.Meaning.{can_join}
-unfoldable pub use Rattle.thorin_join.specs.Meaning.{input_meaning}
+pub use Rattle.std.specs.List.{drop-map, IsDistinct, take-map}
+pub use Rattle.std.specs.Option.{ok_or, option_or}
 pub use Rattle.thorin.specs.Again.{CanBePackedAgain, HasCommonEncoding, IsTakenAgain}
 pub use Rattle.thorin.specs.Groups.{AreJoined, ArePackedAlone, bytes_in, groups_in}
 pub use Rattle.thorin.specs.Groups.{HaveTheirEncodings, inputs_of, IsPackageOfAll, IsPackedAlone}
@@ -41,12 +17,28 @@ pub use Rattle.thorin.specs.Groups.{IsPackedInGroups, PacksAlone, PacksInGroups,
 unfoldable pub use Rattle.thorin.specs.Groups.{taken_each}
 pub use Rattle.thorin.specs.Run.{IsWritten, Ran, TakesInput, Writes}
 pub use Rattle.thorin.specs.declared.packing.Input.{Input}
-pub use Rattle.thorin_join.proofs.Joined.{takes}
-pub use Rattle.std.proofs.lemmas.Bool.Decides.{nat_tests}
-pub use Rattle.std.proofs.lemmas.List.Filters.{length-filter_both}
-pub use Rattle.dwp_base.specs.declared.section.SectionKind.{SectionKind}
-pub use Rattle.dwp_elf.specs.Contents.{content_of}
+pub use Rattle.thorin_again.proofs.Kept.OneEncoding.{begun-now}
+pub use Rattle.thorin_again.specs.OneEncoding.{AnswersAs, IsOfEncoding}
+pub use Rattle.thorin_again.specs.PlainInputs.{AreTaken, IsPlainOf}
+pub use Rattle.thorin_builder.proofs.Terms.{accepted_of, drop_more, find, get_or, IfOk, is_missing}
+pub use Rattle.thorin_builder.proofs.Terms.{IsFinishedState, names_in, Outcome, rules, State}
+unfoldable pub use Rattle.thorin_builder.proofs.Terms.{finish_test, taken}
+pub use Rattle.thorin_errors.specs.Errors.{ParseFileKind}
 unfoldable pub use Rattle.thorin_index.specs.EntryTests.{tests_under}
-pub use Rattle.thorin_index.specs.declared.entry.IndexEntry.{IndexEntry}
-pub use Rattle.thorin.specs.Unfinished.{AreMixed, IsUnfinished, LacksInput}
-pub use Rattle.thorin_again.specs.Again.{HaveEncodingOf, MeansWhereTaken}
+pub use Rattle.thorin_input.specs.Encodings.{encoding_of}
+pub use Rattle.thorin_input.specs.Rows.{own_contribution}
+pub use Rattle.thorin_join.proofs.Joined.{source-made, takes}
+use Rattle.thorin_join.proofs.Terms as Joined
+pub use Joined.{ap, append-nil, append_assoc, arith, as_error, bind-ok, bind-was, Bool, by-bool}
+pub use Joined.{can_join, codes, Compilation, cond, content_of, Contribution, drop, DwarfObject}
+pub use Joined.{Each, Elf, elf_of, Encoding, Endianness, Err, ErrorValue, false, File, file_text}
+pub use Joined.{filter, filter-append, Format, IndexEntry, Indexes, inl, InProgress, inr, is-same}
+pub use Joined.{is_compilation, is_none, is_some, IsSound, IsSoundBegun, joining, keys, KindsDiffer}
+pub use Joined.{length, length-append, length-drop, length-map, LieInside, List, list_any, lookup}
+pub use Joined.{map, map-append, Meaning, Members, nat_le, nat_tests, None, not, Ok, Option, refl}
+pub use Joined.{Result, same-ok, same-self, same_name, SectionKind, Some, Source, source_units, Str}
+pub use Joined.{subst, sym, take, take-append-drop, true, TypeUnit, UnitRead, units_in, Used, [], ℕ}
+pub use Joined.{◌&&◌, ◌*◌, ◌++◌, ◌+◌, ◌-◌, ◌<◌, ◌>>=◌, ◌^◌, ◌||◌, ◌∙◌, ◌∷◌, ◌≡◌, ◌≤◌, ◌⊎◌}
+pub use Rattle.thorin_join.specs.Builder.{start, with_input}
+pub use Rattle.thorin_join.specs.Join.{IsPackageOf, JoinAll}
+unfoldable pub use Rattle.thorin_join.specs.Meaning.{input_meaning}

@@ -1,16 +1,21 @@
 -- Why inputs that were taken aren't finished: their rows are in the format, so that an index is
--- refused for two encodings alone, or for a number of a long section.
+-- refused for two encodings alone, or for a number of a long section. Rows of many units have a
+-- long section: a unit has at least six bytes, those of its length and of its version.
 use Rattle.thorin.proofs.Terms
-use Terms.{ap, AreMixed, AreTaken, arith, bind-was, Bool, content_of, Encoding, Err, ErrorValue}
-use Terms.{filter, IndexEntry, inl, InProgress, inr, is_some, IsSoundBegun, IsUnfinished}
-use Terms.{LacksInput, length, length-filter_both, List, names_in, nat_tests, None, not, Ok, Option}
-use Terms.{refl, Result, SectionKind, Some, start, State, subst, sym, taken, takes, tests_under}
-use Terms.{true, ℕ, [], ◌*◌, ◌>>=◌, ◌^◌, ◌∙◌, ◌∷◌, ◌≡◌, ◌≤◌, ◌⊎◌}
+use Terms.{ap, AreTaken, arith, begun-now, bind-was, Bool, by-bool, codes, content_of, Contribution}
+use Terms.{drop, Each, Encoding, Endianness, Err, ErrorValue, filter, finish_test, Format}
+use Terms.{IndexEntry, inl, InProgress, inr, is_compilation, is_some, IsSound, IsSoundBegun, length}
+use Terms.{length-append, length-drop, length-take-le, LieInside, List, names_in, nat_le, nat_tests}
+use Terms.{None, not, Ok, ok_or, Option, refl, Result, SectionKind, Some, start, State, subst, sym}
+use Terms.{takes, tests_under, true, [], ℕ, ◌*◌, ◌+◌, ◌-◌, ◌<◌, ◌>>=◌, ◌^◌, ◌∙◌, ◌∷◌, ◌≡◌, ◌≤◌, ◌⊎◌}
+use Rattle.std.proofs.lemmas.List.Filters.{length-filter_both}
+use Rattle.dwp_bytes.specs.Input.{Input, number_at, section, split_at}
+use Rattle.dwp_units.specs.Units.{header_at, initial_length_at, Unit as Header, unit_at}
+use Rattle.dwp_units.specs.declared.unit.UnitSection.{UnitSection}
+use Rattle.thorin_join.specs.Laid.{is_at, IsLaid, Lie}
+use Rattle.thorin.specs.Unfinished.{AreMixed, HasLongSection, IsIndexNumber, IsUnfinished}
+use Rattle.thorin.specs.Unfinished.{LacksInput, LacksTarget}
 use Rattle.std.proofs.ByRecursion.{all_kept_by}
-use Rattle.std.proofs.Common.{codes}
-use Rattle.std.specs.List.{AllByRecursion as Each}
-use Rattle.std.specs.Option.{ok_or}
-use Rattle.dwp_base.specs.declared.section.Contribution.{Contribution}
 use Rattle.dwp_bytes.specs.Encoding.{index_version_of}
 use Rattle.dwp_elf.specs.Growing.{Contents}
 use Rattle.dwp_table.specs.Columns.{column_of, contribution_kinds}
@@ -18,17 +23,71 @@ use Rattle.thorin_errors.specs.Errors.{MixedInputEncodings, NoOutputObjectCreate
 use Rattle.thorin_index.specs.Entries.{contribution_to, offset_or_0, size_or_0}
 use Rattle.thorin_index.specs.EntryTests.{contributions_test, count_test, each, encoding_test}
 use Rattle.thorin_index.specs.EntryTests.{format_test, index_tests, number_test, same_encoding}
-use Rattle.thorin_input.specs.Names.{is_compilation}
-use Rattle.thorin_join.specs.Builder.{compilations, finish_test, indexes_test, targets_test}
-use Rattle.thorin_join.specs.Builder.{type_units}
-use Rattle.thorin_join.specs.Represents.{IsSound, LieInside}
+use Rattle.thorin_join.specs.Builder.{compilations, indexes_test, targets_test}
 use Rattle.thorin_join.specs.StandApart.{contents_begun, EachRow}
 use Rattle.thorin_join.proofs.Rows.StandApart.{sound-inside}
 use Rattle.thorin_join.proofs.Units.ReadInTurn.{each-all}
 use Rattle.thorin_again.specs.InFormat.{AreInFormat, HasEncodingOfOne, HaveEncodingsOf, IsInFormat}
-use Rattle.thorin.specs.Unfinished.{HasLongSection, IsIndexNumber, LacksTarget}
-use Rattle.thorin.proofs.LongSections.{many-long}
-use Rattle.thorin.proofs.Running.{begun-then}
+use Rattle.std.proofs.lemmas.List.Sums.{count_by-le-length, length-filter}
+use Rattle.dwp_base.specs.declared.section.SectionKind.TheVariants as kinds
+use Rattle.dwp_units.specs.declared.unit.UnitSection.TheVariants as places
+
+-- ---- a unit
+
+length-takes : (i : Input) (x : (Format × ℕ) × Input) → initial_length_at i ≡ Ok x
+    → length x.1.bytes + 4 ≤ length i.bytes
+unfolding initial_length_at number_at
+length-takes i x h =
+    grind (arith, nat_tests, length-drop 4 i.bytes, length-drop 8 (drop 4 i.bytes))
+
+split-takes : (n : ℕ) (i : Input) (x : Input × Input) → split_at n i ≡ Ok x
+    → length x.0.bytes ≤ length i.bytes
+unfolding split_at
+split-takes n i x h = grind (arith, nat_tests, length-take-le n i.bytes)
+
+number-takes : (n : ℕ) (i : Input) (x : ℕ × Input) → number_at n i ≡ Ok x → n ≤ length i.bytes
+unfolding number_at
+number-takes n i x h = grind (arith, nat_tests)
+
+unit-long : (place : UnitSection) (i : Input) (x : Header × Input) → unit_at place i ≡ Ok x
+    → 6 ≤ length i.bytes
+unfolding unit_at header_at
+unit-long place i x h =
+    let size = bind-was (initial_length_at i) _ x h in
+    let body = bind-was (split_at size.0.0.1 size.0.1) _ x size.2 in
+    let whole = bind-was (split_at (body.0.1.place - i.place) i) _ x body.2 in
+    let header = bind-was (header_at place size.0.0.0 whole.0.0 body.0.0) _ x whole.2 in
+    let version = bind-was (number_at 2 body.0.0) _ header.0 header.1 in
+    let split = split-takes size.0.0.1 size.0.1 body.0 body.1 in
+    let number = number-takes 2 body.0.0 version.0 version.1 in
+    omega (arith, length-takes i size.0 size.1, split, number)
+
+-- ---- rows
+
+lie-long : (order : Endianness) (place : UnitSection) (offset : ℕ) (rows : List IndexEntry)
+    (bytes : List ℕ) → Lie order place offset rows bytes → 6 * length rows ≤ length bytes
+lie-long order place offset [] bytes lie = omega arith
+lie-long order place offset (row ∷ rows) bytes lie =
+    let head = lie.0 in
+    let own = unit-long place (section order head.own) (head.is.unit, head.is.rest) head.is.read in
+    let rest = lie-long order place (offset + length head.own) rows head.rest lie.1 in
+    omega (arith, own, rest, ap length head.are, length-append head.own head.rest)
+
+-- as many units as an index has no number for have a section that it has no numbers for
+pub many-long : (made : InProgress) → IsLaid made → 2 ^ 32 ≤ 3 * length made.rows
+    → (kind : SectionKind) × (2 ^ 32 ≤ length (content_of kind made.file.contents))
+many-long made laid many =
+    let order = made.file.order in
+    let info = lie-long order places.Info 0 _ _ laid.info in
+    let types = lie-long order places.Types 0 _ _ laid.types in
+    let all = length-filter_both (is_at places.Info) (is_at places.Types) (λ row. grind arith)
+    made.rows in
+    let size = λ (kind : SectionKind). length (content_of kind made.file.contents) in
+    by-bool _ (nat_le (2 ^ 32) (size kinds.Info))
+    (λ long. (kinds.Info, grind (arith, nat_tests)))
+    (λ short.
+    let less : size kinds.Info < 2 ^ 32 = grind (arith, nat_tests) in
+    (kinds.Types, omega (arith, less, info, types, all, many)))
 
 -- ---- tests of which one failed
 
@@ -202,36 +261,23 @@ module _ (inputs : List (List ℕ)) (state : State) (error : ErrorValue) where
 module _ (inputs : List (List ℕ)) (state : State) (made : InProgress)
     (begun : state.begun ≡ Some made) (sound : IsSound made) (format : AreInFormat state.begun)
     (encodings : HaveEncodingsOf inputs state.begun) where
-  chosen-known : (test : IndexEntry → Bool)
-      → length (filter test made.rows) ≤ length made.rows
-      → RowsKnown inputs state (filter test made.rows)
-  chosen-known test few = record {
+  chosen-known : (test : IndexEntry → Bool) → RowsKnown inputs state (filter test made.rows)
+  chosen-known test = record {
     inside = rw begun (all_kept_by test _ made.rows (sound-inside made sound));
     format = all_kept_by test _ made.rows (rw begun at format);
     encodings = all_kept_by test _ made.rows (rw begun at encodings);
-    many = λ many. rw begun (many-long made sound.laid (omega (arith, many, few)));
+    many = λ many. let few = count_by-le-length test made.rows in
+        rw begun (many-long made sound.laid (omega (arith, many, few, length-filter test made.rows)));
   }
 
-  either-known : RowsKnown inputs state (compilations made.rows)
-      × RowsKnown inputs state (type_units made.rows)
-  either-known =
-      let is = λ (row : IndexEntry). is_compilation row.id in
-      let isnt = λ (row : IndexEntry). not (is_compilation row.id) in
-      let all = length-filter_both is isnt (λ row. refl) made.rows in
-      (chosen-known is (omega (arith, all)), chosen-known isnt (omega (arith, all)))
-
 -- a state that has taken an input has begun a package
-taken-begins : (bytes : List ℕ) (old next : State) → taken bytes old ≡ Ok next
-    → next.begun ≡ None → ⊥
-taken-begins bytes old next took none =
-    let t = takes bytes old.begun next.begun (begun-then bytes old next took) in
-    grind (arith, t.does, none)
-
 none-taken : (inputs : List (List ℕ)) (old new : State) → AreTaken inputs old new
     → new.begun ≡ None → (inputs ≡ []) × (old.begun ≡ None)
 none-taken [] old new are none = (refl, sym (ap (λ (s : State). s.begun) are.1) ∙ none)
-none-taken (bytes ∷ rest) old new are none = absurd (taken-begins bytes
-    (record old { targets = are.0 }) are.1 are.2 (none-taken rest are.1 new are.3 none).1)
+none-taken (bytes ∷ rest) old new are none =
+    let t = takes bytes old.begun _ (begun-now bytes (record old { targets = are.0 }) _ are.2) in
+    let was = (none-taken rest are.1 new are.3 none).1 in
+    absurd (grind (arith, t.does, was))
 
 target-failed : (state : State) (error : ErrorValue)
     → targets_test (names_in state.begun) state.targets ≡ Err error → LacksTarget state error
@@ -254,8 +300,9 @@ unfinished inputs state error are sound format encodings h =
         → LacksInput inputs error ⊎ IsRefused inputs state error
     by None is k = inl ((none-taken inputs start state are is).0, cc)
     by (Some made) is k =
-        let known = either-known inputs state made is (rw is at sound) format encodings in
+        let known = chosen-known inputs state made is (rw is at sound) format encodings in
         inr (elim (step-failed (index_tests (compilations made.rows)) _ error k) [
-          | inl first ↦ index-failed inputs state error (compilations made.rows) known.0 first
-          | inr second ↦ index-failed inputs state error (type_units made.rows) known.1 second.2
+          | inl first ↦ index-failed inputs state error _ (known (λ row. is_compilation row.id)) first
+          | inr second ↦ index-failed inputs state error _
+              (known (λ row. not (is_compilation row.id))) second.2
         ])

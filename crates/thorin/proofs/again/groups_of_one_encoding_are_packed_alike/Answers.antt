@@ -1,5 +1,5 @@
-use Rattle.thorin.proofs.Terms.{All-head, All-tail, HasCommonEncoding, HaveEncodingOf, start}
-use Rattle.thorin.proofs.Terms.{units_in, [], ◌∷◌}
+use Rattle.thorin.proofs.Terms.{All-head, All-tail, HasCommonEncoding, start, units_in, [], ◌∷◌}
+use Rattle.thorin_again.specs.Again.{HaveEncodingOf}
 use Rattle.thorin.proofs.Running.{as-written, each-taken}
 use Rattle.thorin.proofs.again.groups_of_one_encoding_are_packed_alike.Goals as goal
 

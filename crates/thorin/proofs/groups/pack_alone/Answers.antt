@@ -1,8 +1,8 @@
 use Rattle.thorin.proofs.Terms
-use Terms.{◌+◌, ◌++◌, [], ap, bind-err, bind-ok, Bor, bytes_in, drop, Err}
-use Terms.{get_or, IfOk, inl, inr, IsPackageOf, List, map_more, Ok, PacksAlone, refl, start, sym}
-use Terms.{take, take_all, taken, taken_each, units_in, Writes, ℕ, ◌∙◌, ◌∷◌, ◌≡◌}
-use Rattle.thorin.proofs.Running.{join-append, taken-then, mapped-around}
+use Terms.{ap, bind-err, bind-ok, Bor, bytes_in, drop, Err, get_or, IfOk, inl, inr, IsPackageOf}
+use Terms.{List, map_more, Ok, PacksAlone, refl, start, sym, take, take_all, taken, taken_each}
+use Terms.{units_in, Writes, [], ℕ, ◌++◌, ◌+◌, ◌∙◌, ◌∷◌, ◌≡◌}
+use Rattle.thorin.proofs.Running.{join-append, mapped-around, taken-then}
 use Rattle.thorin.proofs.groups.pack_alone.Goals as goal
 
 abbrev none : Bor (List ℕ)

@@ -1,8 +1,8 @@
 use Rattle.thorin.proofs.Terms
-use Terms.{◌+◌, ◌++◌, [], Bor, bytes_in, drop, Err, err_from_is_err_and, get_or, groups_in, inl}
-use Terms.{inr, List, map-append, map_more, Ok, PacksAlone, PacksInGroups, rules, take, take_all, ℕ}
-use Terms.{◌∷◌, ◌≡◌}
-use Rattle.thorin.proofs.Running.{mapped-around, packed-more, if-ok}
+use Terms.{Bor, bytes_in, drop, Err, get_or, groups_in, inl, inr, List, map-append, map_more, Ok}
+use Terms.{PacksAlone, PacksInGroups, rules, take, take_all, [], ℕ, ◌++◌, ◌+◌, ◌∷◌, ◌≡◌}
+use Rattle.std.proofs.lemmas.Result.{err_from_is_err_and}
+use Rattle.thorin.proofs.Running.{if-ok, mapped-around, packed-more}
 use Rattle.thorin.proofs.groups.pack_groups.Goals as goal
 
 abbrev none : Bor (List (Bor (List ℕ)))
