@@ -1,5 +1,6 @@
 -- Lemmas on the parts of a file, section by section, and one after the other.
 use Rattle.std.proofs.Common.{nat_le, subst, leb-true}
+use Rattle.std.proofs.lemmas.List.{replicate-append-replicate}
 use Rattle.dwp_elf.proofs.Terms
 use Terms.{◌*◌, ◌+◌, ◌++◌, ◌<◌, [], ◌^◌, add-one, append_assoc, IsLayout, arith, at_drop_all}
 use Terms.{Class, content_bytes, contents_of, drop, drop-cons, Elf32, Elf64, Endianness, entry_size}
@@ -94,15 +95,17 @@ pub file_text-split : (o : Object) → file_text o ≡ file_header o.class o.ord
 unfolding file_text
 file_text-split o = simp append_assoc
 
--- the same, where the header was made from the layout, and for each number what wrote it out
+-- the same, where the header was made from the layout, and for each number what wrote it out; the
+-- zeros before the section headers and those of the first header stand together
 pub text_parts : (w : Inside) (o : Object) (p : Layout) (header : List ℕ) (count entry : ℕ)
     → object_of w ≡ o → IsLayout o.class o.contents p → count ≡ w.sections.len
     → header ≡ file_header w.class w.endianness w.machine p.headers (count + 2)
     → entry ≡ entry_size w.class → file_text o ≡ header ++ (content_bytes
     (contents_of w.sections.items) ++ (name_table (contents_of w.sections.items) ++ (replicate
-    p.zeros 0 ++ (replicate entry 0 ++ headers_from w.class w.endianness p.names_size 1
-    (header_size w.class) (contents_of w.sections.items)))))
+    (p.zeros + entry) 0 ++ headers_from w.class w.endianness p.names_size 1
+    (header_size w.class) (contents_of w.sections.items))))
 text_parts w o p header count entry is placed counted made sized =
     let are = subst (λ (x : Object). IsLayout x.class x.contents p) (sym is) placed in
     let count = counted ∙ w.sections.ok.0 ∙ sym (length-contents_of w.sections.items) in
-    rw (← is, file_text-split, made, sized, are.headers, are.zeros, are.names_size, count) refl
+    rw (← is, file_text-split, made, sized, are.headers, are.zeros, are.names_size, count)
+    (rw (← replicate-append-replicate, append_assoc) refl)

@@ -19,8 +19,8 @@ const PROGBITS: u32 = 1;
 /// A table of strings, as the names are.
 const STRTAB: u32 = 3;
 
-/// Zeros.
-const ZEROS: [u8; 64] = [0; 64];
+/// Zeros: as many as a section header has, and those before the headers.
+const ZEROS: [u8; 72] = [0; 72];
 
 /// The name of the section that has the names.
 const NAMES: &[u8; 10] = b".shstrtab\0";
@@ -106,9 +106,9 @@ pub fn write_whole<O: Output>(out: &mut O, bytes: &[u8]) -> io::Result<()>
     Ok(())
 }
 
-/// Writes zeros, at most 64 of them.
+/// Writes zeros, at most 72 of them.
 pub fn write_zeros<O: Output>(out: &mut O, count: usize) -> io::Result<()>
-    requires { count ≤ 64 }
+    requires { count ≤ 72 }
     ensures text { Writes result (O.contents out.old) (O.contents out.new) (replicate count 0) }
     ensures error { Errors result (O.failed out.old) (O.failed out.new) }
 {

@@ -4,7 +4,6 @@ ghost use Rattle.std.specs.Prelude.{◌≡◌, ◌≤◌, ◌<◌, ◌*◌, ◌/
 ghost use Rattle.byteorder.specs.Endian.{little_number};
 ghost use Rattle.dwp_zstd.specs.Checksum.{round, behind_stripe, behind_stripes, merged};
 ghost use Rattle.dwp_zstd.specs.Checksum.{with_lanes, with_rest, of_stripes, xxh64};
-ghost use Rattle.dwp_zstd.specs.Checksum.{accumulators_of};
 
 use byteorder::{ByteOrder, LittleEndian};
 
@@ -38,30 +37,20 @@ fn round(acc: u64, lane: u64) -> u64
         .wrapping_mul(PRIME_1)
 }
 
-/// The accumulators behind a stripe.
-#[inline]
-#[tactic(auto, unfolding(crate::specs::Checksum::behind_stripe, crate::specs::Checksum::accumulators_of))]
-fn behind_stripe(four: Accumulators, bytes: &[u8]) -> Accumulators
-    requires { 32 ≤ length bytes.now }
-    ensures { accumulators_of result ≡ behind_stripe (accumulators_of four) bytes.now }
-{
-    Accumulators {
-        first: round(four.first, LittleEndian::read_u64(bytes)),
-        second: round(four.second, LittleEndian::read_u64(&bytes[8..])),
-        third: round(four.third, LittleEndian::read_u64(&bytes[16..])),
-        fourth: round(four.fourth, LittleEndian::read_u64(&bytes[24..])),
-    }
-}
-
 /// The accumulators behind all stripes.
+#[tactic(auto, unfolding(crate::specs::Checksum::behind_stripe))]
 fn behind_stripes(four: Accumulators, bytes: &[u8]) -> Accumulators
-    ensures { accumulators_of result
-        ≡ behind_stripes (length bytes.now / 32) (accumulators_of four) bytes.now }
+    ensures { result ≡ behind_stripes (length bytes.now / 32) four bytes.now }
 {
     let mut all = four;
     let mut rest = bytes;
     for _ in 0..bytes.len() / 32 {
-        all = behind_stripe(all, rest);
+        all = Accumulators {
+            first: round(all.first, LittleEndian::read_u64(rest)),
+            second: round(all.second, LittleEndian::read_u64(&rest[8..])),
+            third: round(all.third, LittleEndian::read_u64(&rest[16..])),
+            fourth: round(all.fourth, LittleEndian::read_u64(&rest[24..])),
+        };
         rest = rest.split_at(32).1;
     }
     all
@@ -78,7 +67,7 @@ fn merged(h: u64, acc: u64) -> u64
 }
 
 /// What stands for the stripes.
-#[tactic(auto, unfolding(crate::specs::Checksum::of_stripes, crate::specs::Checksum::joined, crate::specs::Checksum::turn, crate::specs::Checksum::start, crate::specs::Checksum::accumulators_of, crate::specs::Checksum::plus, crate::specs::Checksum::prime1, crate::specs::Checksum::prime2, crate::specs::Checksum::prime5))]
+#[tactic(auto, unfolding(crate::specs::Checksum::of_stripes, crate::specs::Checksum::joined, crate::specs::Checksum::turn, crate::specs::Checksum::start, crate::specs::Checksum::plus, crate::specs::Checksum::prime1, crate::specs::Checksum::prime2, crate::specs::Checksum::prime5))]
 fn of_stripes(bytes: &[u8]) -> u64
     ensures { result ≡ of_stripes bytes.now }
 {
