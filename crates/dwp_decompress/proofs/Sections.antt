@@ -8,11 +8,11 @@ use Rattle.std.proofs.lemmas.List.{drop_all, drop_more, map-append}
 use Rattle.std.proofs.lemmas.Option.{slice_get-map, slice_get_read, slice_get_within}
 use Rattle.std.proofs.lemmas.Option.{get_or_from_slice_get}
 use Rattle.dwp_elf_read.specs.Elf.{SectionMeaning}
-use Rattle.dwp_decompress.specs.Agreement.{AgreesAt}
 use Rattle.dwp_decompress.specs.declared.asked.Asked.{Asked}
 use Rattle.dwp_decompress.specs.Names.{plain_name, added_name_of, added_names}
 use Rattle.dwp_decompress.specs.Compressed.{is_older}
-use Rattle.dwp_decompress.specs.Result.{result_sections, plain_contents, contents_of}
+use Rattle.dwp_decompress.specs.Result.{result_section, result_sections, plain_contents}
+use Rattle.dwp_decompress.specs.Result.{contents_of}
 use Rattle.dwp_base.specs.Reading.{◌>>=◌}
 use Rattle.dwp_base.specs.declared.class.Class.{Class}
 use Rattle.dwp_base.specs.declared.endian.Endianness.{Endianness}
@@ -98,14 +98,16 @@ get_content contents i x h e = rw (
 module _ (names : ℕ) (added : List ℕ) (old new : List SectionMeaning)
     (contents : List (Option (List ℕ))) (i : ℕ) where
   -- those from the i-th on are what they are to become, if those behind are
-  pub agree_step : AgreesAt names added old new contents i
+  pub agree_step : (section : SectionMeaning) (content : Option (List ℕ))
+      → slice_get old i ≡ Some section → slice_get contents i ≡ Some content
+      → slice_get new i ≡ Some (result_section names added section content)
       → drop (i + 1) new ≡ result_sections names added (drop (i + 1) old) (drop (i + 1) contents)
       → drop i new ≡ result_sections names added (drop i old) (drop i contents)
   unfolding result_sections
-  agree_step a h = rw (
-    drop_step new i _ a.new_is,
-    drop_step old i _ a.section_is,
-    drop_step contents i _ a.content_is,
+  agree_step section content at given is h = rw (
+    drop_step new i _ is,
+    drop_step old i section at,
+    drop_step contents i content given,
     h,
   ) refl
 

@@ -2,8 +2,9 @@
 use Rattle.std.proofs.Common.{◌≡◌, ℕ, ◌+◌, ◌-◌, ◌*◌, ◌/◌, ◌<◌, ◌≤◌, Bool, true, false, not, ◌&&◌}
 use Rattle.std.proofs.Common.{List, [], ◌∷◌, ◌++◌, length}
 use Rattle.std.proofs.Common.{drop, Some, Ok, Err, Result, ap, sym, ◌∙◌, refl, arith}
-use Rattle.std.proofs.Common.{slice_get, nat_lt, codes, length-append, length-drop}
-use Rattle.std.proofs.lemmas.List.{drop_all}
+use Rattle.std.proofs.Common.{slice_get, nat_lt, codes, length-append, length-drop, take}
+use Rattle.std.proofs.lemmas.Slice.Eq.{bytes_eq-Decides}
+use Rattle.std.proofs.lemmas.List.{drop_all, length-take}
 use Rattle.std.proofs.lemmas.List.Sums.{sum_by-cons}
 use Rattle.std.proofs.lemmas.Bool.{lt-ltb, le-ltb, ltb-true, ltb-false}
 use Rattle.dwp_base.proofs.Bools.{by-bool, neither}
@@ -99,15 +100,10 @@ module _ (asked : Asked) (sections : List SectionMeaning) (i : ℕ) where
 -- an older name has at least as many bytes as it begins with
 pub older_long : (name : List ℕ) → is_older name ≡ true → 8 ≤ length name
 unfolding is_older
-older_long [] h = absurd cc
-older_long (a ∷ []) h = absurd (grind arith)
-older_long (a ∷ b ∷ []) h = absurd (grind arith)
-older_long (a ∷ b ∷ c ∷ []) h = absurd (grind arith)
-older_long (a ∷ b ∷ c ∷ d ∷ []) h = absurd (grind arith)
-older_long (a ∷ b ∷ c ∷ d ∷ e ∷ []) h = absurd (grind arith)
-older_long (a ∷ b ∷ c ∷ d ∷ e ∷ f ∷ []) h = absurd (grind arith)
-older_long (a ∷ b ∷ c ∷ d ∷ e ∷ f ∷ g ∷ []) h = absurd (grind arith)
-older_long (a ∷ b ∷ c ∷ d ∷ e ∷ f ∷ g ∷ i ∷ rest) h = omega arith
+older_long name h =
+    let begins = (bytes_eq-Decides (codes ".zdebug_") (take 8 name)).0 h in
+    let eight : 8 ≡ length (take 8 name) = ap length begins in
+    omega (arith, eight, length-take 8 name)
 
 -- a plain name and its end are as long as the older name
 pub older_adds : (name : List ℕ) → is_older name ≡ true

@@ -5,8 +5,7 @@ ghost use Rattle.dwp_elf_read.specs.View as view;
 ghost use Rattle.dwp_elf_read.specs.View.{elf};
 ghost use Rattle.dwp_decompress.specs.Names.{plain_name};
 ghost use Rattle.dwp_decompress.specs.Result.{with_plain, with_names, result_section};
-ghost use Rattle.dwp_decompress.specs.Result.{plain_contents};
-ghost use Rattle.dwp_decompress.specs.Agreement.{AgreesAt, expected_file};
+ghost use Rattle.dwp_decompress.specs.Agreement.{expected_file};
 
 use crate::asked::is_older;
 use dwp_elf_read::{ElfFile, Section};
@@ -27,14 +26,10 @@ fn goes_on(old: &[u8], new: &[u8]) -> bool
     ensures { IsTrue result → (take 7 new.now ≡ codes ".debug_")
         × (drop 7 new.now ≡ drop 8 old.now) }
 {
-    if new.len() < 7 {
-        return false;
-    }
-    if old.len() < 8 {
-        return false;
-    }
-    let (front, rest) = new.split_at(7);
-    front == b".debug_".as_slice() && rest == old.split_at(8).1
+    new.len() >= 7
+        && old.len() >= 8
+        && new.split_at(7).0 == b".debug_".as_slice()
+        && new.split_at(7).1 == old.split_at(8).1
 }
 
 /// Whether a name is the plain one of another.
@@ -113,25 +108,8 @@ impl<'a> Expected<'a> {
     {
         match plain {
             Some(plain) => is_plain(old, new, plain.as_slice()),
-            None => {
-                if old.number() == self.names {
-                    has_names(old, new, self.added)
-                } else {
-                    new.is_same(old)
-                }
-            }
-        }
-    }
-
-    /// Whether the i-th section is what it is to become.
-    fn agrees_at(&self, old: &ElfFile<'_>, new: &ElfFile<'_>, i: usize) -> bool
-        requires { i < length self.now.contents.now.items }
-        ensures { IsTrue result → AgreesAt self.now.names self.now.added.now (elf old.now).sections
-            (elf new.now).sections (plain_contents self.now.contents.now.items) i }
-    {
-        match (old.section(i), new.section(i)) {
-            (Some(before), Some(after)) => { self.is_result(&before, &after, &self.contents[i]) }
-            _ => false,
+            None if old.number() == self.names => has_names(old, new, self.added),
+            None => new.is_same(old),
         }
     }
 
@@ -145,7 +123,10 @@ impl<'a> Expected<'a> {
             return false;
         }
         for i in 0..count {
-            if !self.agrees_at(old, new, i) {
+            let (Some(before), Some(after)) = (old.section(i), new.section(i)) else {
+                return false;
+            };
+            if !self.is_result(&before, &after, &self.contents[i]) {
                 return false;
             }
         }

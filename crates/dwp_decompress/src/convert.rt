@@ -40,8 +40,6 @@ fn written(
     let change = Change {
         bytes,
         file: *file,
-        class: file.class(),
-        order: file.endianness(),
         expected: *expected,
     };
     change.write(&mut out)?;
@@ -70,16 +68,13 @@ fn with_plain(
     let length = length(asked, bytes, file)?;
     let contents = contents(alloc, asked, file.class(), file.endianness(), file)?;
     let added = added_names(alloc, asked, file)?;
-    let Some(names) = names_number(bytes, file) else {
-        return Err(DecompressError::Unrepresentable);
-    };
+    let names = names_number(bytes, file).ok_or(DecompressError::Unrepresentable)?;
     let expected = Expected {
         names,
         added: &added,
         contents: &contents,
     };
-    let out = written(alloc, length, bytes, file, &expected)?;
-    Ok(out)
+    written(alloc, length, bytes, file, &expected)
 }
 
 /// The file with plain sections in place of the compressed ones that are asked for; `None` where it

@@ -2,13 +2,11 @@
 //! names, if some are added, and the section headers (ELF gABI, "Section Header"). They are read
 //! again and compared, so what doesn't fit the file's class may be written in any way.
 
-ghost use Rattle.std.specs.Prelude.{◌≡◌, ◌*◌, ◌+◌, length, IfSome};
-ghost use Rattle.dwp_elf_read.specs.Layout.{word_size};
-
 use crate::agree::Expected;
 use crate::asked::is_older;
+use crate::sizes::size_of;
 use crate::stream::{word_at, word_size_of};
-use dwp_base::{Class, Endianness};
+use dwp_base::Class;
 use dwp_elf_read::{ElfFile, Section};
 use std::alloc::AllocError;
 
@@ -20,186 +18,105 @@ struct Next {
     name: u64,
 }
 
-/// What may change in a section's header.
-#[derive(Clone, Copy)]
-struct HeaderFields {
-    /// Where the name stands in the table of names.
-    name: u32,
-    flags: u64,
-    /// Where the content begins in the file.
-    offset: u64,
-    /// How many bytes the content has.
-    size: u64,
-    /// The alignment of the content.
-    alignment: u64,
+/// Writes bytes over those at a place, if these lie there.
+fn set_bytes(out: &mut [u8], place: usize, bytes: &[u8]) {
+    for (old, new) in out.iter_mut().skip(place).zip(bytes) {
+        *old = *new;
+    }
 }
 
-/// A file, how numbers stand in it, and what it is to become.
+/// A file, and what it is to become.
 #[derive(Clone, Copy)]
 pub struct Change<'a> {
     pub bytes: &'a [u8],
     pub file: ElfFile<'a>,
-    pub class: Class,
-    pub order: Endianness,
     pub expected: Expected<'a>,
 }
 
 impl<'a> Change<'a> {
-    /// The bytes of the i-th section header, if they lie in the file, and what may change in them.
-    fn header(&self, i: usize) -> Option<(&'a [u8], HeaderFields)>
-        ensures { IfSome result (λ header.
-            length header.0.now ≡ 16 + 6 * word_size self.now.class) }
-    {
-        let word = word_size_of(self.class);
-        let size = 16 + 6 * word;
+    /// Writes an address, an offset or a size at a place.
+    fn set_word(&self, out: &mut [u8], place: usize, x: u64) {
+        let order = self.file.endianness();
+        match self.file.class() {
+            Class::Elf32 => {
+                set_bytes(out, place, &order.bytes_of_u32(x.min(0xffff_ffff) as u32));
+            }
+            Class::Elf64 => set_bytes(out, place, &order.bytes_of_u64(x)),
+        }
+    }
+
+    /// The bytes of the i-th section header, if they lie in the file.
+    fn header(&self, i: usize) -> Option<&'a [u8]> {
+        let class = self.file.class();
+        let word = word_size_of(class);
         if self.bytes.len() < 32 + 2 * word {
             return None;
         }
-        let table = word_at(self.class, self.order, self.bytes, 24 + 2 * word);
-        let place = table.checked_add((i as u64).checked_mul(size as u64)?)?;
-        let end = self.bytes.len() as u64;
-        if end < place || end - place < size as u64 {
-            return None;
-        }
-        let raw = self.bytes.split_at(place as usize).1.split_at(size).0;
-        let fields = HeaderFields {
-            name: self.order.read_u32(raw),
-            flags: word_at(self.class, self.order, raw, 8),
-            offset: word_at(self.class, self.order, raw, 8 + 2 * word),
-            size: word_at(self.class, self.order, raw, 8 + 3 * word),
-            alignment: word_at(self.class, self.order, raw, 16 + 4 * word),
-        };
-        Some((raw, fields))
+        let table = word_at(class, self.file.endianness(), self.bytes, 24 + 2 * word);
+        let size = 16 + 6 * word;
+        let place = (table as usize).checked_add(i.checked_mul(size)?)?;
+        self.bytes.get(place..place.checked_add(size)?)
     }
 
-    /// The header of a section that gets its plain content. Its alignment is the one that the
-    /// content's own header says, if it has one.
-    fn plain_header(
-        &self,
-        section: &Section<'_>,
-        old: &HeaderFields,
-        size: u64,
-        next: &mut Next,
-    ) -> HeaderFields {
-        let mut header = *old;
-        header.flags = old.flags & 0xffff_ffff_ffff_f7ff;
-        header.offset = next.content;
-        header.size = size;
+    /// Changes the header of a section that gets its plain content. Its alignment is the one that
+    /// the content's own header says, if it has one.
+    fn set_plain(&self, section: &Section<'_>, size: u64, next: &mut Next, header: &mut [u8]) {
+        let word = word_size_of(self.file.class());
+        self.set_word(header, 8, section.flags() & 0xffff_ffff_ffff_f7ff);
+        self.set_word(header, 8 + 2 * word, next.content);
+        self.set_word(header, 8 + 3 * word, size);
         next.content = next.content.saturating_add(size);
         if let Ok(name) = section.name() {
             if is_older(name) {
-                header.name = next.name.min(0xffff_ffff) as u32;
+                let place = next.name.min(0xffff_ffff) as u32;
+                set_bytes(header, 0, &self.file.endianness().bytes_of_u32(place));
                 next.name = next.name.saturating_add(name.len() as u64);
             }
         }
         if let Ok(content) = section.data() {
-            let place = 2 * word_size_of(self.class);
-            if section.is_compressed() && content.len() >= place + 8 {
-                header.alignment = word_at(self.class, self.order, content, place);
+            if section.is_compressed() {
+                if let Some(alignment) = content.get(2 * word..3 * word) {
+                    set_bytes(header, 16 + 4 * word, alignment);
+                }
             }
         }
-        header
     }
 
-    /// The header of a section that stays: what couldn't be read can't be read in the longer file
-    /// either, and the table of names is where it is written again, if names are added.
-    fn kept_header(&self, section: &Section<'_>, old: &HeaderFields, names: u64) -> HeaderFields {
-        let mut header = *old;
+    /// Changes the header of a section that stays: what couldn't be read can't be read in the longer
+    /// file either, and the table of names is where it is written again, if names are added.
+    fn set_kept(&self, section: &Section<'_>, names: u64, header: &mut [u8]) {
+        let word = word_size_of(self.file.class());
         if section.data().is_err() {
-            header.offset = u64::MAX;
+            self.set_word(header, 8 + 2 * word, u64::MAX);
         }
-        if self.expected.added.is_empty() {
-            return header;
+        let added = self.expected.added.len() as u64;
+        if added > 0 && section.name().is_err() {
+            set_bytes(header, 0, &[0xff; 4]);
         }
-        if section.name().is_err() {
-            header.name = u32::MAX;
+        if added > 0 && section.number() == self.expected.names {
+            self.set_word(header, 8 + 2 * word, names);
+            self.set_word(header, 8 + 3 * word, section.size().saturating_add(added));
         }
-        if section.number() == self.expected.names {
-            header.offset = names;
-            header.size = old.size.saturating_add(self.expected.added.len() as u64);
-        }
-        header
-    }
-
-    /// Writes an address, an offset or a size.
-    fn add_word(&self, x: u64, out: &mut Vec<u8>) -> Result<(), AllocError> {
-        match self.class {
-            Class::Elf32 => {
-                let x = x.min(0xffff_ffff) as u32;
-                out.extend_from_slice(&self.order.bytes_of_u32(x))
-            }
-            Class::Elf64 => out.extend_from_slice(&self.order.bytes_of_u64(x)),
-        }
-    }
-
-    /// Writes a header; what doesn't change is that of the bytes.
-    fn add_header(
-        &self,
-        header: &HeaderFields,
-        raw: &[u8],
-        out: &mut Vec<u8>,
-    ) -> Result<(), AllocError>
-        requires { length raw.now ≡ 16 + 6 * word_size self.now.class }
-    {
-        let word = word_size_of(self.class);
-        out.extend_from_slice(&self.order.bytes_of_u32(header.name))?;
-        out.extend_from_slice(&raw[4..8])?;
-        self.add_word(header.flags, out)?;
-        out.extend_from_slice(&raw[8 + word..8 + 2 * word])?;
-        self.add_word(header.offset, out)?;
-        self.add_word(header.size, out)?;
-        out.extend_from_slice(&raw[8 + 4 * word..16 + 4 * word])?;
-        self.add_word(header.alignment, out)?;
-        out.extend_from_slice(&raw[16 + 5 * word..16 + 6 * word])
     }
 
     /// Writes the headers of all sections; the table of names begins at `names`.
     fn add_headers(&self, names: u64, out: &mut Vec<u8>) -> Result<(), AllocError> {
-        let table = self.file.section(self.expected.names);
         let mut next = Next {
             content: self.bytes.len() as u64,
-            name: table.map_or(0, |table| table.size()),
+            name: size_of(&self.file, self.expected.names),
         };
-        for i in 0..self.file.section_count() {
-            if let (Some((raw, old)), Some(section)) = (self.header(i), self.file.section(i)) {
-                let header = match self.expected.contents.get(i) {
-                    Some(Some(plain)) => {
-                        self.plain_header(&section, &old, plain.len() as u64, &mut next)
-                    }
-                    _ => self.kept_header(&section, &old, names),
-                };
-                self.add_header(&header, raw, out)?;
+        for section in self.file.sections() {
+            let place = out.len();
+            out.extend_from_slice(self.header(section.number()).unwrap_or(&[]))?;
+            let header = out.split_at_mut(place).1;
+            match self.expected.contents.get(section.number()) {
+                Some(Some(plain)) => {
+                    self.set_plain(&section, plain.len() as u64, &mut next, header);
+                }
+                _ => self.set_kept(&section, names, header),
             }
         }
         Ok(())
-    }
-
-    /// Writes the table of names again, with those that are added.
-    fn add_names(&self, out: &mut Vec<u8>) -> Result<(), AllocError> {
-        if self.expected.added.is_empty() {
-            return Ok(());
-        }
-        if let Some(names) = self.file.section(self.expected.names) {
-            out.extend_from_slice(names.data().unwrap_or(&[]))?;
-        }
-        out.extend_from_slice(self.expected.added)
-    }
-
-    /// Has the file's header say where the section headers begin.
-    fn set_table(&self, table: u64, out: &mut [u8]) {
-        let place = 24 + 2 * word_size_of(self.class);
-        if out.len() < place + 8 {
-            return;
-        }
-        match self.class {
-            Class::Elf32 => {
-                let table = self.order.bytes_of_u32(table.min(0xffff_ffff) as u32);
-                out[place..place + 4].copy_from_slice(&table);
-            }
-            Class::Elf64 => {
-                out[place..place + 8].copy_from_slice(&self.order.bytes_of_u64(table));
-            }
-        }
     }
 
     /// Writes the file. Its section headers begin at a multiple of 8.
@@ -211,12 +128,18 @@ impl<'a> Change<'a> {
             }
         }
         let names = out.len() as u64;
-        self.add_names(out)?;
+        if !self.expected.added.is_empty() {
+            if let Some(table) = self.file.section(self.expected.names) {
+                out.extend_from_slice(table.data().unwrap_or(&[]))?;
+            }
+            out.extend_from_slice(self.expected.added)?;
+        }
         let over = out.len() % 8;
         if over != 0 {
             out.extend_from_slice([0; 8].split_at(8 - over).0)?;
         }
-        self.set_table(out.len() as u64, out);
+        let table = out.len() as u64;
+        self.set_word(out, 24 + 2 * word_size_of(self.file.class()), table);
         self.add_headers(names, out)
     }
 }

@@ -44,10 +44,7 @@ pub fn names_number(bytes: &[u8], file: &ElfFile<'_>) -> Option<usize>
     if stored != 0xffff {
         return Some(usize::from(stored));
     }
-    match file.section(0) {
-        Some(section) => Some(section.link() as usize),
-        None => Some(0),
-    }
+    Some(file.section(0).map_or(0, |section| section.link() as usize))
 }
 
 /// Adds the plain name of a section, if that is asked for, compressed, and has an older name.
@@ -56,19 +53,14 @@ fn add_name_of(asked: Asked, section: &Section<'_>, added: &mut Vec<u8>) -> Resu
     ensures { OnOk result (added.new.items
         ≡ added.old.items ++ added_name_of asked (view.section section.now)) }
 {
-    if !is_compressed(asked, section) {
-        return Ok(());
+    match section.name() {
+        Ok(name) if is_older(name) && is_compressed(asked, section) => {
+            added.extend_from_slice(b".debug_")?;
+            added.extend_from_slice(name.as_bytes().split_at(8).1)?;
+            added.extend_from_slice(&[0])
+        }
+        _ => Ok(()),
     }
-    let Ok(name) = section.name() else {
-        return Ok(());
-    };
-    if !is_older(name) {
-        return Ok(());
-    }
-    added.extend_from_slice(b".debug_")?;
-    added.extend_from_slice(name.as_bytes().split_at(8).1)?;
-    added.extend_from_slice(&[0])?;
-    Ok(())
 }
 
 /// The names that the table gets.
@@ -88,25 +80,15 @@ pub fn added_names(alloc: Global, asked: Asked, file: &ElfFile<'_>) -> Result<Ve
 /// many as the table of names.
 fn reads_more(file: &ElfFile<'_>, table: u64, most: u64) -> bool {
     let mut read = 0u64;
-    for i in 0..file.section_count() {
-        if let Some(section) = file.section(i) {
-            let name = section.name().map_or(table, |name| name.len() as u64);
-            let content = section.data().map_or(0, |content| content.len() as u64);
-            read = read.saturating_add(name).saturating_add(content);
-            if read > most {
-                return true;
-            }
+    for section in file.sections() {
+        let name = section.name().map_or(table, |name| name.len() as u64);
+        let content = section.data().map_or(0, |content| content.len() as u64);
+        read = read.saturating_add(name).saturating_add(content);
+        if read > most {
+            return true;
         }
     }
     false
-}
-
-/// A sum, which is to be a `u64`.
-fn plus(a: u64, b: u64) -> Result<u64, DecompressError>
-    ensures sum { IfOk result (λ sum. sum ≡ a + b) }
-    ensures error { IfErr result (λ e. e ≡ Unrepresentable) }
-{
-    a.checked_add(b).ok_or(DecompressError::Unrepresentable)
 }
 
 /// How many bytes the plain contents of all sections are said to have together, of a file of that
@@ -124,10 +106,11 @@ fn told_sizes(
 {
     let mut told = 0u64;
     for i in 0..file.section_count() {
-        if let Some(section) = file.section(i) {
-            let size = told_size(asked, class, order, &section)?;
-            told = plus(told, size)?;
-        }
+        let section = file.section(i).ok_or(DecompressError::Unrepresentable)?;
+        let size = told_size(asked, class, order, &section)?;
+        told = told
+            .checked_add(size)
+            .ok_or(DecompressError::Unrepresentable)?;
     }
     Ok(told)
 }
@@ -153,21 +136,17 @@ fn added_sizes(asked: Asked, file: &ElfFile<'_>) -> Option<u64>
 {
     let mut added = 0u64;
     for i in 0..file.section_count() {
-        if let Some(section) = file.section(i) {
-            added = added.checked_add(added_size(asked, &section) as u64)?;
-        }
+        let section = file.section(i)?;
+        added = added.checked_add(added_size(asked, &section) as u64)?;
     }
     Some(added)
 }
 
 /// The size of the section of a number; 0 where there is none.
-fn size_of(file: &ElfFile<'_>, number: usize) -> u64
+pub fn size_of(file: &ElfFile<'_>, number: usize) -> u64
     ensures { result ≡ size_of (slice_get (elf file.now).sections number) }
 {
-    match file.section(number) {
-        Some(section) => section.size(),
-        None => 0,
-    }
+    file.section(number).map_or(0, |section| section.size())
 }
 
 /// Whether the plain contents are said to have more bytes than zlib could write of as many bytes as
@@ -191,10 +170,8 @@ fn length_with(asked: Asked, bytes: &[u8], file: &ElfFile<'_>, told: u64) -> Opt
         ≡ false) }
 {
     let table = size_of(file, names_number(bytes, file)?);
-    if reads_more(file, table, (bytes.len() as u64).saturating_mul(MOST_TIMES)) {
-        return None;
-    }
-    if tells_more(asked, bytes, file, told) {
+    let most = (bytes.len() as u64).saturating_mul(MOST_TIMES);
+    if reads_more(file, table, most) || tells_more(asked, bytes, file, told) {
         return None;
     }
     let names = match added_sizes(asked, file)? {
@@ -220,10 +197,7 @@ pub(crate) fn length(asked: Asked, bytes: &[u8], file: &ElfFile<'_>) -> Result<u
         → result ≡ Err Unrepresentable }
 {
     let told = told_sizes(asked, file.class(), file.endianness(), file)?;
-    match length_with(asked, bytes, file, told) {
-        Some(length) => Ok(length),
-        None => Err(DecompressError::Unrepresentable),
-    }
+    length_with(asked, bytes, file, told).ok_or(DecompressError::Unrepresentable)
 }
 
 /// How many bytes `decompressed` gives, by what the headers say: no stream is read, and no memory
@@ -254,10 +228,9 @@ fn size_in(asked: Asked, section: &Section<'_>) -> u64
     ensures { result ≡ size_in asked (view.section section.now) }
 {
     if is_compressed(asked, section) {
-        section.size()
-    } else {
-        0
+        return section.size();
     }
+    0
 }
 
 /// Whether the compressed sections that are asked for have more bytes than these.

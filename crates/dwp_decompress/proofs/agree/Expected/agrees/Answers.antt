@@ -1,16 +1,24 @@
-use Rattle.std.proofs.Common.{arith, rules}
+use Rattle.std.proofs.Common.{Some, sym, ap, ◌∙◌, option_map, arith, rules}
 use Rattle.dwp_elf_read.proofs.Compared.{same_file}
-use Rattle.dwp_elf_read.specs.View.{elf}
+use Rattle.dwp_elf_read.specs.View.{elf, section}
 use Rattle.dwp_decompress.specs.Result.{plain_contents, result_file}
-use Rattle.dwp_decompress.proofs.Sections.{agree_step, agree_end}
+use Rattle.dwp_decompress.proofs.Sections.{agree_step, agree_end, get_content}
 use Rattle.dwp_decompress.proofs.agree.Expected.agrees.Goals as goal
 
 pub loop-i-init : goal.loop-i-init
 loop-i-init c h = h
 
 pub loop-i-preserved : goal.loop-i-preserved
-loop-i-preserved c h = c.loop-i.invariant
-    (agree_step _ _ _ _ _ _ (c.agrees_at.ensures c.if-not-agrees_at.false) h)
+loop-i-preserved c h =
+    let e = c.args.self.now in
+    let i = c.loop-i.i in
+    let at = sym c.section.ensures.found ∙ ap (option_map section) c.in-Some-Some.is-0 in
+    let is = sym c.section-in-loop-i.ensures.found ∙ ap (option_map section) c.in-Some-Some.is-1
+    ∙ ap Some (c.is_result.ensures c.if-not-is_result.false) in
+    let content = get_content e.contents.now.items i c.index.result.now (omega arith)
+    c.index.ensures in
+    c.loop-i.invariant (agree_step e.names e.added.now (elf c.args.old.now).sections
+    (elf c.args.new.now).sections (plain_contents e.contents.now.items) i _ _ at content is h)
 
 pub returns : goal.returns
 unfolding result_file
