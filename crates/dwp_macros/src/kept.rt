@@ -69,8 +69,9 @@ fn is_changed(file: &ElfFile<'_>, kept: KeptMacros) -> bool
         let Some(section) = file.section(left) else {
             return false;
         };
-        lose |= has_macros(&section) & kept.go(has_more);
-        has_more = has_macros(&section) | has_more;
+        let macros = has_macros(&section);
+        lose |= macros & kept.go(has_more);
+        has_more = macros | has_more;
         indexed = is_index(&section) | indexed;
     }
     lose && !indexed
@@ -105,10 +106,7 @@ fn agrees(old: &ElfFile<'_>, new: &ElfFile<'_>, kept: KeptMacros) -> bool
     let mut has_more = false;
     while left > 0 {
         left -= 1;
-        let Some(before) = old.section(left) else {
-            return false;
-        };
-        let Some(after) = new.section(left) else {
+        let (Some(before), Some(after)) = (old.section(left), new.section(left)) else {
             return false;
         };
         if !is_kept(&before, &after, kept.go(has_more)) {
@@ -128,17 +126,12 @@ fn empty_all(file: &ElfFile<'_>, kept: KeptMacros, bytes: &mut [u8]) -> Option<(
         Class::Elf64 => (order.read_u64(bytes.get(40..48)?) as usize, 64, 32, 8),
     };
     let mut has_more = false;
-    let mut left = file.section_count();
-    while left > 0 {
-        left -= 1;
-        if has_macros(&file.section(left)?) {
+    for number in (0..file.section_count()).rev() {
+        if has_macros(&file.section(number)?) {
             if kept.go(has_more) {
-                let place = table
-                    .checked_add(entry.checked_mul(left)?)?
-                    .checked_add(size)?;
-                for byte in bytes.iter_mut().skip(place).take(word) {
-                    *byte = 0;
-                }
+                let header = table.checked_add(entry.checked_mul(number)?)?;
+                let place = header.checked_add(size)?;
+                bytes.get_mut(place..place.checked_add(word)?)?.fill(0);
             }
             has_more = true;
         }

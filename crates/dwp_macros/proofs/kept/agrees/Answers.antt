@@ -20,12 +20,12 @@ loop-left-preserved c =
     let i = c.loop-left.left - 1 in
     let xs = (elf c.args.old.now).sections in
     let ys = (elf c.args.new.now).sections in
-    let x = section c.in-Some.before in
-    let y = section c.in-Some-section.after in
+    let x = section c.in-Some-Some.before in
+    let y = section c.in-Some-Some.after in
     let next : j ≡ i + 1 = omega arith in
-    let at = sym c.section.ensures.found ∙ ap (option_map section) c.in-Some.is in
+    let at = sym c.section.ensures.found ∙ ap (option_map section) c.in-Some-Some.is-0 in
     let is = sym c.section-in-loop-left.ensures.found
-    ∙ ap (option_map section) c.in-Some-section.is in
+    ∙ ap (option_map section) c.in-Some-Some.is-1 in
     let more = c.loop-left.invariant.more in
     record {
       inside = omega arith;

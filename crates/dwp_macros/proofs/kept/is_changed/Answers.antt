@@ -34,9 +34,9 @@ loop-left-preserved c =
     let more = c.loop-left.invariant.more in
     record {
       inside = omega arith;
-      more = any_step has_macros xs i j x _ _ next at c.has_macros-has_more.ensures more;
+      more = any_step has_macros xs i j x _ _ next at c.has_macros-macros.ensures more;
       lose = lose_step c.args.kept xs i j x _ next at more _ _ _ c.loop-left.invariant.lose
-          c.has_macros.ensures c.go.ensures;
+          c.has_macros-macros.ensures c.go.ensures;
       indexed = any_step is_index xs i j x _ _ next at c.is_index-indexed.ensures
           c.loop-left.invariant.indexed;
     }
