@@ -107,5 +107,20 @@ pub text_parts : (w : Inside) (o : Object) (p : Layout) (header : List ℕ) (cou
 text_parts w o p header count entry is placed counted made sized =
     let are = subst (λ (x : Object). IsLayout x.class x.contents p) (sym is) placed in
     let count = counted ∙ w.sections.ok.0 ∙ sym (length-contents_of w.sections.items) in
-    rw (← is, file_text-split, made, sized, are.headers, are.zeros, are.names_size, count)
-    (rw (← replicate-append-replicate, append_assoc) refl)
+    let rest = headers_from w.class w.endianness p.names_size 1 (header_size w.class)
+    (contents_of w.sections.items) in
+    let together : replicate {A = ℕ} (p.zeros + entry) 0 ++ rest
+    ≡ replicate p.zeros 0 ++ (replicate entry 0 ++ rest) =
+    rw (← replicate-append-replicate {A = ℕ} p.zeros entry 0)
+    (append_assoc (replicate p.zeros 0) (replicate entry 0) rest) in
+    rw (
+      together,
+      ← is,
+      file_text-split,
+      made,
+      sized,
+      are.headers,
+      are.zeros,
+      are.names_size,
+      count,
+    ) refl

@@ -185,12 +185,6 @@ impl<'a> Section<'a> {
     pub fn section_kind(&self) -> Option<SectionKind>
         ensures { result ≡ option_and_then kind_named (section self.now).name }
     {
-        self.first_kind()
-    }
-
-    fn first_kind(&self) -> Option<SectionKind>
-        ensures { result ≡ find (λ kind. is_of kind (section self.now)) all_kinds }
-    {
         SectionKind::ALL
             .iter()
             .copied()
