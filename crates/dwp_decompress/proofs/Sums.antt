@@ -3,7 +3,7 @@ use Rattle.std.proofs.Common.{◌≡◌, ℕ, ◌+◌, ◌-◌, ◌*◌, ◌/◌
 use Rattle.std.proofs.Common.{List, [], ◌∷◌, ◌++◌, length}
 use Rattle.std.proofs.Common.{drop, Some, Ok, Err, Result, ap, sym, ◌∙◌, refl, arith}
 use Rattle.std.proofs.Common.{slice_get, nat_lt, codes, length-append, length-drop, take}
-use Rattle.core.specs.Cmp.Lexicographic.{same_text}
+use Rattle.std.proofs.lemmas.Slice.Eq.{bytes_eq-Decides}
 use Rattle.std.proofs.lemmas.List.{drop_all, length-take}
 use Rattle.std.proofs.lemmas.List.Sums.{sum_by-cons}
 use Rattle.std.proofs.lemmas.Bool.{lt-ltb, le-ltb, ltb-true, ltb-false}
@@ -101,8 +101,8 @@ module _ (asked : Asked) (sections : List SectionMeaning) (i : ℕ) where
 pub older_long : (name : List ℕ) → is_older name ≡ true → 8 ≤ length name
 unfolding is_older
 older_long name h =
-    let begins = same_text (take 8 name) (codes ".zdebug_") (sym h) in
-    let eight : length (take 8 name) ≡ 8 = ap length begins in
+    let begins = (bytes_eq-Decides (codes ".zdebug_") (take 8 name)).0 h in
+    let eight : 8 ≡ length (take 8 name) = ap length begins in
     omega (arith, eight, length-take 8 name)
 
 -- a plain name and its end are as long as the older name

@@ -5,7 +5,6 @@ ghost use Rattle.dwp_elf_read.specs.View as view;
 ghost use Rattle.dwp_elf_read.specs.View.{elf};
 ghost use Rattle.dwp_decompress.specs.Names.{plain_name};
 ghost use Rattle.dwp_decompress.specs.Result.{with_plain, with_names, result_section};
-ghost use Rattle.dwp_decompress.specs.Result.{plain_contents};
 ghost use Rattle.dwp_decompress.specs.Agreement.{expected_file};
 
 use crate::asked::is_older;

@@ -5,7 +5,7 @@ use Rattle.dwp_decompress.proofs.sizes.added_sizes.Goals as goal
 
 pub loop-i-preserved : goal.loop-i-preserved
 loop-i-preserved c =
-    let at = sym c.section-section.ensures.found ∙ ap (option_map section) c.in_ok-section.was in
+    let at = sym c.section.ensures.found ∙ ap (option_map section) c.in_ok-section.was in
     let step = added_step c.args.asked (elf c.args.file.now).sections c.loop-i.i _ at in
     omega (arith, c.loop-i.invariant, step, c.in_ok-added.ensures, c.added_size.ensures)
 

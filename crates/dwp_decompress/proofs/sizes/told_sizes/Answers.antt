@@ -12,7 +12,8 @@ loop-i-init c = none_plus (told_sizes c.args.asked c.args.class c.args.order
 pub returns-in_err-size-clause-sum : goal.returns-in_err-size-clause-sum
 returns-in_err-size-clause-sum c =
     let at = sym c.section.ensures.found ∙ ap (option_map section) c.in_ok-section.ensures.ok_part in
-    let p = err_from_is_err_and c.from_residual.result c.from_residual.ensures.1 in
+    let p = err_from_is_err_and c.from_residual-in_err-size.result
+    c.from_residual-in_err-size.ensures.1 in
     rw (p.1, p.2) (λ m u. sym c.loop-i.invariant ∙ told_fail c.args.asked c.args.class c.args.order
     _ c.loop-i.i c.loop-i.told _ _ at c.in_err-size.ensures)
 

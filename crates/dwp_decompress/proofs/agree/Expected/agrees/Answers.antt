@@ -10,11 +10,15 @@ loop-i-init c h = h
 
 pub loop-i-preserved : goal.loop-i-preserved
 loop-i-preserved c h =
+    let e = c.args.self.now in
+    let i = c.loop-i.i in
     let at = sym c.section.ensures.found ∙ ap (option_map section) c.in-Some-Some.is-0 in
     let is = sym c.section-in-loop-i.ensures.found ∙ ap (option_map section) c.in-Some-Some.is-1
     ∙ ap Some (c.is_result.ensures c.if-not-is_result.false) in
-    let content = get_content _ _ c.index.result.now (omega arith) c.index.ensures in
-    c.loop-i.invariant (agree_step _ _ _ _ _ _ _ _ at content is h)
+    let content = get_content e.contents.now.items i c.index.result.now (omega arith)
+    c.index.ensures in
+    c.loop-i.invariant (agree_step e.names e.added.now (elf c.args.old.now).sections
+    (elf c.args.new.now).sections (plain_contents e.contents.now.items) i _ _ at content is h)
 
 pub returns : goal.returns
 unfolding result_file
