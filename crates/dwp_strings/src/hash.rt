@@ -1,8 +1,8 @@
-//! The hash of a string, made of 16 bytes a step: nearly that of std's `FoldHasher`.
+//! The hash of a string, made of 32 bytes a step: nearly that of std's `FoldHasher`.
 
 ghost use Rattle.std.specs.Prelude.{◌≡◌, ◌<◌, ◌≤◌, ◌+◌, length};
-ghost use Rattle.std.specs.Hash.FoldHasher.{folded_multiply as folded, read_u32, read_u64};
-ghost use Rattle.dwp_strings.specs.Places.{hash as hash_of, wide};
+ghost use Rattle.std.specs.Hash.FoldHasher.{folded_multiply as folded, read_u32, read_u64, mix};
+ghost use Rattle.dwp_strings.specs.Places.{hash as hash_of, wide, after_block};
 
 use std::hash::{FoldHasher, Hasher};
 
@@ -40,26 +40,70 @@ fn word_at(bytes: &[u8], at: usize) -> u64
     half_at(rest, 0) | half_at(rest, 4) << 32
 }
 
+/// The state after a block of 16 bytes. (Its second word isn't 0, so needn't be changed first.)
+#[inline(always)]
+fn mixed(bytes: &[u8], state: u64, at: usize) -> u64
+    requires { at + 16 ≤ length bytes.now }
+    ensures { result ≡ after_block bytes.now state at }
+{
+    folded_multiply(word_at(bytes, at) ^ state, word_at(bytes, at + 8))
+}
+
+/// The state after the last words, at two places.
+#[inline(always)]
+fn mixed_last(bytes: &[u8], state: u64, at: usize, other: usize) -> u64
+    requires first { at + 8 ≤ length bytes.now }
+    requires second { other + 8 ≤ length bytes.now }
+    ensures { result ≡ mix bytes.now state at other }
+{
+    folded_multiply(
+        word_at(bytes, at) ^ state,
+        word_at(bytes, other) ^ MULTIPLIER,
+    )
+}
+
+/// The whole hash of a string that is longer than 32 bytes.
+#[inline(always)]
+fn long_hash(bytes: &[u8]) -> u64
+    requires { 32 < length bytes.now }
+    ensures { result ≡ wide bytes.now }
+{
+    let len = bytes.len();
+    let mut state = START.wrapping_add(len as u64);
+    let last = len - 32;
+    let mut at = 0;
+    while at < last {
+        state = mixed(bytes, state, at);
+        state = mixed(bytes, state, at + 16);
+        at += 32;
+    }
+    if len - at > 16 {
+        let next = mixed(bytes, state, at);
+        return mixed_last(bytes, next, len - 16, len - 8);
+    }
+    mixed_last(bytes, state, len - 16, len - 8)
+}
+
 /// The whole hash of a string.
 #[inline(always)]
 fn wide_hash(string: &[u8]) -> u64
     ensures { result ≡ wide string.now }
 {
     let len = string.len();
-    if len <= 8 {
-        let mut hasher = FoldHasher::default();
-        hasher.write(string);
-        return hasher.finish();
+    if len > 32 {
+        return long_hash(string);
     }
-    let mut state = START.wrapping_add(len as u64);
-    let mut at = 0;
-    while len - at > 16 {
-        // (the second word of a block isn't 0, so needn't be changed first)
-        state = folded_multiply(word_at(string, at) ^ state, word_at(string, at + 8));
-        at += 16;
+    let state = START.wrapping_add(len as u64);
+    if len > 16 {
+        let next = mixed(string, state, 0);
+        return mixed_last(string, next, len - 16, len - 8);
     }
-    let last = word_at(string, len.saturating_sub(16)) ^ state;
-    folded_multiply(last, word_at(string, len - 8) ^ MULTIPLIER)
+    if len > 8 {
+        return mixed_last(string, state, 0, len - 8);
+    }
+    let mut hasher = FoldHasher::default();
+    hasher.write(string);
+    hasher.finish()
 }
 
 /// The hash of a string, where a call is to be saved.
