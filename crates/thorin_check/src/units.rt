@@ -6,8 +6,8 @@ ghost use Rattle.dwp_index.specs.Package.{found};
 ghost use Rattle.thorin_check.specs.Checking.{TellsUnits};
 ghost use Rattle.thorin_check.specs.Faults.{TellsUnit, TellsFound, TellsItself, is_bare};
 ghost use Rattle.thorin_check.specs.Texts.{IsUnreadText, IsTextOf};
-ghost use Rattle.thorin_check.specs.Gathered.{IsSeen, GoesOn, Gathered, IsGatheredIn, TellsSeen};
-ghost use Rattle.thorin_check.specs.Telling.{so_far, Tells, ForEach};
+ghost use Rattle.thorin_check.specs.Gathered.{IsSeen, GoesOn, Gathered, IsGatheredIn};
+ghost use Rattle.thorin_check.specs.Telling.{so_far, Tells};
 ghost use Rattle.thorin_check.specs.Overlaps.{IsClash, begins_inside, differ_in_tables, has_units};
 ghost use Rattle.thorin_check.specs.Overlaps.{overlap, overlap_text, same_range, tables_text};
 
@@ -63,33 +63,15 @@ pub(crate) fn check_units<O: Write>(
         },
     };
     let count = faults.count;
-    check_each(pack, indexed.entries, &overlaps, &mut seen, faults, out)?;
+    for i in 0..indexed.entries.len() {
+        let entry = indexed.entries[i];
+        let text = text_of(pack, entry, overlaps.of(i), &mut seen);
+        tell(entry.object, text, faults, out)?;
+    }
     if overlaps.clash & (faults.count == count) {
         return Err(Failure::Memory);
     }
     check_strings(pack, ends, &mut seen.strings.unread, faults, out)
-}
-
-/// Checks each unit that a slot names, and gathers those whose strings are still to be checked.
-fn check_each<'a, O: Write>(
-    pack: &PackageFile<'a>,
-    entries: &[UnitEntry],
-    overlaps: &Overlaps,
-    seen: &mut Seen<'a>,
-    faults: &mut Faults,
-    out: &mut O,
-) -> Result<(), Failure>
-    requires seen { IsSeen pack.now seen.old }
-    ensures told { Tells (ForEach (TellsSeen pack.now seen.new.strings.unread.items)
-        entries.now) (so_far (O.contents out.old) faults.old)
-        (so_far (O.contents out.new) faults.new) result }
-    ensures seen { OnOk result (IsSeen pack.now seen.new) }
-{
-    for i in 0..entries.len() {
-        let text = text_of(pack, entries[i], overlaps.of(i), seen);
-        tell(entries[i].object, text, faults, out)?;
-    }
-    Ok(())
 }
 
 /// What is told of the unit that a slot names, if anything.

@@ -1,16 +1,27 @@
 use Rattle.std.proofs.lemmas.Result.{err_from_is_err_and}
-use Rattle.thorin_check.proofs.Distinct.{units_apart, units_then}
-use Rattle.thorin_check.proofs.Told.{then_or}
+use Rattle.thorin_check.proofs.Distinct.{text_made, text_seen, seen_next, units_apart, units_then}
+use Rattle.thorin_check.proofs.Told.{text_stopped, then_or, told_all}
 use Rattle.thorin_check.proofs.units.check_units.Goals as goal
 
-pub returns-in_err-check_each : goal.returns-in_err-check_each
-returns-in_err-check_each g c =
+pub loop-i-preserved : goal.loop-i-preserved
+loop-i-preserved g c =
+    let text = c.text_of-text.ensures in
+    let on = text_made _ _ _ _ text.on c.in_ok-tell.ensures in
+    record {
+      told = seen_next _ _ _ on.kept _ c.loop-i.i _ c.loop-i-test.true c.loop-i.invariant.told
+          (text_seen _ _ _ _ _ _ text.text text.gathered c.in_ok-tell.ensures);
+      seen = on.seen;
+    }
+
+pub returns-in_err-tell : goal.returns-in_err-tell
+returns-in_err-tell g c =
     let p = err_from_is_err_and c.from_residual.result c.from_residual.ensures.1 in
-    rw (p.1, p.2) c.in_err-check_each.ensures.told
+    rw (p.1, p.2) (text_stopped _ _ _ _ c.loop-i.invariant.told c.in_err-tell.ensures)
 
 pub returns : goal.returns
 returns g c =
     then_or _ _ _ _ _ _ _ (units_then _ _ _) c.check_strings.result
-    (units_apart _ _ _ _ c.in-Ok.ensures
-    c.if-overlaps-faults.false c.in_ok-check_each.ensures.told)
+    (units_apart _ _ _ _ c.in-Ok.ensures c.if-overlaps-faults.false
+    (told_all _ c.args.indexed.entries.now c.loop-i.i c.loop-i-test.false
+    c.loop-i.invariant.told))
     c.check_strings.ensures
