@@ -8,7 +8,7 @@ ghost use Rattle.thorin_check.specs.Faults.{TellsUnit, TellsFound, TellsItself, 
 ghost use Rattle.thorin_check.specs.Texts.{IsUnreadText, IsTextOf};
 ghost use Rattle.thorin_check.specs.Gathered.{IsSeen, GoesOn, Gathered, IsGatheredIn};
 ghost use Rattle.thorin_check.specs.Telling.{so_far, Tells};
-ghost use Rattle.thorin_check.specs.Overlaps.{IsClash, begins_inside, differ_in_tables, has_units};
+ghost use Rattle.thorin_check.specs.Overlaps.{IsClash, begins_inside, has_units};
 ghost use Rattle.thorin_check.specs.Overlaps.{overlap, overlap_text, same_range, tables_text};
 
 use crate::abbreviations::Remembered;
@@ -17,7 +17,7 @@ use crate::faults::{Faults, some, tell};
 use crate::overlaps::{Clash, Overlaps, Shares};
 use crate::strings::{Ends, UnreadStrings, check_strings};
 use dwp_base::{Contribution, SectionKind};
-use dwp_index::{PackageError, PackageFile, PackagedUnit, Row, UnitEntry};
+use dwp_index::{PackageError, PackageFile, PackagedUnit, UnitEntry};
 use dwp_table::{Bucketable, DwarfObject};
 use std::alloc::{AllocError, Global};
 use std::io::Write;
@@ -197,7 +197,11 @@ fn text_of_clash(
     if overlap(a.range(kind), b.range(kind)) {
         return some(clash_text(alloc, kind, other, false));
     }
-    if differ_in_tables(kind, a, b) {
+    if has_units(kind)
+        && a.range(kind).is_some()
+        && is_same(a.range(kind), b.range(kind))
+        && !is_same(a.range(SectionKind::Abbrev), b.range(SectionKind::Abbrev))
+    {
         return some(clash_text(alloc, kind, other, true));
     }
     Ok(None)
@@ -223,16 +227,6 @@ fn clash_text(
     format!(in alloc;
         "its range of {name} is that of {other_kind} 0x{id:016x}, with other abbreviations"
     )
-}
-
-/// Whether two rows have the same bytes of a unit, and other abbreviations.
-fn differ_in_tables(kind: SectionKind, a: &Row<'_>, b: &Row<'_>) -> bool
-    ensures { result ≡ differ_in_tables kind a.now b.now }
-{
-    has_units(kind)
-        && a.range(kind).is_some()
-        && is_same(a.range(kind), b.range(kind))
-        && !is_same(a.range(SectionKind::Abbrev), b.range(SectionKind::Abbrev))
 }
 
 /// Whether a section has the bytes of units.
