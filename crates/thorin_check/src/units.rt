@@ -253,10 +253,7 @@ fn overlap(a: Option<Contribution>, b: Option<Contribution>) -> bool
 {
     match (a, b) {
         (Some(a), Some(b)) => {
-            if a.offset.0 == b.offset.0 && a.size == b.size {
-                return false;
-            }
-            begins_inside(a, b) || begins_inside(b, a)
+            !is_same(Some(a), Some(b)) && (begins_inside(a, b) || begins_inside(b, a))
         }
         _ => false,
     }
