@@ -4,7 +4,7 @@ ghost use Rattle.std.specs.Prelude.{◌≡◌, if◌then◌else◌, None, Some, 
 ghost use Rattle.std.specs.Prelude.{IfSome};
 ghost use Rattle.dwp_index.specs.Package.{found};
 ghost use Rattle.thorin_check.specs.Checking.{TellsUnits};
-ghost use Rattle.thorin_check.specs.Faults.{TellsUnit, TellsFound, TellsItself, is_bare};
+ghost use Rattle.thorin_check.specs.Faults.{TellsUnit, TellsFound, is_bare};
 ghost use Rattle.thorin_check.specs.Texts.{IsUnreadText, IsTextOf};
 ghost use Rattle.thorin_check.specs.Gathered.{IsSeen, GoesOn, Gathered, IsGatheredIn};
 ghost use Rattle.thorin_check.specs.Telling.{so_far, Tells};
@@ -96,8 +96,10 @@ fn text_of<'a>(
 }
 
 /// What is told of the unit that is found under the identifier of a slot, if anything: it is to be
-/// that of the slot's row, and this row is to have abbreviations where the package has some.
-#[tactic(auto, using(crate::proofs::Told::other_row, crate::proofs::Told::in_bare_row, crate::proofs::Told::in_whole_row, crate::proofs::Told::made, crate::proofs::Distinct::stays_seen))]
+/// that of the slot's row, and this row is to have abbreviations where the package has some; none of
+/// its ranges is to clash with that of another, and its own identifier is to be that of the slot.
+/// Then the unit is gathered for the check of its strings.
+#[tactic(auto, using(crate::proofs::Told::other_row, crate::proofs::Told::in_bare_row, crate::proofs::Told::in_whole_row, crate::proofs::Told::made, crate::proofs::Told::clashed, crate::proofs::Told::of_its_own, crate::proofs::Distinct::stays_seen))]
 fn text_of_found<'a>(
     pack: &PackageFile<'a>,
     entry: UnitEntry,
@@ -119,7 +121,19 @@ fn text_of_found<'a>(
     if is_bare(pack, unit) {
         return some(format!(in seen.alloc; "its row has no abbreviations"));
     }
-    text_of_itself(pack, entry.object, unit, shares, seen)
+    if let Some(text) = text_of_clash(seen.alloc, pack, unit, shares.clash)? {
+        return Ok(Some(text));
+    }
+    match seen
+        .abbreviations
+        .text_of(pack, entry.object, unit, shares.has_twin)?
+    {
+        Some(text) => Ok(Some(text)),
+        None => {
+            seen.strings.add(unit, entry.object)?;
+            Ok(None)
+        }
+    }
 }
 
 /// Whether the row of a unit has no abbreviations, where its package has some.
@@ -127,39 +141,6 @@ fn is_bare(pack: &PackageFile<'_>, unit: &PackagedUnit<'_>) -> bool
     ensures { result ≡ is_bare pack.now unit.now }
 {
     !pack.content(SectionKind::Abbrev).is_empty() && unit.range(SectionKind::Abbrev).is_none()
-}
-
-/// What is told of a unit by its ranges and its own bytes, if anything: none of its ranges is to
-/// clash with that of another, and its own identifier is to be that of the slot. Then the unit is
-/// gathered for the check of its strings.
-#[tactic(auto, using(crate::proofs::Told::clashed, crate::proofs::Told::of_its_own, crate::proofs::Distinct::stays_seen))]
-fn text_of_itself<'a>(
-    pack: &PackageFile<'a>,
-    object: DwarfObject,
-    unit: &PackagedUnit<'a>,
-    shares: Shares,
-    seen: &mut Seen<'a>,
-) -> Result<Option<String>, AllocError>
-    requires seen { IsSeen pack.now seen.old }
-    requires is_found { found pack.now object ≡ Ok (Some unit.now) }
-    ensures text { IsTextOf (TellsItself pack.now object unit.now) object result }
-    ensures on { OnOk result (GoesOn pack.now seen.old seen.new) }
-    ensures gathered { IfOk result (λ text. text ≡ None
-        → Gathered pack.now seen.new.strings.unread.items unit.now) }
-{
-    if let Some(text) = text_of_clash(seen.alloc, pack, unit, shares.clash)? {
-        return Ok(Some(text));
-    }
-    match seen
-        .abbreviations
-        .text_of(pack, object, unit, shares.has_twin)?
-    {
-        Some(text) => Ok(Some(text)),
-        None => {
-            seen.strings.add(unit, object)?;
-            Ok(None)
-        }
-    }
 }
 
 /// What is told where what the index says of a unit can't be read.
