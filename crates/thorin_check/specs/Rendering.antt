@@ -33,13 +33,10 @@ fault_line (of_unit unit what) =
 fault_line (of_package what) = what ++ line_end
 fault_line (of_executable name what) = name ++ (codes ": " ++ (what ++ line_end))
 
--- in an object, whose strings are escaped: behind a unit, up to the end of its last string, and all
--- of it
-abbrev pub fault_member : (what : List ℕ) → List ℕ
-fault_member what = codes "\",\"fault\":\"" ++ spelled Json what
-
+-- in an object, whose strings are escaped: up to the end of its last string, and all of it
 abbrev pub fault_members : FaultValue → List ℕ
-fault_members (of_unit unit what) = json_unit unit ++ fault_member what
+fault_members (of_unit unit what) =
+    json_unit unit ++ (codes "\",\"fault\":\"" ++ spelled Json what)
 fault_members (of_package what) = codes "{\"fault\":\"" ++ spelled Json what
 fault_members (of_executable name what) =
     codes "{\"fault\":\"" ++ (spelled Json name ++ (codes ": " ++ spelled Json what))

@@ -2,7 +2,7 @@
 
 ghost use Rattle.thorin_check.specs.Telling.{so_far, IsFault, Tells};
 ghost use Rattle.thorin_check.specs.Texts.{TellsText, TellsWhat, IsSomeText};
-ghost use Rattle.thorin_check.specs.Rendering.{value_of, fault_text, fault_members, fault_member};
+ghost use Rattle.thorin_check.specs.Rendering.{value_of, fault_text, fault_members};
 ghost use Rattle.thorin_check.specs.Rendering.{totals_text, count_text};
 ghost use Rattle.std.specs.Prelude.{◌≡◌, ◌++◌, OnOk, string_bytes};
 
@@ -138,7 +138,8 @@ fn put_members(fault: Fault<'_>, text: &mut String) -> Result<(), AllocError>
     match fault {
         Fault::Unit(object, what) => {
             put_json_unit(object, text)?;
-            put_member(what, text)
+            text.push_str("\",\"fault\":\"")?;
+            put_spelled(what.as_bytes(), Form::Json, text)
         }
         Fault::Package(what) => {
             text.push_str("{\"fault\":\"")?;
@@ -151,15 +152,6 @@ fn put_members(fault: Fault<'_>, text: &mut String) -> Result<(), AllocError>
             put_spelled(what.as_bytes(), Form::Json, text)
         }
     }
-}
-
-/// Adds what is wrong behind the unit that it is wrong with, up to the end of the string.
-fn put_member(what: &str, text: &mut String) -> Result<(), AllocError>
-    ensures { OnOk result (string_bytes text.new
-        ≡ string_bytes text.old ++ fault_member what.now) }
-{
-    text.push_str("\",\"fault\":\"")?;
-    put_spelled(what.as_bytes(), Form::Json, text)
 }
 
 /// Adds how many units and faults there are.
