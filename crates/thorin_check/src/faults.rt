@@ -40,9 +40,7 @@ pub(crate) fn tell_fault<O: Write>(
     ensures { Tells (IsFault (value_of fault.entry)) (so_far (O.contents out.old) faults.old)
         (so_far (O.contents out.new) faults.new) result }
 {
-    let Ok(()) = put_fault(faults.form, fault, &mut faults.waiting) else {
-        return Err(Failure::Memory);
-    };
+    put_fault(faults.form, fault, &mut faults.waiting)?;
     faults.count = faults.count.saturating_add(1);
     if faults.waiting.len() < MANY {
         return Ok(());
