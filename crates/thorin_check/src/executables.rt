@@ -213,9 +213,7 @@ fn tell_of<O: Write>(
     ensures { Tells (IsFault (of_executable (shown executable.now) what.now))
         (so_far (O.contents out.old) faults.old) (so_far (O.contents out.new) faults.new) result }
 {
-    let Ok(name) = shown(*faults.waiting.allocator(), executable) else {
-        return Err(Failure::Memory);
-    };
+    let name = shown(*faults.waiting.allocator(), executable)?;
     tell_fault(Fault::Executable(name.as_str(), what), faults, out)
 }
 
