@@ -231,9 +231,7 @@ fn tell_error<O: Write>(
     if matches!(error, Error::Memory) {
         return Err(Failure::Memory);
     }
-    let Ok(text) = format!(in *faults.waiting.allocator(); "{error}") else {
-        return Err(Failure::Memory);
-    };
+    let text = format!(in *faults.waiting.allocator(); "{error}")?;
     tell_broken(executable, text.as_str(), faults, out)
 }
 
