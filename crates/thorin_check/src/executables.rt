@@ -246,8 +246,6 @@ fn tell_broken<O: Write>(
     ensures { Tells (IsBroken executable.now) (so_far (O.contents out.old) faults.old)
         (so_far (O.contents out.new) faults.new) result }
 {
-    let Ok(text) = printed(*faults.waiting.allocator(), cause) else {
-        return Err(Failure::Memory);
-    };
+    let text = printed(*faults.waiting.allocator(), cause)?;
     tell_of(executable, text.as_str(), faults, out)
 }
