@@ -47,9 +47,7 @@ pub fn check_by<F: FileReader, O: Write>(
     if has_no_index(&pack) {
         return Err(Failure::NoIndex);
     }
-    let Ok(entries) = entries_by_row(alloc, &pack) else {
-        return Err(Failure::Memory);
-    };
+    let entries = entries_by_row(alloc, &pack)?;
     let indexed = IndexedPackage {
         pack: &pack,
         entries: entries.as_slice(),
