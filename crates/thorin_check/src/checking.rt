@@ -122,9 +122,7 @@ fn finish<O: Write>(units: usize, faults: &mut Faults, out: &mut O) -> Result<u8
         (string_bytes faults.old.waiting) (O.contents out.new) result }
 {
     let count = faults.count;
-    let Ok(()) = put_totals(faults.form, units as u64, count, &mut faults.waiting) else {
-        return Err(Failure::Memory);
-    };
+    put_totals(faults.form, units as u64, count, &mut faults.waiting)?;
     print(faults.waiting.as_str(), out)?;
     flush(out)?;
     Ok(if count == 0 { 0 } else { 1 })

@@ -6,7 +6,8 @@ use Rattle.thorin_check.proofs.checking.finish.Goals as goal
 
 pub returns-in_err-print : goal.returns-in_err-print
 returns-in_err-print g c =
-    let p = err_from_is_err_and c.from_residual.result c.from_residual.ensures.1 in
+    let exit = c.from_residual-in_err-print in
+    let p = err_from_is_err_and exit.result exit.ensures.1 in
     rw (p.1, p.2) c.in_err-print.ensures
 
 pub returns-in_err-flush : goal.returns-in_err-flush
@@ -20,14 +21,14 @@ returns-in_err-flush g c =
 
 pub returns-then-count-eq0 : goal.returns-then-count-eq0
 returns-then-count-eq0 g c = (
-  rw (c.as_str.ensures.value, c.in-Ok.ensures) at
+  rw (c.as_str.ensures.value, c.in_ok-put_totals.ensures) at
       (flushed _ _ _ _ c.in_ok-print.ensures c.in_ok-flush.ensures.kept),
   rw c.if-count-eq0.true refl,
 )
 
 pub returns-else-count-eq0 : goal.returns-else-count-eq0
 returns-else-count-eq0 g c = (
-  rw (c.as_str.ensures.value, c.in-Ok.ensures) at
+  rw (c.as_str.ensures.value, c.in_ok-put_totals.ensures) at
       (flushed _ _ _ _ c.in_ok-print.ensures c.in_ok-flush.ensures.kept),
   grind (arith, nat_tests, c.if-count-eq0.false),
 )
