@@ -47,9 +47,7 @@ pub(crate) fn check_units<O: Write>(
 {
     let alloc = *faults.waiting.allocator();
     let pack = indexed.pack;
-    let Ok(overlaps) = Overlaps::find(alloc, pack, indexed.entries) else {
-        return Err(Failure::Memory);
-    };
+    let overlaps = Overlaps::find(alloc, pack, indexed.entries)?;
     let ends = Ends::of(pack);
     let size = pack.content(SectionKind::StrOffsets).len() as u64;
     let mut seen = Seen {
