@@ -234,10 +234,7 @@ pub(crate) fn check_strings<O: Write>(
     ensures { Tells (TellsListed pack.now strings.old.items)
         (so_far (O.contents out.old) faults.old) (so_far (O.contents out.new) faults.new) result }
 {
-    let sorted = strings.sort_by_key(|(r, _)| (r.offset, r.size, r.version, is_wide(r.format)));
-    if sorted.is_err() {
-        return Err(Failure::Memory);
-    }
+    strings.sort_by_key(|(r, _)| (r.offset, r.size, r.version, is_wide(r.format)))?;
     let listed = strings.as_slice();
     let mut before: Option<StringRange> = None;
     for i in 0..listed.len() {

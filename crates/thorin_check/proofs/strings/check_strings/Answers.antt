@@ -17,7 +17,7 @@ pub loop-i-preserved : goal.loop-i-preserved
 loop-i-preserved g c =
     let are : All (IsOfUnit c.args.pack.now) c.as_slice-listed.result.now =
     rw c.as_slice-listed.ensures.value (All-permutation (IsOfUnit c.args.pack.now) _ _
-    c.sort_by_key-sorted.ensures.permutation c.requires.are) in
+    c.sort_by_key.ensures.permutation c.requires.are) in
     told_then (first_more _ _ c.loop-i.i _ c.loop-i-test.true _ are (c.comes_behind.ensures (cc)))
     c.loop-i.invariant c.in_ok-check_strings_of.ensures
 
@@ -28,13 +28,14 @@ loop-i-preserved-then-eq g c =
 
 pub returns-in_err-check_strings_of : goal.returns-in_err-check_strings_of
 returns-in_err-check_strings_of g c =
-    let p = err_from_is_err_and c.from_residual.result c.from_residual.ensures.1 in
+    let exit = c.from_residual-in_err-check_strings_of in
+    let p = err_from_is_err_and exit.result exit.ensures.1 in
     rw (p.1, p.2) (stopped_behind _ c.loop-i.invariant c.in_err-check_strings_of.ensures)
 
 pub returns : goal.returns
 returns g c =
     let told = told_as c.loop-i.invariant (first_all _ _ c.loop-i.i _ c.loop-i-test.false) in
-    listed_before c.args.pack.now _ _ c.sort_by_key-sorted.ensures.permutation _ _ (Ok tt)
+    listed_before c.args.pack.now _ _ c.sort_by_key.ensures.permutation _ _ (Ok tt)
     (rw c.as_slice-listed.ensures.value at told)
 
 pub returns-then-not-comes_behind : goal.returns-then-not-comes_behind
