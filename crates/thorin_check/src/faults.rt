@@ -82,10 +82,8 @@ pub(crate) fn tell_of_package<O: Write>(
     ensures { TellsWhat text (so_far (O.contents out.old) faults.old)
         (so_far (O.contents out.new) faults.new) result }
 {
-    match text {
-        Ok(text) => tell_fault(Fault::Package(text.as_str()), faults, out),
-        Err(_) => Err(Failure::Memory),
-    }
+    let text = text?;
+    tell_fault(Fault::Package(text.as_str()), faults, out)
 }
 
 /// A text that there is.
