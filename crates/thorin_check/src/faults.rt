@@ -63,10 +63,9 @@ pub(crate) fn tell<O: Write>(
     ensures { TellsText object text (so_far (O.contents out.old) faults.old)
         (so_far (O.contents out.new) faults.new) result }
 {
-    match text {
-        Ok(Some(text)) => tell_fault(Fault::Unit(object, text.as_str()), faults, out),
-        Ok(None) => Ok(()),
-        Err(_) => Err(Failure::Memory),
+    match text? {
+        Some(text) => tell_fault(Fault::Unit(object, text.as_str()), faults, out),
+        None => Ok(()),
     }
 }
 
