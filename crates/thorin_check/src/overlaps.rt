@@ -118,9 +118,9 @@ impl Overlaps {
     }
 
     /// Marks each range of the units that are found in the row of their entry that another of these
-    /// seems to overlap, and then those that are read otherwise. Sorted by their places, a range
-    /// overlaps one before it where the farthest end before is past its place, and one behind it
-    /// where the next place is before its end.
+    /// seems to overlap, and then those that are the same as one before, with other abbreviations.
+    /// Sorted by their places, a range overlaps one before it where the farthest end before is past
+    /// its place, and one behind it where the next place is before its end.
     fn find_clashes(
         &mut self,
         alloc: Global,
@@ -144,7 +144,17 @@ impl Overlaps {
             columns.push((*kind, ranges))?;
         }
         for (kind, ranges) in &columns {
-            self.mark_others(*kind, ranges.as_slice(), entries);
+            let mut first: Option<Placed> = None;
+            for range in ranges.as_slice() {
+                match first {
+                    Some(other) if is_same(other, *range) => {
+                        if !is_same_range(other.tables, range.tables) {
+                            self.mark(*kind, *range, other, entries);
+                        }
+                    }
+                    _ => first = Some(*range),
+                }
+            }
         }
         Ok(())
     }
@@ -185,21 +195,6 @@ impl Overlaps {
                 }
             }
             behind = Some(*range);
-        }
-    }
-
-    /// Marks each range that is the same as one before, and has other abbreviations.
-    fn mark_others(&mut self, kind: SectionKind, ranges: &[Placed], entries: &[UnitEntry]) {
-        let mut first: Option<Placed> = None;
-        for range in ranges {
-            match first {
-                Some(other) if is_same(other, *range) => {
-                    if !is_same_range(other.tables, range.tables) {
-                        self.mark(kind, *range, other, entries);
-                    }
-                }
-                _ => first = Some(*range),
-            }
         }
     }
 
