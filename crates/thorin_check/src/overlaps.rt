@@ -86,8 +86,8 @@ impl Overlaps {
         }
     }
 
-    /// Marks the entries whose rows share a range of one section, which are sorted by their places;
-    /// whether two ranges clash.
+    /// Marks the entries whose rows share a range of one section, where it has the bytes of units:
+    /// the ranges are sorted by their places. Answers whether two of them clash.
     fn mark_twins(&mut self, kind: SectionKind, ranges: &[Placed]) -> bool
         ensures { result ≡ false → AllPairs IsApart ranges.now }
     {
@@ -95,26 +95,21 @@ impl Overlaps {
         let mut farthest = 0u64;
         let mut before: Option<Placed> = None;
         for range in ranges {
-            self.mark_both(kind, before, *range);
+            if let Some(first) = before {
+                if has_units(kind) && is_same(first, *range) {
+                    for entry in &[first.entry, range.entry] {
+                        if let Some(has_twin) = self.twins.get_mut(*entry) {
+                            *has_twin = true;
+                        }
+                    }
+                }
+            }
             let is_twin = is_last(before, *range);
             clash |= !(is_twin | (farthest <= range.offset) & (farthest < u64::MAX));
             farthest = farthest.max(end(*range));
             before = Some(*range);
         }
         clash
-    }
-
-    /// Marks two units that have the same bytes, where the section has the bytes of units.
-    fn mark_both(&mut self, kind: SectionKind, first: Option<Placed>, second: Placed) {
-        if let Some(first) = first {
-            if has_units(kind) && is_same(first, second) {
-                for entry in &[first.entry, second.entry] {
-                    if let Some(has_twin) = self.twins.get_mut(*entry) {
-                        *has_twin = true;
-                    }
-                }
-            }
-        }
     }
 
     /// Marks each range of the units that are found in the row of their entry that another of these
