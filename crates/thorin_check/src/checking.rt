@@ -7,7 +7,7 @@ ghost use Rattle.thorin_check.specs.Sound.{executables_of};
 ghost use Rattle.thorin_find.specs.Listing.{AreByRow};
 ghost use Rattle.thorin_check.specs.Telling.{so_far, TellsOr};
 
-use crate::executables::{ExecutableSet, Reading, check_executables};
+use crate::executables::{ExecutableSet, Naming, Reading, check_executable};
 use crate::faults::{Faults, put_totals};
 use crate::tables::check_tables;
 use crate::units::check_units;
@@ -95,7 +95,9 @@ fn check_indexed<F: FileReader, O: Write>(
     }
 }
 
-/// Checks the units, the sections that units need, the rows and the executables.
+/// Checks the units, the sections that units need and the rows, and that each split unit which the
+/// executables name is in the package.
+#[tactic(auto, using(crate::proofs::Told::none_told))]
 fn check_all<F: FileReader, O: Write>(
     alloc: Global,
     files: &F,
@@ -112,7 +114,14 @@ fn check_all<F: FileReader, O: Write>(
 {
     check_units(indexed, faults, out)?;
     check_tables(indexed, faults, out)?;
-    check_executables(alloc, files, indexed.pack, named, faults, out)
+    for i in 0..named.executables.len() {
+        let naming = Naming {
+            pack: indexed.pack,
+            executable: named.executables[i],
+        };
+        check_executable(alloc, files, naming, named.reading, faults, out)?;
+    }
+    Ok(())
 }
 
 /// Prints what waits and how many units and faults there are. Answers the status.

@@ -4,8 +4,7 @@ ghost use Rattle.std.specs.Prelude.{◌≡◌, ◌≢◌, ◌<◌, ◌≤◌, �
 ghost use Rattle.std.specs.Prelude.{string_bytes};
 ghost use Rattle.dwp_index.specs.Package.{found};
 ghost use Rattle.thorin_errors.specs.declared.error.Error.TheVariants.{Memory};
-ghost use Rattle.thorin_check.specs.Checking.{IsOfChecking, IsOfReading, TellsExecutables};
-ghost use Rattle.thorin_check.specs.Checking.{TellsExecutable};
+ghost use Rattle.thorin_check.specs.Checking.{IsOfReading, TellsExecutable};
 ghost use Rattle.thorin_check.specs.Faults.{TellsNamed, missing_text, missing_faults, IsBroken};
 ghost use Rattle.thorin_check.specs.Faults.{longest_path, long_size};
 ghost use Rattle.thorin_check.specs.Rendering.{of_executable};
@@ -51,41 +50,16 @@ pub(crate) struct ExecutableSet<'m, 'a> {
 
 /// An executable whose units are to be in a package.
 #[derive(Clone, Copy)]
-struct Naming<'m, 'a> {
+pub(crate) struct Naming<'m, 'a> {
     /// The package.
-    pack: &'m PackageFile<'a>,
+    pub pack: &'m PackageFile<'a>,
     /// The executable's path.
-    executable: &'m str,
-}
-
-/// Each split unit that executables name is in the package.
-#[tactic(auto, using(crate::proofs::Told::none_told, crate::proofs::Told::told_all))]
-pub(crate) fn check_executables<F: FileReader, O: Write>(
-    alloc: Global,
-    files: &F,
-    pack: &PackageFile<'_>,
-    named: ExecutableSet<'_, '_>,
-    faults: &mut Faults,
-    out: &mut O,
-) -> Result<(), Failure>
-    ensures { TellsOr (IsOfChecking (F.offer files.now) named.entry.executables.now)
-        (TellsExecutables (F.offer files.now) named.entry.reading pack.now
-        named.entry.executables.now)
-        (so_far (O.contents out.old) faults.old) (so_far (O.contents out.new) faults.new) result }
-{
-    for i in 0..named.executables.len() {
-        let naming = Naming {
-            pack,
-            executable: named.executables[i],
-        };
-        check_executable(alloc, files, naming, named.reading, faults, out)?;
-    }
-    Ok(())
+    pub executable: &'m str,
 }
 
 /// Each split unit that an executable names is in the package, and it names one.
 #[tactic(auto, using(crate::proofs::Checked::executable_read, crate::proofs::Checked::executable_unread))]
-fn check_executable<F: FileReader, O: Write>(
+pub(crate) fn check_executable<F: FileReader, O: Write>(
     alloc: Global,
     files: &F,
     naming: Naming<'_, '_>,

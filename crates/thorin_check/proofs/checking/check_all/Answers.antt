@@ -1,6 +1,6 @@
 use Rattle.std.proofs.lemmas.Result.{err_from_is_err_and}
-use Rattle.thorin_check.proofs.Checked.{of_printing}
-use Rattle.thorin_check.proofs.Told.{in_turn_or, stopped_behind}
+use Rattle.thorin_check.proofs.Checked.{of_printing, reading_one}
+use Rattle.thorin_check.proofs.Told.{in_turn, stopped_behind, told_all, told_next, told_then}
 use Rattle.thorin_check.proofs.checking.check_all.Goals as goal
 
 pub returns-in_err-check_units : goal.returns-in_err-check_units
@@ -17,8 +17,24 @@ returns-in_err-check_tables g c =
     rw (p.1, p.2) (stopped_behind _ c.in_ok-check_units.ensures
     (of_printing (g.F.FileReader.offer c.args.files.now) _ _ stops.0, stops.1))
 
+pub loop-i-preserved : goal.loop-i-preserved
+loop-i-preserved g c =
+    told_next _ _ c.loop-i.i _ c.loop-i-test.true c.loop-i.invariant
+    c.in_ok-check_executable.ensures
+
+pub returns-in_err-check_executable : goal.returns-in_err-check_executable
+returns-in_err-check_executable g c =
+    let exit = c.from_residual-in_err-check_executable in
+    let p = err_from_is_err_and exit.result exit.ensures.1 in
+    let stops = c.in_err-check_executable.ensures in
+    let fails = reading_one (g.F.FileReader.offer c.args.files.now) _ c.loop-i.i _ _
+    c.loop-i-test.true stops.0 in
+    rw (p.1, p.2) (stopped_behind _ c.in_ok-check_units.ensures
+    (stopped_behind _ c.in_ok-check_tables.ensures
+    (stopped_behind _ c.loop-i.invariant (fails, stops.1))))
+
 pub returns : goal.returns
 returns g c =
-    let result = c.check_executables.result in
-    in_turn_or _ _ _ _ _ _ result c.in_ok-check_units.ensures
-    (in_turn_or _ _ _ _ _ _ result c.in_ok-check_tables.ensures c.check_executables.ensures)
+    told_then in_turn c.in_ok-check_units.ensures
+    (told_then in_turn c.in_ok-check_tables.ensures
+    (told_all _ c.args.named.executables.now c.loop-i.i c.loop-i-test.false c.loop-i.invariant))

@@ -1,12 +1,12 @@
 use Rattle.std.proofs.Common.{take}
 use Rattle.thorin_check.specs.Checking.{TellsExecutables}
 use Rattle.thorin_check.specs.Telling.{so_far, Told}
-use Rattle.thorin_check.proofs.executables.check_executables.Given as goal
+use Rattle.thorin_check.proofs.checking.check_all.Given as goal
 
 -- the faults of the executables so far
 abbrev pub invariant-loop-i : goal.invariant-loop-i
 invariant-loop-i g l = Told
-    (TellsExecutables (g.F.FileReader.offer l.files) l.named.reading l.pack
+    (TellsExecutables (g.F.FileReader.offer l.files) l.named.reading l.indexed.pack.now
     (take l.i l.named.executables.now))
     (so_far (g.O.Write.contents l.initial.out) l.initial.faults)
     (so_far (g.O.Write.contents l.out) l.faults)
