@@ -2,9 +2,7 @@
 //! same bytes of units, and their rows have other abbreviations.
 
 ghost use Rattle.std.specs.Prelude.{◌≡◌, ◌+◌, ◌-◌, ◌^◌, min, true, false, IfOk};
-ghost use Rattle.std.specs.Prelude.{OnOk};
 ghost use Rattle.std.specs.List.{AllPairs};
-ghost use Rattle.std.specs.List.Sorted.{IsPermutation};
 ghost use Rattle.dwp_table.specs.Columns.{contribution_kinds};
 ghost use Rattle.thorin_check.specs.Apart.{IsApart, IsLast, HasRanges, AreApart};
 ghost use Rattle.thorin_check.specs.Overlaps.{slot_range};
@@ -205,7 +203,8 @@ impl Overlaps {
     }
 }
 
-/// The ranges that the rows which these entries name have of a section, sorted by their places.
+/// The ranges that the rows which these entries name have of a section, sorted by their places: they
+/// mostly are in the order of rows.
 fn sorted_ranges(
     alloc: Global,
     pack: &PackageFile<'_>,
@@ -229,7 +228,13 @@ fn sorted_ranges(
             })?;
         }
     }
-    sort(&mut ranges)?;
+    let is_sorted = ranges.as_slice().is_sorted_by(|first, second| {
+        first.offset < second.offset || (first.offset == second.offset && first.size <= second.size)
+    });
+    if is_sorted {
+        return Ok(ranges);
+    }
+    ranges.sort_by_key(|range| (range.offset, range.size))?;
     Ok(ranges)
 }
 
@@ -245,19 +250,6 @@ fn slot_range(pack: &PackageFile<'_>, slot: UnitEntry, kind: SectionKind) -> Opt
         Ok(row) => row.range(kind),
         Err(_) => None,
     }
-}
-
-/// Sorts ranges by their places, unless they are sorted, as mostly in the order of rows.
-fn sort(ranges: &mut Vec<Placed>) -> Result<(), AllocError>
-    ensures { OnOk result (IsPermutation ranges.old.items ranges.new.items) }
-{
-    let is_sorted = ranges.as_slice().is_sorted_by(|first, second| {
-        first.offset < second.offset || (first.offset == second.offset && first.size <= second.size)
-    });
-    if is_sorted {
-        return Ok(());
-    }
-    ranges.sort_by_key(|range| (range.offset, range.size))
 }
 
 /// Whether two ranges are the same.
