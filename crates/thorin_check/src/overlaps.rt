@@ -246,10 +246,7 @@ fn slot_range(pack: &PackageFile<'_>, slot: UnitEntry, kind: SectionKind) -> Opt
         DwarfObject::Compilation(_) => pack.compilation_index()?,
         DwarfObject::TypeUnit(_) => pack.type_index()?,
     };
-    match index.row(slot.row) {
-        Ok(row) => row.range(kind),
-        Err(_) => None,
-    }
+    index.row(slot.row).ok()?.range(kind)
 }
 
 /// Whether two ranges are the same.
