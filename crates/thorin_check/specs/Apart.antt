@@ -1,7 +1,8 @@
 -- Ranges of a section that don't overlap, unless they are the same; and the same bytes of a unit
 -- are read by the same abbreviations.
 use Rattle.std.specs.Prelude.{◌≡◌, true, false, List, Some, ◌⊎◌, ◌+◌, ◌≤◌, Option, None}
-use Rattle.std.specs.Prelude.{if◌then◌else◌}
+use Rattle.std.specs.Prelude.{if◌then◌else◌, Bool}
+use Rattle.dwp_table.specs.Columns.{contribution_kinds}
 use Rattle.std.specs.List.{All, Contains}
 use Rattle.dwp_base.specs.declared.section.Contribution.{Contribution}
 use Rattle.dwp_base.specs.declared.section.SectionKind.{SectionKind}
@@ -28,6 +29,10 @@ AreApartIn pack slots kind = (a b : UnitEntry) → Contains slots a → Contains
 -- the same of each of these sections
 abbrev pub AreApart : Package → List UnitEntry → List SectionKind → Type 0
 AreApart pack slots kinds = All (AreApartIn pack slots) kinds
+
+-- the same of all sections, or some ranges clash
+abbrev pub AreApartOr : (clash : Bool) → Package → List UnitEntry → Type 0
+AreApartOr clash pack slots = clash ≡ false → AreApart pack slots contribution_kinds
 
 -- ---- ranges of a section in the order of their places
 

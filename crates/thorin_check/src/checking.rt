@@ -1,6 +1,7 @@
 //! `thorin check`.
 
 ghost use Rattle.std.specs.Prelude.{string_bytes};
+ghost use Rattle.thorin_check.specs.Apart.{AreApartOr};
 ghost use Rattle.thorin_check.specs.Checking.{TellsPackage, IsOfChecking, Finishes, ChecksIndexed};
 ghost use Rattle.thorin_check.specs.Checking.{Checks};
 ghost use Rattle.thorin_check.specs.Sound.{executables_of};
@@ -9,6 +10,7 @@ ghost use Rattle.thorin_check.specs.Telling.{so_far, TellsOr};
 
 use crate::executables::{ExecutableSet, Naming, Reading, check_executable};
 use crate::faults::{Faults, put_totals};
+use crate::overlaps::Overlaps;
 use crate::tables::check_tables;
 use crate::units::check_units;
 use dwp_index::{PackageFile, UnitEntry};
@@ -48,9 +50,12 @@ pub fn check_by<F: FileReader, O: Write>(
         return Err(Failure::NoIndex);
     }
     let entries = entries_by_row(alloc, &pack)?;
+    let entries = entries.as_slice();
+    let overlaps = Overlaps::find(alloc, &pack, entries)?;
     let indexed = IndexedPackage {
         pack: &pack,
-        entries: entries.as_slice(),
+        entries,
+        overlaps: &overlaps,
     };
     let named = ExecutableSet {
         executables,
@@ -66,6 +71,8 @@ pub(crate) struct IndexedPackage<'m, 'a> {
     pub pack: &'m PackageFile<'a>,
     /// The units that its slots name, by row.
     pub entries: &'m [UnitEntry],
+    /// What their ranges have in common.
+    pub overlaps: &'m Overlaps,
 }
 
 /// Checks a package for what its slots name, and prints all of it. Answers the status. Where it
@@ -77,7 +84,8 @@ fn check_indexed<F: FileReader, O: Write>(
     named: ExecutableSet<'_, '_>,
     out: &mut O,
 ) -> Result<u8, Failure>
-    requires { AreByRow indexed.pack.now indexed.entries.now }
+    requires by_row { AreByRow indexed.pack.now indexed.entries.now }
+    requires apart { AreApartOr indexed.overlaps.now.clash indexed.pack.now indexed.entries.now }
     ensures { ChecksIndexed (F.offer files.now) (executables_of named.entry)
         indexed.entry.pack.now (O.contents out.old) (O.contents out.new) result }
 {
@@ -106,7 +114,8 @@ fn check_all<F: FileReader, O: Write>(
     faults: &mut Faults,
     out: &mut O,
 ) -> Result<(), Failure>
-    requires { AreByRow indexed.pack.now indexed.entries.now }
+    requires by_row { AreByRow indexed.pack.now indexed.entries.now }
+    requires apart { AreApartOr indexed.overlaps.now.clash indexed.pack.now indexed.entries.now }
     ensures { TellsOr (IsOfChecking (F.offer files.now) named.entry.executables.now)
         (TellsPackage (F.offer files.now) (executables_of named.entry) indexed.entry.pack.now
         indexed.entry.entries.now)

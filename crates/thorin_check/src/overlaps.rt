@@ -3,8 +3,7 @@
 
 ghost use Rattle.std.specs.Prelude.{◌≡◌, ◌+◌, ◌-◌, ◌^◌, min, true, false, IfOk};
 ghost use Rattle.std.specs.List.{AllPairs};
-ghost use Rattle.dwp_table.specs.Columns.{contribution_kinds};
-ghost use Rattle.thorin_check.specs.Apart.{IsApart, IsLast, HasRanges, AreApart};
+ghost use Rattle.thorin_check.specs.Apart.{IsApart, IsLast, HasRanges, AreApartOr};
 ghost use Rattle.thorin_check.specs.Overlaps.{slot_range};
 
 use crate::units::{has_units, is_same as is_same_range};
@@ -56,8 +55,7 @@ impl Overlaps {
         pack: &PackageFile<'_>,
         entries: &[UnitEntry],
     ) -> Result<Overlaps, AllocError>
-        ensures { IfOk result (λ overlaps. overlaps.clash ≡ false
-            → AreApart pack.now entries.now contribution_kinds) }
+        ensures { IfOk result (λ overlaps. AreApartOr overlaps.clash pack.now entries.now) }
     {
         let mut overlaps = Overlaps {
             twins: Vec::from_elem(alloc, false, entries.len())?,
@@ -203,8 +201,8 @@ impl Overlaps {
     }
 }
 
-/// The ranges that the rows which these entries name have of a section, sorted by their places: they
-/// mostly are in the order of rows.
+/// The ranges that the rows which these entries name have of a section, sorted by their places, as
+/// they mostly are in the order of rows.
 fn sorted_ranges(
     alloc: Global,
     pack: &PackageFile<'_>,

@@ -3,6 +3,7 @@
 ghost use Rattle.std.specs.Prelude.{◌≡◌, if◌then◌else◌, None, Some, Ok, IfOk, OnOk, string_bytes};
 ghost use Rattle.std.specs.Prelude.{IfSome};
 ghost use Rattle.dwp_index.specs.Package.{found};
+ghost use Rattle.thorin_check.specs.Apart.{AreApartOr};
 ghost use Rattle.thorin_check.specs.Checking.{TellsUnits};
 ghost use Rattle.thorin_check.specs.Faults.{TellsUnit, TellsFound, is_bare};
 ghost use Rattle.thorin_check.specs.Texts.{IsUnreadText, IsTextOf};
@@ -14,7 +15,7 @@ ghost use Rattle.thorin_check.specs.Overlaps.{overlap, overlap_text, same_range,
 use crate::abbreviations::Remembered;
 use crate::checking::IndexedPackage;
 use crate::faults::{Faults, some, tell};
-use crate::overlaps::{Clash, Overlaps, Shares};
+use crate::overlaps::{Clash, Shares};
 use crate::strings::{Ends, UnreadStrings, check_strings};
 use dwp_base::{Contribution, SectionKind};
 use dwp_index::{PackageError, PackageFile, PackagedUnit, UnitEntry};
@@ -42,12 +43,13 @@ pub(crate) fn check_units<O: Write>(
     faults: &mut Faults,
     out: &mut O,
 ) -> Result<(), Failure>
+    requires { AreApartOr indexed.overlaps.now.clash indexed.pack.now indexed.entries.now }
     ensures { Tells (TellsUnits indexed.entry.pack.now indexed.entry.entries.now)
         (so_far (O.contents out.old) faults.old) (so_far (O.contents out.new) faults.new) result }
 {
     let alloc = *faults.waiting.allocator();
     let pack = indexed.pack;
-    let overlaps = Overlaps::find(alloc, pack, indexed.entries)?;
+    let overlaps = indexed.overlaps;
     let ends = Ends::of(pack);
     let size = pack.content(SectionKind::StrOffsets).len() as u64;
     let mut seen = Seen {
@@ -94,9 +96,9 @@ fn text_of<'a>(
 }
 
 /// What is told of the unit that is found under the identifier of a slot, if anything: it is to be
-/// that of the slot's row, and this row is to have abbreviations where the package has some; none of
-/// its ranges is to clash with that of another, and its own identifier is to be that of the slot.
-/// Then the unit is gathered for the check of its strings.
+/// that of the slot's row, which is to have abbreviations where the package has some; none of its
+/// ranges is to clash with that of another, and its own identifier is to be that of the slot. Then
+/// the unit is gathered for the check of its strings.
 #[tactic(auto, using(crate::proofs::Told::other_row, crate::proofs::Told::in_bare_row, crate::proofs::Told::in_whole_row, crate::proofs::Told::made, crate::proofs::Told::clashed, crate::proofs::Told::of_its_own, crate::proofs::Distinct::stays_seen))]
 fn text_of_found<'a>(
     pack: &PackageFile<'a>,

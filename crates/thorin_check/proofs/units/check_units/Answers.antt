@@ -15,14 +15,13 @@ loop-i-preserved g c =
 
 pub returns-in_err-tell : goal.returns-in_err-tell
 returns-in_err-tell g c =
-    let exit = c.from_residual-in_err-tell in
-    let p = err_from_is_err_and exit.result exit.ensures.1 in
+    let p = err_from_is_err_and c.from_residual.result c.from_residual.ensures.1 in
     rw (p.1, p.2) (text_stopped _ _ _ _ c.loop-i.invariant.told c.in_err-tell.ensures)
 
 pub returns : goal.returns
 returns g c =
     then_or _ _ _ _ _ _ _ (units_then _ _ _) c.check_strings.result
-    (units_apart _ _ _ _ c.in_ok-overlaps.ensures c.if-overlaps-faults.false
+    (units_apart _ _ _ _ c.requires c.if-overlaps-faults.false
     (told_all _ c.args.indexed.entries.now c.loop-i.i c.loop-i-test.false
     c.loop-i.invariant.told))
     c.check_strings.ensures
