@@ -90,14 +90,22 @@ pub(crate) struct Remembered<'a> {
 }
 
 impl<'a> Remembered<'a> {
-    /// Of a package. Nothing is read yet.
+    /// Of a package. Nothing is read yet, and no memory is taken.
     pub(crate) fn new(alloc: Global, pack: &PackageFile<'a>) -> Remembered<'a>
         ensures { Knows pack.now result }
     {
-        let abbreviations = pack.content(SectionKind::Abbrev);
+        let order = pack.order();
         Remembered {
             alloc,
-            tables: TablesByTurns::new(alloc, abbreviations, pack.order()),
+            tables: TablesByTurns {
+                alloc,
+                order,
+                first: RangeTables::new(alloc, pack.content(SectionKind::Abbrev), order),
+                again: Vec::new(alloc),
+                places: BTreeMap::new(alloc),
+                last: [0, 0],
+                place: None,
+            },
             shared: BTreeMap::new(alloc),
         }
     }
@@ -250,21 +258,6 @@ impl<'a> Model for TablesByTurns<'a> {
 }
 
 impl<'a> TablesByTurns<'a> {
-    /// Those of a section. Nothing is read yet, and no memory is taken.
-    pub(crate) fn new(alloc: Global, bytes: &'a [u8], order: Endianness) -> TablesByTurns<'a>
-        ensures { result ≡ (order, bytes.now) }
-    {
-        TablesByTurns {
-            alloc,
-            order,
-            first: RangeTables::new(alloc, bytes, order),
-            again: Vec::new(alloc),
-            places: BTreeMap::new(alloc),
-            last: [0, 0],
-            place: None,
-        }
-    }
-
     /// What `RangeTables` says of a unit whose abbreviations stand in the section from the byte
     /// `start` up to the byte `end`. Where a unit's identifier stands behind them it goes on with
     /// the tables of this range, or for want of memory with those of the ranges used first.
