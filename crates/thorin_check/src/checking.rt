@@ -8,7 +8,7 @@ ghost use Rattle.thorin_check.specs.Sound.{executables_of};
 ghost use Rattle.thorin_find.specs.Listing.{AreByRow};
 ghost use Rattle.thorin_check.specs.Telling.{so_far, TellsOr};
 
-use crate::executables::{ExecutableSet, Naming, Reading, check_executable};
+use crate::executables::{ExecutableSet, Reading, check_executable};
 use crate::faults::{Faults, put_totals};
 use crate::overlaps::Overlaps;
 use crate::tables::check_tables;
@@ -124,11 +124,8 @@ fn check_all<F: FileReader, O: Write>(
     check_units(indexed, faults, out)?;
     check_tables(indexed, faults, out)?;
     for i in 0..named.executables.len() {
-        let naming = Naming {
-            pack: indexed.pack,
-            executable: named.executables[i],
-        };
-        check_executable(alloc, files, naming, named.reading, faults, out)?;
+        let executable = named.executables[i];
+        check_executable(alloc, files, indexed.pack, executable, named.reading, faults, out)?;
     }
     Ok(())
 }

@@ -48,54 +48,45 @@ pub(crate) struct ExecutableSet<'m, 'a> {
     pub reading: Reading,
 }
 
-/// An executable whose units are to be in a package.
-#[derive(Clone, Copy)]
-pub(crate) struct Naming<'m, 'a> {
-    /// The package.
-    pub pack: &'m PackageFile<'a>,
-    /// The executable's path.
-    pub executable: &'m str,
-}
-
 /// Each split unit that an executable names is in the package, and it names one.
 #[tactic(auto, using(crate::proofs::Checked::executable_read, crate::proofs::Checked::executable_unread))]
 pub(crate) fn check_executable<F: FileReader, O: Write>(
     alloc: Global,
     files: &F,
-    naming: Naming<'_, '_>,
+    pack: &PackageFile<'_>,
+    executable: &str,
     reading: Reading,
     faults: &mut Faults,
     out: &mut O,
 ) -> Result<(), Failure>
-    ensures { TellsOr (IsOfReading (F.offer files.now) naming.entry.executable.now)
-        (TellsExecutable (F.offer files.now) reading naming.entry.pack.now
-        naming.entry.executable.now)
+    ensures { TellsOr (IsOfReading (F.offer files.now) executable.now)
+        (TellsExecutable (F.offer files.now) reading pack.now executable.now)
         (so_far (O.contents out.old) faults.old) (so_far (O.contents out.new) faults.new) result }
 {
-    let read = read_named(files, naming.executable)?;
+    let read = read_named(files, executable)?;
     let bytes = read.as_slice();
     let bump = Bump::new(alloc);
     let session = BytesSession::new(&bump);
     match NamedUnits::read_by(alloc, &session, bytes, reading.nameless) {
         Ok(mut units) => {
             let room = bytes.len().max(LEAST_ROOM);
-            check_listed(naming, &mut units, room, faults, out)
+            check_listed(pack, executable, &mut units, room, faults, out)
         }
-        Err(error) => tell_error(naming.executable, &error, faults, out),
+        Err(error) => tell_error(executable, &error, faults, out),
     }
 }
 
 /// Checks the units that an executable names, with room for so many bytes of long paths but the
 /// first; where there is none left for the next, this is told.
 fn check_listed<O: Write>(
-    naming: Naming<'_, '_>,
+    pack: &PackageFile<'_>,
+    executable: &str,
     units: &mut NamedUnits<'_>,
     room: usize,
     faults: &mut Faults,
     out: &mut O,
 ) -> Result<(), Failure>
-    ensures { Tells (TellsNamed naming.entry.pack.now naming.entry.executable.now room
-        units.old.listed)
+    ensures { Tells (TellsNamed pack.now executable.now room units.old.listed)
         (so_far (O.contents out.old) faults.old) (so_far (O.contents out.new) faults.new) result }
 {
     let mut left = room;
@@ -106,18 +97,18 @@ fn check_listed<O: Write>(
                 let path = units.path();
                 if !has_room(&mut left, unit.is_repeated || is_first, path) {
                     let cause = "too many paths past 4095 bytes";
-                    return tell_broken(naming.executable, cause, faults, out);
+                    return tell_broken(executable, cause, faults, out);
                 }
-                check_skeleton(naming, unit.target, path, faults, out)?;
+                check_skeleton(pack, executable, unit.target, path, faults, out)?;
                 is_first = false;
             }
             Ok(None) => {
                 if is_first {
-                    return tell_of(naming.executable, "no split units", faults, out);
+                    return tell_of(executable, "no split units", faults, out);
                 }
                 return Ok(());
             }
-            Err(error) => return tell_error(naming.executable, &error, faults, out),
+            Err(error) => return tell_error(executable, &error, faults, out),
         }
     }
 }
@@ -145,19 +136,19 @@ fn has_room(room: &mut usize, is_free: bool, path: &str) -> bool
 /// with its unit.
 #[tactic(auto, using(crate::proofs::Told::none_told, crate::proofs::Told::made, crate::proofs::Told::text_told, crate::proofs::Checked::missing_none, crate::proofs::Checked::missing_some, crate::proofs::Checked::missing_unread))]
 fn check_skeleton<O: Write>(
-    naming: Naming<'_, '_>,
+    pack: &PackageFile<'_>,
+    executable: &str,
     object: DwarfObject,
     path: &str,
     faults: &mut Faults,
     out: &mut O,
 ) -> Result<(), Failure>
-    ensures { Tells (Is (missing_faults naming.entry.executable.now (object, path.now)
-        (found naming.entry.pack.now object))) (so_far (O.contents out.old) faults.old)
-        (so_far (O.contents out.new) faults.new) result }
+    ensures { Tells (Is (missing_faults executable.now (object, path.now) (found pack.now object)))
+        (so_far (O.contents out.old) faults.old) (so_far (O.contents out.new) faults.new) result }
 {
-    match naming.pack.find(object) {
+    match pack.find(object) {
         Ok(None) => {
-            let text = missing_text(*faults.waiting.allocator(), naming.executable, path);
+            let text = missing_text(*faults.waiting.allocator(), executable, path);
             tell(object, some(text), faults, out)
         }
         Ok(Some(_)) => Ok(()),

@@ -8,7 +8,7 @@ pub returns-in_err-read : goal.returns-in_err-read
 returns-in_err-read g c =
     let p = err_from_is_err_and c.from_residual.result c.from_residual.ensures.1 in
     rw (p.1, p.2) (executable_unread (g.F.FileReader.offer c.args.files.now)
-    c.args.naming.executable.now _ _ c.in_err-read.ensures.refused)
+    c.args.executable.now _ _ c.in_err-read.ensures.refused)
 
 pub returns-in-Ok : goal.returns-in-Ok
 returns-in-Ok g c =
