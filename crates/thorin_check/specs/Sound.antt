@@ -18,17 +18,12 @@ use Rattle.thorin_check.specs.Own.{own_of}
 use Rattle.thorin_check.specs.declared.executables.Reading.{Reading}
 use Rattle.thorin_find.specs.Files.{Offer}
 use Rattle.std.specs.Borrow.{Bor}
-use Rattle.thorin_check.specs.declared.executables.ExecutableSet.{ExecutableSet}
 
 -- the executables whose units a package is to have: their paths, and how they are read; and how
 -- faults are printed
 pub record Executables : Type 0 where
   pub paths : List (Bor (List ℕ))
   pub reading : Reading
-
--- those at hand
-abbrev pub executables_of : ExecutableSet → Executables
-executables_of named = record { paths = named.executables.now; reading = named.reading }
 
 -- the used slots of both indexes, each with the unit and the row that it names (DWARF 5, 7.3.5.3)
 abbrev pub slots : Package → List UnitEntry

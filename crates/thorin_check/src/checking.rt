@@ -4,11 +4,10 @@ ghost use Rattle.std.specs.Prelude.{string_bytes};
 ghost use Rattle.thorin_check.specs.Apart.{AreApartOr};
 ghost use Rattle.thorin_check.specs.Checking.{TellsPackage, IsOfChecking, Finishes, ChecksIndexed};
 ghost use Rattle.thorin_check.specs.Checking.{Checks};
-ghost use Rattle.thorin_check.specs.Sound.{executables_of};
 ghost use Rattle.thorin_find.specs.Listing.{AreByRow};
 ghost use Rattle.thorin_check.specs.Telling.{so_far, TellsOr};
 
-use crate::executables::{ExecutableSet, Reading, check_executable};
+use crate::executables::{Reading, check_executable};
 use crate::faults::{Faults, put_totals};
 use crate::overlaps::Overlaps;
 use crate::tables::check_tables;
@@ -57,11 +56,7 @@ pub fn check_by<F: FileReader, O: Write>(
         entries,
         overlaps: &overlaps,
     };
-    let named = ExecutableSet {
-        executables,
-        reading,
-    };
-    check_indexed(alloc, files, indexed, named, out)
+    check_indexed(alloc, files, indexed, executables, reading, out)
 }
 
 /// A package that is checked.
@@ -81,20 +76,22 @@ fn check_indexed<F: FileReader, O: Write>(
     alloc: Global,
     files: &F,
     indexed: IndexedPackage<'_, '_>,
-    named: ExecutableSet<'_, '_>,
+    executables: &[&str],
+    reading: Reading,
     out: &mut O,
 ) -> Result<u8, Failure>
     requires by_row { AreByRow indexed.pack.now indexed.entries.now }
     requires apart { AreApartOr indexed.overlaps.now.clash indexed.pack.now indexed.entries.now }
-    ensures { ChecksIndexed (F.offer files.now) (executables_of named.entry)
-        indexed.entry.pack.now (O.contents out.old) (O.contents out.new) result }
+    ensures { ChecksIndexed (F.offer files.now)
+        (record { paths = executables.now; reading = reading }) indexed.entry.pack.now
+        (O.contents out.old) (O.contents out.new) result }
 {
     let mut faults = Faults {
-        form: named.reading.form,
+        form: reading.form,
         waiting: String::new(alloc),
         count: 0,
     };
-    match check_all(alloc, files, indexed, named, &mut faults, out) {
+    match check_all(alloc, files, indexed, executables, reading, &mut faults, out) {
         Ok(()) => finish(indexed.entries.len(), &mut faults, out),
         Err(failure) => {
             let _ = print(faults.waiting.as_str(), out);
@@ -110,22 +107,22 @@ fn check_all<F: FileReader, O: Write>(
     alloc: Global,
     files: &F,
     indexed: IndexedPackage<'_, '_>,
-    named: ExecutableSet<'_, '_>,
+    executables: &[&str],
+    reading: Reading,
     faults: &mut Faults,
     out: &mut O,
 ) -> Result<(), Failure>
     requires by_row { AreByRow indexed.pack.now indexed.entries.now }
     requires apart { AreApartOr indexed.overlaps.now.clash indexed.pack.now indexed.entries.now }
-    ensures { TellsOr (IsOfChecking (F.offer files.now) named.entry.executables.now)
-        (TellsPackage (F.offer files.now) (executables_of named.entry) indexed.entry.pack.now
-        indexed.entry.entries.now)
+    ensures { TellsOr (IsOfChecking (F.offer files.now) executables.now)
+        (TellsPackage (F.offer files.now) (record { paths = executables.now; reading = reading })
+        indexed.entry.pack.now indexed.entry.entries.now)
         (so_far (O.contents out.old) faults.old) (so_far (O.contents out.new) faults.new) result }
 {
     check_units(indexed, faults, out)?;
     check_tables(indexed, faults, out)?;
-    for i in 0..named.executables.len() {
-        let executable = named.executables[i];
-        check_executable(alloc, files, indexed.pack, executable, named.reading, faults, out)?;
+    for i in 0..executables.len() {
+        check_executable(alloc, files, indexed.pack, executables[i], reading, faults, out)?;
     }
     Ok(())
 }

@@ -39,15 +39,6 @@ pub struct Reading {
     pub nameless: NamelessUnits,
 }
 
-/// The executables whose units are to be in a package.
-#[derive(Clone, Copy)]
-pub(crate) struct ExecutableSet<'m, 'a> {
-    /// Their paths.
-    pub executables: &'m [&'a str],
-    /// How they are read.
-    pub reading: Reading,
-}
-
 /// Each split unit that an executable names is in the package, and it names one.
 #[tactic(auto, using(crate::proofs::Checked::executable_read, crate::proofs::Checked::executable_unread))]
 pub(crate) fn check_executable<F: FileReader, O: Write>(

@@ -37,4 +37,4 @@ pub returns : goal.returns
 returns g c =
     told_then in_turn c.in_ok-check_units.ensures
     (told_then in_turn c.in_ok-check_tables.ensures
-    (told_all _ c.args.named.executables.now c.loop-i.i c.loop-i-test.false c.loop-i.invariant))
+    (told_all _ c.args.executables.now c.loop-i.i c.loop-i-test.false c.loop-i.invariant))

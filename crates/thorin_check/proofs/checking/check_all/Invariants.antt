@@ -6,7 +6,7 @@ use Rattle.thorin_check.proofs.checking.check_all.Given as goal
 -- the faults of the executables so far
 abbrev pub invariant-loop-i : goal.invariant-loop-i
 invariant-loop-i g l = Told
-    (TellsExecutables (g.F.FileReader.offer l.files) l.named.reading l.indexed.pack.now
-    (take l.i l.named.executables.now))
+    (TellsExecutables (g.F.FileReader.offer l.files) l.reading l.indexed.pack.now
+    (take l.i l.executables))
     (so_far (g.O.Write.contents l.initial.out) l.initial.faults)
     (so_far (g.O.Write.contents l.out) l.faults)

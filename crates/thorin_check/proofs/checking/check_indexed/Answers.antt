@@ -1,13 +1,12 @@
 use Rattle.std.proofs.Common.{refl}
-use Rattle.thorin_check.specs.Sound.{executables_of}
 use Rattle.thorin_check.proofs.Checked.{checked, printed_some}
 use Rattle.thorin_print.proofs.Printed.{grown}
 use Rattle.thorin_check.proofs.checking.check_indexed.Goals as goal
 
 pub returns-in-Ok : goal.returns-in-Ok
 returns-in-Ok g c =
-    checked (g.F.FileReader.offer c.args.files.now) (executables_of c.args.named) _
-    c.args.indexed.entries.now _ _ _ c.finish.result c.requires.by_row refl c.new.ensures.bytes refl
+    checked (g.F.FileReader.offer c.args.files.now) 
+    (record { paths = c.args.executables.now; reading = c.args.reading }) _ c.args.indexed.entries.now _ _ _ c.finish.result c.requires.by_row refl c.new.ensures.bytes refl
     c.in-Ok.ensures c.finish.ensures
 
 pub returns : goal.returns
