@@ -9,7 +9,6 @@ decreases-loop-unit g l = length l.units.listed.0
 -- what was told so far, and what is left to tell
 abbrev pub invariant-loop-unit : goal.invariant-loop-unit
 invariant-loop-unit g l = Told
-    (GoesOn l.pack l.executable l.room l.initial.units.listed l.is_first
-    l.left l.units.listed)
+    (GoesOn l.pack l.executable l.room l.initial.units.listed l.is_first l.left l.units.listed)
     (so_far (g.O.Write.contents l.initial.out) l.initial.faults)
     (so_far (g.O.Write.contents l.out) l.faults)
