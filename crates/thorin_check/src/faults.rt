@@ -50,10 +50,7 @@ pub(crate) fn tell_fault<O: Write>(
     printed
 }
 
-/// Tells a fault of a unit, where there is one: then it has a text.
-///
-/// # Errors
-/// `Memory` where there was none for the text, and those of `tell_fault`.
+/// Tells a fault of a unit, where there is one: then it has a text, unless memory ran out.
 pub(crate) fn tell<O: Write>(
     object: DwarfObject,
     text: Result<Option<String>, AllocError>,
@@ -69,10 +66,7 @@ pub(crate) fn tell<O: Write>(
     }
 }
 
-/// Tells a fault of a package apart from a unit.
-///
-/// # Errors
-/// Those of `tell`.
+/// The same of a package, apart from a unit.
 pub(crate) fn tell_of_package<O: Write>(
     text: Result<String, AllocError>,
     faults: &mut Faults,
