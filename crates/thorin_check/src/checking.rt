@@ -91,7 +91,7 @@ fn check_indexed<F: FileReader, O: Write>(
         waiting: String::new(alloc),
         count: 0,
     };
-    match check_all(alloc, files, indexed, executables, reading, &mut faults, out) {
+    match check_all(files, indexed, executables, reading, &mut faults, out) {
         Ok(()) => finish(indexed.entries.len(), &mut faults, out),
         Err(failure) => {
             let _ = print(faults.waiting.as_str(), out);
@@ -104,7 +104,6 @@ fn check_indexed<F: FileReader, O: Write>(
 /// executables name is in the package.
 #[tactic(auto, using(crate::proofs::Told::none_told))]
 fn check_all<F: FileReader, O: Write>(
-    alloc: Global,
     files: &F,
     indexed: IndexedPackage<'_, '_>,
     executables: &[&str],
@@ -122,7 +121,7 @@ fn check_all<F: FileReader, O: Write>(
     check_units(indexed, faults, out)?;
     check_tables(indexed, faults, out)?;
     for i in 0..executables.len() {
-        check_executable(alloc, files, indexed.pack, executables[i], reading, faults, out)?;
+        check_executable(files, indexed.pack, executables[i], reading, faults, out)?;
     }
     Ok(())
 }

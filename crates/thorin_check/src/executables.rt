@@ -42,7 +42,6 @@ pub struct Reading {
 /// Each split unit that an executable names is in the package, and it names one.
 #[tactic(auto, using(crate::proofs::Checked::executable_read, crate::proofs::Checked::executable_unread))]
 pub(crate) fn check_executable<F: FileReader, O: Write>(
-    alloc: Global,
     files: &F,
     pack: &PackageFile<'_>,
     executable: &str,
@@ -56,6 +55,7 @@ pub(crate) fn check_executable<F: FileReader, O: Write>(
 {
     let read = read_named(files, executable)?;
     let bytes = read.as_slice();
+    let alloc = *faults.waiting.allocator();
     let bump = Bump::new(alloc);
     let session = BytesSession::new(&bump);
     match NamedUnits::read_by(alloc, &session, bytes, reading.nameless) {
