@@ -1,10 +1,7 @@
-use Rattle.std.proofs.Common.{◌++◌, arith, rules}
+use Rattle.std.proofs.Common.{◌++◌, rules}
 use Rattle.dwp_base.specs.Sections.{name_of}
-use Rattle.thorin_check.proofs.Told.{what_told, none_told}
+use Rattle.thorin_check.proofs.Told.{what_told}
 use Rattle.thorin_check.proofs.tables.check_section.Goals as goal
-
-pub returns-then-not-is_wrong : goal.returns-then-not-is_wrong
-returns-then-not-is_wrong g c = grind (arith, none_told)
 
 pub returns : goal.returns
 returns g c =

@@ -1,4 +1,4 @@
-use Rattle.std.proofs.Common.{arith, rules}
+use Rattle.std.proofs.Common.{arith}
 use Rattle.thorin_check.proofs.SharedStrings.{all_read}
 use Rattle.thorin_check.proofs.strings.Ends.all_end.Goals as goal
 
@@ -8,6 +8,3 @@ returns c = λ yes h i.
     rw (← made.ensures.encoding, ← made.ensures.bytes) (all_read c.args.self _ _ h
     made.result.encoding made.result.offsets.now c.loop-i.i (omega arith)
     (rw made.ensures.order at c.loop-i.invariant) i)
-
-pub loop-i-preserved : goal.loop-i-preserved
-loop-i-preserved c = search rules
