@@ -56,22 +56,17 @@ impl<F: FileReader> FileReader for PlainReader<'_, F> {
 
     fn read(&self, path: &str) -> io::Result<Vec<u8>> {
         let mut bytes = self.files.read(path)?;
-        if !self.decompresses {
+        if self.decompresses {
+            let left = decompress(self.alloc, &mut bytes, false)?;
+            self.compression.set(left);
+        } else {
             self.compression
                 .set(match plain_length(&bytes, Asked::OfUnits) {
                     Ok(None) | Err(DecompressError::Read(_)) => Compression::None,
                     _ => Compression::Left,
                 });
-            self.kind.set(kind_of(&bytes));
-            return Ok(bytes);
         }
-        match decompress(self.alloc, &mut bytes, false) {
-            Ok(left) => {
-                self.compression.set(left);
-                self.kind.set(kind_of(&bytes));
-                Ok(bytes)
-            }
-            Err(_) => Err(io::Error::from(io::ErrorKind::OutOfMemory)),
-        }
+        self.kind.set(kind_of(&bytes));
+        Ok(bytes)
     }
 }
