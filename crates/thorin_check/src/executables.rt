@@ -174,6 +174,7 @@ fn tell_of<O: Write>(
 }
 
 /// Tells why an executable can't be read to its end.
+#[tactic(auto, using(thorin_print::proofs::Printed::none_grown))]
 fn tell_error<O: Write>(
     executable: &str,
     error: &Error,

@@ -91,6 +91,9 @@ impl Overlaps {
         let mut farthest = 0u64;
         let mut before: Option<Placed> = None;
         for range in ranges {
+            let is_twin = is_last(before, *range);
+            clash |= !(is_twin | (farthest <= range.offset) & (farthest < u64::MAX));
+            farthest = farthest.max(end(*range));
             if let Some(first) = before {
                 if has_units(kind) && is_same(first, *range) {
                     for entry in &[first.entry, range.entry] {
@@ -100,9 +103,6 @@ impl Overlaps {
                     }
                 }
             }
-            let is_twin = is_last(before, *range);
-            clash |= !(is_twin | (farthest <= range.offset) & (farthest < u64::MAX));
-            farthest = farthest.max(end(*range));
             before = Some(*range);
         }
         clash
