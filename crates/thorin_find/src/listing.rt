@@ -59,9 +59,7 @@ pub fn list_by<F: FileReader, O: Write>(
     let Ok(package) = PackageFile::parse(bytes.as_slice()) else {
         return Err(Failure::Malformed);
     };
-    let Ok(entries) = entries_by_row(alloc, &package) else {
-        return Err(Failure::Memory);
-    };
+    let entries = entries_by_row(alloc, &package)?;
     let listed = Listed {
         pack: &package,
         file_size: bytes.len(),
