@@ -93,10 +93,8 @@ fn list_entries<O: Write>(
     let mut waiting = String::new(alloc);
     let mut ranges = UnitRanges::new(alloc);
     let is_all = print_lines(listed, entries, &mut ranges, &mut waiting, out)?;
-    match put_rest(listed, is_all, &mut ranges, &mut waiting) {
-        Ok(given) => answer(waiting.as_bytes(), given, out),
-        Err(_) => Err(Failure::Memory),
-    }
+    let given = put_rest(listed, is_all, &mut ranges, &mut waiting)?;
+    answer(waiting.as_bytes(), given, out)
 }
 
 /// Adds what stands behind the lines: totals where sizes are asked for, or columns. Answers what is
