@@ -164,11 +164,10 @@ fn print_lines<O: Write>(
         entries.now).printed (O.contents out.old) (O.contents out.new)) }
 {
     for entry in entries {
-        match put_slot(listed, *entry, ranges, waiting) {
-            Ok(true) => print_much(waiting, out)?,
-            Ok(false) => return Ok(false),
-            Err(_) => return Err(Failure::Memory),
+        if !put_slot(listed, *entry, ranges, waiting)? {
+            return Ok(false);
         }
+        print_much(waiting, out)?;
     }
     Ok(true)
 }

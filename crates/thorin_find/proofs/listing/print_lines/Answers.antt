@@ -5,15 +5,16 @@ use Rattle.thorin_print.proofs.Lines.{drop_next}
 use Rattle.thorin_find.proofs.Walk.{begun, begun_next}
 use Rattle.thorin_find.proofs.listing.print_lines.Goals as goal
 
-pub returns-in-Err-clause-part : goal.returns-in-Err-clause-part
-returns-in-Err-clause-part g c = begun _ _ _ _ failures.Memory _ _ _ tt c.loop-entry.invariant
-
-pub returns-in_err-print_much-in-Ok-true-clause-part :
-    goal.returns-in_err-print_much-in-Ok-true-clause-part
-returns-in_err-print_much-in-Ok-true-clause-part g c =
-    let i = c.loop-entry.entry-index in
+pub returns-in_err-put_slot-clause-part : goal.returns-in_err-put_slot-clause-part
+returns-in_err-put_slot-clause-part g c =
     let p = err_from_is_err_and c.from_residual.result c.from_residual.ensures.1 in
+    rw (p.1, p.2) (begun _ _ _ _ failures.Memory _ _ _ tt c.loop-entry.invariant)
+
+pub returns-in_err-print_much-clause-part : goal.returns-in_err-print_much-clause-part
+returns-in_err-print_much-clause-part g c =
+    let i = c.loop-entry.entry-index in
+    let exit = c.from_residual-in_err-print_much in
+    let p = err_from_is_err_and exit.result exit.ensures.1 in
     rw (p.1, p.2) (begun_next _ _ _ _ _ (drop (i + 1) c.args.entries.now) _ _ _ _ _
-    (drop_next c.args.entries.now i _ c.loop-entry-test.true) c.in-Ok-true.ensures
-    c.loop-entry.invariant _ _ c.in-Ok-true.field-0-test
-    c.in_err-print_much-in-Ok-true.ensures.part)
+    (drop_next c.args.entries.now i _ c.loop-entry-test.true) c.in_ok-put_slot.ensures
+    c.loop-entry.invariant _ _ c.if-not-put_slot.false c.in_err-print_much.ensures.part)
