@@ -119,10 +119,8 @@ fn find_in<O: Write>(
             return answer(section, Ok(0), out);
         }
     };
-    match put {
-        Ok(()) => answer(text.as_bytes(), Ok(0), out),
-        Err(_) => Err(Failure::Memory),
-    }
+    put?;
+    answer(text.as_bytes(), Ok(0), out)
 }
 
 /// Adds the line of a string.
