@@ -116,30 +116,21 @@ fn put_rest(
         Err(Failure::Malformed)
     };
     if listed.form.columns {
-        put_sheet(listed, is_all, ranges, text)?;
-    } else if is_all && listed.form.sizes {
+        put_unit_rows(ranges, text)?;
+        if is_all {
+            if !ranges.units.is_empty() {
+                text.push_str("\n")?;
+            }
+            let totals = ranges.totals(listed.pack, listed.file_size)?;
+            put_total_rows(totals.as_slice(), text)?;
+        }
+        return Ok(given);
+    }
+    if is_all && listed.form.sizes {
         let totals = ranges.totals(listed.pack, listed.file_size)?;
         put_totals(totals.as_slice(), listed.form.form, text)?;
     }
     Ok(given)
-}
-
-/// Adds the columns of the units that were gathered, and of totals where these are all.
-fn put_sheet(
-    listed: Listed<'_, '_>,
-    is_all: bool,
-    ranges: &mut UnitRanges,
-    text: &mut String,
-) -> Result<(), AllocError> {
-    put_unit_rows(ranges, text)?;
-    if !is_all {
-        return Ok(());
-    }
-    if !ranges.units.is_empty() {
-        text.push_str("\n")?;
-    }
-    let totals = ranges.totals(listed.pack, listed.file_size)?;
-    put_total_rows(totals.as_slice(), text)
 }
 
 /// Prints the lines of units, up to one that can't be looked up: then it answers false. The last
