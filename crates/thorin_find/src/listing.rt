@@ -10,7 +10,7 @@ ghost use Rattle.thorin_find.specs.Listing.{Begins, ListsPackage, Lists};
 
 use crate::files::{FileReader, read_named};
 use crate::finding::{put_json_unit, put_object};
-use crate::names::PackagedStrings;
+use crate::names::names_of;
 use crate::sizes::{UnitRanges, put_total_rows, put_totals, put_unit_rows};
 use dwp_base::{Contribution, SectionKind};
 use dwp_index::{PackageFile, PackagedUnit, UnitEntry};
@@ -297,11 +297,7 @@ fn put_names<'a>(
     ensures { OnOk result (string_bytes text.new ≡ string_bytes text.old
         ++ unit_names (view_of listed.entry.form listed.entry.pack.now) object unit.now) }
 {
-    let strings = PackagedStrings {
-        order: listed.pack.order(),
-        bytes: listed.pack.content(SectionKind::Str),
-    };
-    let (source, name) = strings.names_of(object, unit);
+    let (source, name) = names_of(listed.pack, object, unit);
     let form = listed.form.form;
     match form {
         Form::Lines => {

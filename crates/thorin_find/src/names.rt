@@ -4,6 +4,7 @@ ghost use Rattle.std.specs.Prelude.{◌≡◌, option_map};
 ghost use Rattle.std.specs.Option.{option_copied, option_and_then};
 ghost use Rattle.std.specs.Result.{result_ok};
 ghost use Rattle.dwp_bytes.specs.Input.{front};
+ghost use Rattle.dwp_index.specs.Contents.{content};
 ghost use Rattle.dwp_dwarf.specs.Attributes.{attribute_of, attributes_left, entry_of, root_of};
 ghost use Rattle.dwp_units.specs.Units.{unit_of};
 ghost use Rattle.thorin_find.specs.Names as spec;
@@ -14,7 +15,7 @@ ghost use Rattle.thorin_find.specs.Names.{object_name};
 use dwp_base::{Endianness, SectionKind};
 use dwp_bytes::{ReadError, Reader, SliceReader, StringOffsets, string_at};
 use dwp_dwarf::{Abbreviations, Attribute, Attributes, RootEntry, UnitHeader, UnitHeaders};
-use dwp_index::{PackagedUnit, place_of};
+use dwp_index::{PackageFile, PackagedUnit, place_of};
 use dwp_table::DwarfObject;
 
 const DW_AT_NAME: u64 = 0x03;
@@ -43,63 +44,53 @@ const MOST_READ: usize = 16384;
 /// How many bytes a name is sought in.
 const MOST_NAMED: u64 = 4096;
 
-/// The strings of a package.
-#[derive(Clone, Copy)]
-pub(crate) struct PackagedStrings<'a> {
-    /// The package's byte order.
-    pub order: Endianness,
-    /// `.debug_str.dwo`.
-    pub bytes: &'a [u8],
+/// The names of a unit's source, `DW_AT_name` of its unit DIE, and of its object, `DW_AT_dwo_name` or
+/// `DW_AT_GNU_dwo_name` there.
+#[tactic(auto, unfolding(crate::specs::Names::source_name, crate::specs::Names::object_name))]
+pub(crate) fn names_of<'a>(
+    pack: &PackageFile<'a>,
+    object: DwarfObject,
+    unit: &PackagedUnit<'a>,
+) -> (Option<&'a [u8]>, Option<&'a [u8]>)
+    ensures source { option_copied result.0 ≡ source_name pack.now.order
+        (content pack.now.contents SectionKind.Str) object unit.now }
+    ensures name { option_copied result.1 ≡ object_name pack.now.order
+        (content pack.now.contents SectionKind.Str) object unit.now }
+{
+    match die_of(pack.order(), object, unit) {
+        Some(die) => (
+            string_of(pack, unit, attribute_named(die.attributes, DW_AT_NAME)),
+            string_of(pack, unit, object_in(&die)),
+        ),
+        None => (None, None),
+    }
 }
 
-impl<'a> PackagedStrings<'a> {
-    /// The names of a unit's source, `DW_AT_name` of its unit DIE, and of its object, `DW_AT_dwo_name`
-    /// or `DW_AT_GNU_dwo_name` there.
-    #[tactic(auto, unfolding(crate::specs::Names::source_name, crate::specs::Names::object_name))]
-    pub fn names_of(
-        self,
-        object: DwarfObject,
-        unit: &PackagedUnit<'a>,
-    ) -> (Option<&'a [u8]>, Option<&'a [u8]>)
-        ensures source { option_copied result.0 ≡ source_name self.entry.order
-            self.entry.bytes.now object unit.now }
-        ensures name { option_copied result.1 ≡ object_name self.entry.order
-            self.entry.bytes.now object unit.now }
-    {
-        match die_of(self.order, object, unit) {
-            Some(die) => (
-                self.string_of(unit, attribute_named(die.attributes, DW_AT_NAME)),
-                self.string_of(unit, object_in(&die)),
-            ),
-            None => (None, None),
-        }
+/// The string of an attribute of a unit, where there is one.
+#[tactic(auto, unfolding(crate::specs::Names::string_of, crate::specs::Names::numbered_string))]
+fn string_of<'a>(
+    pack: &PackageFile<'a>,
+    unit: &PackagedUnit<'a>,
+    attribute: Option<Attribute<SliceReader<'a>>>,
+) -> Option<&'a [u8]>
+    ensures { option_copied result ≡ option_and_then
+        (string_of pack.now.order (content pack.now.contents SectionKind.Str) unit.now)
+        (option_map (attribute_of ⟦<SliceReader<'a> as Reader>⟧.input) attribute.entry) }
+{
+    let attribute = attribute?;
+    if attribute.form == DW_FORM_STRING {
+        return short_string_at(attribute.value.slice(), 0);
     }
-
-    /// The string of an attribute of a unit, where there is one.
-    #[tactic(auto, unfolding(crate::specs::Names::string_of, crate::specs::Names::numbered_string))]
-    fn string_of(
-        self,
-        unit: &PackagedUnit<'a>,
-        attribute: Option<Attribute<SliceReader<'a>>>,
-    ) -> Option<&'a [u8]>
-        ensures { option_copied result ≡ option_and_then
-            (string_of self.entry.order self.entry.bytes.now unit.now)
-            (option_map (attribute_of ⟦<SliceReader<'a> as Reader>⟧.input) attribute.entry) }
-    {
-        let attribute = attribute?;
-        if attribute.form == DW_FORM_STRING {
-            return short_string_at(attribute.value.slice(), 0);
-        }
-        let i = string_number(&attribute)?;
-        let offsets = StringOffsets {
-            strings: self.bytes,
-            offsets: unit.section(SectionKind::StrOffsets),
-            order: self.order,
-            encoding: unit.encoding(),
-        };
-        let offset = offsets.entry(i)?;
-        short_string_at(self.bytes, offset)
-    }
+    let i = string_number(&attribute)?;
+    let strings = pack.content(SectionKind::Str);
+    let offsets = StringOffsets {
+        strings,
+        offsets: unit.section(SectionKind::StrOffsets),
+        order: pack.order(),
+        encoding: unit.encoding(),
+    };
+    let offset = offsets.entry(i)?;
+    short_string_at(strings, offset)
 }
 
 /// The attribute that names the object.
