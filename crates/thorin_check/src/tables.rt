@@ -6,7 +6,7 @@ ghost use Rattle.thorin_check.specs.Faults.{TellsRowsOf, is_next, row_end, row_f
 ghost use Rattle.thorin_check.specs.Telling.{so_far, Tells, Is};
 ghost use Rattle.thorin_find.specs.Listing.{AreByRow, place_of_line};
 ghost use Rattle.thorin_check.specs.Indexes.{mixed_versions, versions_faults, has_column};
-ghost use Rattle.thorin_check.specs.Indexes.{lacks_column, section_faults, TellsIndexes};
+ghost use Rattle.thorin_check.specs.Indexes.{lacks_column, section_faults};
 ghost use Rattle.std.specs.List.Sorted.{IsSortedByKey};
 ghost use Rattle.std.specs.Ordering.{nat_cmp};
 
@@ -20,6 +20,7 @@ use thorin_print::Failure;
 
 /// The sections of abbreviations and of strings aren't lacking, both indexes have one version and a
 /// column for each section that has bytes, and a slot names each row of both.
+#[tactic(auto, using(crate::proofs::Told::none_told))]
 pub(crate) fn check_tables<O: Write>(
     indexed: IndexedPackage<'_, '_>,
     faults: &mut Faults,
@@ -37,7 +38,11 @@ pub(crate) fn check_tables<O: Write>(
     let empty = " is empty or absent";
     check_section(SectionKind::Abbrev, lacks_abbreviations, empty, faults, out)?;
     check_section(SectionKind::Str, lacks_strings, empty, faults, out)?;
-    check_indexes(pack, faults, out)?;
+    check_versions(pack, faults, out)?;
+    for kind in &CONTRIBUTION_KINDS {
+        let lacks = lacks_column(pack, *kind);
+        check_section(*kind, lacks, ": no index has a column for it", faults, out)?;
+    }
     let end = end_of(pack.compilation_index());
     check_rows("cu", false, end, indexed.entries, faults, out)?;
     let end = end_of(pack.type_index());
@@ -62,23 +67,6 @@ fn check_section<O: Write>(
     let name = kind.name();
     let text = format!(in *faults.waiting.allocator(); "{name}{what}");
     tell_of_package(text, faults, out)
-}
-
-/// Both indexes have one version, and one of them has a column for each section that has bytes.
-fn check_indexes<O: Write>(
-    pack: &PackageFile<'_>,
-    faults: &mut Faults,
-    out: &mut O,
-) -> Result<(), Failure>
-    ensures { Tells (TellsIndexes pack.now) (so_far (O.contents out.old) faults.old)
-        (so_far (O.contents out.new) faults.new) result }
-{
-    check_versions(pack, faults, out)?;
-    for kind in &CONTRIBUTION_KINDS {
-        let lacks = lacks_column(pack, *kind);
-        check_section(*kind, lacks, ": no index has a column for it", faults, out)?;
-    }
-    Ok(())
 }
 
 /// Both indexes have one version.

@@ -1,7 +1,9 @@
 use Rattle.std.proofs.Common.{◌≡◌, ◌&&◌, not, rules}
 use Rattle.std.proofs.lemmas.Result.{err_from_is_err_and}
+use Rattle.dwp_table.specs.Columns.{contribution_kinds}
 use Rattle.thorin_check.specs.Faults.{lacks_abbreviations, lacks_strings}
-use Rattle.thorin_check.proofs.Told.{told_then, in_turn, in_turn_or, stopped_behind}
+use Rattle.thorin_check.proofs.Told.{in_turn, in_turn_or, stopped_behind, told_all, told_next}
+use Rattle.thorin_check.proofs.Told.{told_then}
 use Rattle.thorin_check.proofs.tables.check_tables.Goals as goal
 
 pub returns-in_err-check_section : goal.returns-in_err-check_section
@@ -16,12 +18,26 @@ returns-in_err-check_section-2 g c =
     rw (p.1, p.2) (stopped_behind _ c.in_ok-check_section.ensures
     c.in_err-check_section-2.ensures)
 
-pub returns-in_err-check_indexes : goal.returns-in_err-check_indexes
-returns-in_err-check_indexes g c =
-    let exit = c.from_residual-in_err-check_indexes in
+pub returns-in_err-check_versions : goal.returns-in_err-check_versions
+returns-in_err-check_versions g c =
+    let exit = c.from_residual-in_err-check_versions in
     let p = err_from_is_err_and exit.result exit.ensures.1 in
     rw (p.1, p.2) (stopped_behind _ c.in_ok-check_section.ensures
-    (stopped_behind _ c.in_ok-check_section-2.ensures c.in_err-check_indexes.ensures))
+    (stopped_behind _ c.in_ok-check_section-2.ensures c.in_err-check_versions.ensures))
+
+pub loop-kind-preserved : goal.loop-kind-preserved
+loop-kind-preserved g c =
+    told_next _ _ c.loop-kind.kind-index _ c.loop-kind-test.true c.loop-kind.invariant
+    (rw c.lacks_column-lacks.ensures at c.in_ok-check_section-in-loop-kind.ensures)
+
+pub returns-in_err-check_section-in-loop-kind : goal.returns-in_err-check_section-in-loop-kind
+returns-in_err-check_section-in-loop-kind g c =
+    let exit = c.from_residual-in_err-check_section-in-loop-kind in
+    let p = err_from_is_err_and exit.result exit.ensures.1 in
+    rw (p.1, p.2) (stopped_behind _ c.in_ok-check_section.ensures
+    (stopped_behind _ c.in_ok-check_section-2.ensures
+    (stopped_behind _ c.in_ok-check_versions.ensures
+    (stopped_behind _ c.loop-kind.invariant c.in_err-check_section-in-loop-kind.ensures))))
 
 pub returns-in_err-check_rows : goal.returns-in_err-check_rows
 returns-in_err-check_rows g c =
@@ -29,7 +45,8 @@ returns-in_err-check_rows g c =
     let p = err_from_is_err_and exit.result exit.ensures.1 in
     rw (p.1, p.2) (stopped_behind _ c.in_ok-check_section.ensures
     (stopped_behind _ c.in_ok-check_section-2.ensures
-    (stopped_behind _ c.in_ok-check_indexes.ensures c.in_err-check_rows.ensures)))
+    (stopped_behind _ c.in_ok-check_versions.ensures
+    (stopped_behind _ c.loop-kind.invariant c.in_err-check_rows.ensures))))
 
 pub returns : goal.returns
 returns g c =
@@ -43,8 +60,10 @@ returns g c =
     let types = rw (c.end_of-end-2.ensures.end, c.type_index.ensures.index) at
     c.check_rows-2.ensures in
     let result = c.check_rows-2.result in
+    let columns = told_all _ contribution_kinds c.loop-kind.kind-index c.loop-kind-test.false
+    c.loop-kind.invariant in
     in_turn_or _ _ _ _ _ _ result (told_then in_turn
     (rw abbreviations at c.in_ok-check_section.ensures)
     (rw strings at c.in_ok-check_section-2.ensures))
-    (in_turn_or _ _ _ _ _ _ result c.in_ok-check_indexes.ensures
+    (in_turn_or _ _ _ _ _ _ result (told_then in_turn c.in_ok-check_versions.ensures columns)
     (in_turn_or _ _ _ _ _ _ result compilations types))

@@ -2,11 +2,11 @@ use Rattle.std.proofs.Common.{take}
 use Rattle.dwp_table.specs.Columns.{contribution_kinds}
 use Rattle.thorin_check.specs.Indexes.{TellsColumns}
 use Rattle.thorin_check.specs.Telling.{so_far, Told}
-use Rattle.thorin_check.proofs.tables.check_indexes.Given as goal
+use Rattle.thorin_check.proofs.tables.check_tables.Given as goal
 
 -- the faults of the sections so far
 abbrev pub invariant-loop-kind : goal.invariant-loop-kind
 invariant-loop-kind g l = Told
-    (TellsColumns l.pack (take l.kind-index contribution_kinds))
+    (TellsColumns l.indexed.pack.now (take l.kind-index contribution_kinds))
     (so_far (g.O.Write.contents l.initial.out) l.initial.faults)
     (so_far (g.O.Write.contents l.out) l.faults)
