@@ -28,16 +28,16 @@ returns-in_err-check_versions g c =
 pub loop-kind-preserved : goal.loop-kind-preserved
 loop-kind-preserved g c =
     told_next _ _ c.loop-kind.kind-index _ c.loop-kind-test.true c.loop-kind.invariant
-    (rw c.lacks_column-lacks.ensures at c.in_ok-check_section-in-loop-kind.ensures)
+    (rw c.lacks_column-lacks.ensures at c.in_ok-check_section-3.ensures)
 
-pub returns-in_err-check_section-in-loop-kind : goal.returns-in_err-check_section-in-loop-kind
-returns-in_err-check_section-in-loop-kind g c =
-    let exit = c.from_residual-in_err-check_section-in-loop-kind in
+pub returns-in_err-check_section-3 : goal.returns-in_err-check_section-3
+returns-in_err-check_section-3 g c =
+    let exit = c.from_residual-in_err-check_section-3 in
     let p = err_from_is_err_and exit.result exit.ensures.1 in
     rw (p.1, p.2) (stopped_behind _ c.in_ok-check_section.ensures
     (stopped_behind _ c.in_ok-check_section-2.ensures
     (stopped_behind _ c.in_ok-check_versions.ensures
-    (stopped_behind _ c.loop-kind.invariant c.in_err-check_section-in-loop-kind.ensures))))
+    (stopped_behind _ c.loop-kind.invariant c.in_err-check_section-3.ensures))))
 
 pub returns-in_err-check_rows : goal.returns-in_err-check_rows
 returns-in_err-check_rows g c =
