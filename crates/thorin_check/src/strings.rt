@@ -1,10 +1,10 @@
 //! The strings of a package's units, in `thorin check`: which of them end.
 
-ghost use Rattle.std.specs.Prelude.{◌≡◌, ◌≤◌, length, true, Some, Ok, OnOk};
+ghost use Rattle.std.specs.Prelude.{◌≡◌, true, Some, Ok, OnOk};
 ghost use Rattle.std.specs.Result.{result_err};
 ghost use Rattle.dwp_index.specs.Contents.{content};
 ghost use Rattle.dwp_index.specs.Package.{row_bytes, Package, found};
-ghost use Rattle.thorin_check.specs.Ends.{IsReach, HasEnds, AllEnd};
+ghost use Rattle.thorin_check.specs.Ends.{HasEnds, AllEnd};
 ghost use Rattle.thorin_find.specs.Finding.{string_of};
 ghost use Rattle.std.specs.List.{All};
 ghost use Rattle.thorin_check.specs.Strings.{range_of, is_wide, IsBehind};
@@ -38,7 +38,7 @@ pub(crate) struct Ends {
 
 impl Ends {
     /// Those of a package.
-    #[tactic(auto, using(crate::proofs::SharedStrings::of_package))]
+    #[tactic(auto, using(crate::proofs::SharedStrings::of_package, crate::proofs::SharedStrings::reached, crate::proofs::SharedStrings::unreached))]
     pub(crate) fn of(pack: &PackageFile<'_>) -> Ends
         ensures { HasEnds result pack.now.order (content pack.now.contents SectionKind.Str) }
     {
@@ -46,7 +46,10 @@ impl Ends {
         Ends {
             order: pack.order(),
             size: strings.len() as u64,
-            reach: reach_of(strings),
+            reach: match memrchr(0, strings) {
+                Some(last) => last as u64 + 1,
+                None => 0,
+            },
         }
     }
 
@@ -100,18 +103,6 @@ impl Ends {
             order: self.order,
             encoding: unit.encoding(),
         }
-    }
-}
-
-/// The place behind the last zero byte of some strings; 0 where there is none.
-#[tactic(auto, using(crate::proofs::SharedStrings::reached, crate::proofs::SharedStrings::unreached))]
-fn reach_of(strings: &[u8]) -> u64
-    ensures inside { result ≤ length strings.now }
-    ensures reach { IsReach strings.now result }
-{
-    match memrchr(0, strings) {
-        Some(last) => last as u64 + 1,
-        None => 0,
     }
 }
 
