@@ -242,7 +242,7 @@ pub(crate) fn check_strings<O: Write>(
 }
 
 /// Checks each string of a unit.
-#[tactic(auto, using(crate::proofs::Told::strings_some))]
+#[tactic(auto, using(crate::proofs::Told::strings_some, crate::proofs::Told::none_told))]
 fn check_strings_of<O: Write>(
     pack: &PackageFile<'_>,
     ends: Ends,

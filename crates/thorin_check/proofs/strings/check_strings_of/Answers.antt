@@ -18,9 +18,6 @@ pub string_text-text-requires : goal.string_text-text-requires
 string_text-text-requires g c =
     of_found _ _ _ _ c.requires (rw c.in-Ok-Some.field-0-is at c.in-Ok-Some.ensures)
 
-pub loop-i-init : goal.loop-i-init
-loop-i-init g c = grind (arith, none_told)
-
 pub loop-i-preserved : goal.loop-i-preserved
 loop-i-preserved g c =
     let i = c.loop-i.i in
