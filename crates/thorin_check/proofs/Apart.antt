@@ -1,25 +1,16 @@
 -- Ranges that don't overlap, unless they are the same, and are read alike.
-use Rattle.std.proofs.Common.{◌≡◌, ◌⊎◌, ◌∙◌, ℕ, ◌+◌, ◌-◌, ◌^◌, ◌<◌, ◌≤◌, min, true, false, List}
-use Rattle.std.proofs.Common.{length, get_or, take, Option, Some, None, Result, Ok, Err, Bool}
-use Rattle.std.proofs.Common.{◌||◌, ◌&&◌, nat_le, nat_lt, not, refl, sym, inl, inr, arith}
-use Rattle.std.proofs.Common.{below_more, nat_eq}
-use Rattle.std.specs.List.{AllPairs, Contains}
-use Rattle.std.specs.List.Sorted.{IsPermutation}
-use Rattle.std.proofs.lemmas.Bool.Decides.{nat_tests}
-use Rattle.std.proofs.lemmas.Option.{same_Some}
-use Rattle.std.proofs.lemmas.List.{get_or_default}
+use Rattle.thorin_check.proofs.Terms.{Abbrev, AllPairs, AreApart, AreApartIn, AreReadAlike, Bool}
+use Rattle.thorin_check.proofs.Terms.{Contains, Contribution, Err, HasRange, HasRanges, Index}
+use Rattle.thorin_check.proofs.Terms.{IsApart, IsLast, IsPermutation, IsSame, List, None, Ok}
+use Rattle.thorin_check.proofs.Terms.{Option, Ranges, ReadError, Result, SectionKind, Some}
+use Rattle.thorin_check.proofs.Terms.{UnitEntry, arith, below_more, by-bool, column_place}
+use Rattle.thorin_check.proofs.Terms.{contribution, false, get_or, get_or_default, inl, inr, length}
+use Rattle.thorin_check.proofs.Terms.{min, nat_eq, nat_le, nat_lt, nat_tests, not, range_in, refl}
+use Rattle.thorin_check.proofs.Terms.{row_in, same_Some, sym, tables_by, take, true, ℕ, ◌&&◌, ◌+◌}
+use Rattle.thorin_check.proofs.Terms.{◌-◌, ◌<◌, ◌^◌, ◌||◌, ◌∙◌, ◌≡◌, ◌≤◌, ◌⊎◌}
 use Rattle.std.proofs.lemmas.List.Elements.{All-more}
 use Rattle.std.proofs.lemmas.List.Sorted.{Contains-permutation}
-use Rattle.dwp_base.proofs.Bools.{by-bool}
-use Rattle.dwp_base.specs.declared.section.Contribution.{Contribution}
-use Rattle.dwp_base.specs.declared.section.SectionKind.{SectionKind}
-use Rattle.dwp_base.specs.declared.section.SectionKind.TheVariants.{Abbrev}
-use Rattle.dwp_bytes.specs.declared.error.ReadError.{ReadError}
-use Rattle.dwp_index.specs.Index.{Index, Ranges, row_in, range_in, contribution, column_place}
 use Rattle.dwp_index.specs.Package.{Package, index_for}
-use Rattle.dwp_index.specs.declared.units.UnitEntry.{UnitEntry}
-use Rattle.thorin_check.specs.Apart.{IsSame, IsApart, IsLast, HasRange, HasRanges, tables_by}
-use Rattle.thorin_check.specs.Apart.{AreApartIn, AreApart, AreReadAlike}
 use Rattle.thorin_check.specs.Overlaps.{overlap, row_range, range_by_index, same_range, slot_range}
 use Rattle.thorin_check.specs.declared.overlaps.Placed.{Placed}
 

@@ -1,35 +1,27 @@
 -- What was told of the units that an executable names, and what was checked.
-use Rattle.std.proofs.Common.{◌≡◌, ◌≢◌, List, [], ◌∷◌, ◌++◌, ℕ, Option, Some, None, Result, Ok, Err}
-use Rattle.std.proofs.Common.{◌+◌, ◌<◌, ◌≤◌, length, OnOk, Bool, true, false, arith, refl}
-use Rattle.std.proofs.Common.{append_assoc, append-nil, zero, suc, get_or, Bor, inl, inr, subst}
-use Rattle.std.proofs.lemmas.Bool.Decides.{nat_tests}
+use Rattle.thorin_check.proofs.Terms.{AreByRow, Bool, Bor, Err, Executables, FailsToRead, Failure}
+use Rattle.thorin_check.proofs.Terms.{FaultValue, Grows, Is, IsFault, IsOfPrinting, List, Listed}
+use Rattle.thorin_check.proofs.Terms.{Named, None, Offer, Ok, OnOk, Option, Outcome, PackageError}
+use Rattle.thorin_check.proofs.Terms.{Prints, Progress, Reading, Result, Some, Tells, TellsOr, Told}
+use Rattle.thorin_check.proofs.Terms.{UnitEntry, append-nil, append_assoc, arith, false}
+use Rattle.thorin_check.proofs.Terms.{fault_count, get_or, has_no_index, inl, inr, length}
+use Rattle.thorin_check.proofs.Terms.{nat_tests, none_grown, of_unit, refl, skeletons_by, subst}
+use Rattle.thorin_check.proofs.Terms.{suc, true, zero, ℕ, [], ◌++◌, ◌+◌, ◌<◌, ◌∷◌, ◌≡◌, ◌≢◌, ◌≤◌}
 use Rattle.dwp_index.specs.Package.{Package, FoundUnit, found, package_of}
-use Rattle.dwp_index.specs.declared.error.PackageError.{PackageError}
-use Rattle.thorin_executable.specs.Skeletons.{Named, Listed, skeletons_by}
 use Rattle.thorin_errors.specs.Answers.{MemoryAside}
 use Rattle.thorin_errors.specs.Errors.{ErrorValue, error_of}
 use Rattle.thorin_errors.specs.declared.error.Error.{Error}
 use Rattle.thorin_errors.specs.declared.error.Error.TheVariants.{Memory}
-use Rattle.thorin_check.specs.Faults.{missing_text, missing_faults, IsBroken, TellsEnd}
-use Rattle.thorin_check.specs.Faults.{longest_path, long_size, long_bytes, TellsListed, TellsNamed}
-use Rattle.thorin_check.specs.Faults.{bare_fault, room_of}
-use Rattle.thorin_print.specs.Answers.{Outcome, IsOfPrinting, Grows, Prints}
-use Rattle.thorin_check.specs.Rendering.{FaultValue, of_unit}
-use Rattle.thorin_check.specs.Telling.{Progress, Told, Tells, Is, IsFault, fault_count, TellsOr}
+use Rattle.thorin_check.specs.Faults.{IsBroken, TellsEnd, TellsListed, TellsNamed, bare_fault}
+use Rattle.thorin_check.specs.Faults.{long_bytes, long_size, longest_path, missing_faults}
+use Rattle.thorin_check.specs.Faults.{missing_text, room_of}
 use Rattle.thorin_check.proofs.Told.{told_as, told_then, stopped_behind, counted_from}
 use Rattle.std.specs.declared.io.Error.{Error as IoError}
 use Rattle.std.proofs.KnownBytes.{Appends-trans, Keeps-refl}
-use Rattle.dwp_index.specs.declared.units.UnitEntry.{UnitEntry}
-use Rattle.thorin_find.specs.Files.{Offer, FailsToRead}
-use Rattle.thorin_find.specs.Listing.{has_no_index, AreByRow}
-use Rattle.thorin_check.specs.Sound.{Executables}
-use Rattle.thorin_check.specs.Checking.{TellsExecutable, TellsPackage, FailsOne, IsOfReading}
-use Rattle.thorin_check.specs.Checking.{IsOfChecking, Finishes, ChecksIndexed, Checks}
-use Rattle.thorin_check.specs.declared.executables.Reading.{Reading}
-use Rattle.thorin_print.specs.declared.output.Failure.{Failure}
-use Rattle.thorin_print.specs.declared.output.Failure.TheVariants as failures
+use Rattle.thorin_check.specs.Checking.{Checks, ChecksIndexed, FailsOne, Finishes, IsOfChecking}
+use Rattle.thorin_check.specs.Checking.{IsOfReading, TellsExecutable, TellsPackage}
 use Rattle.thorin_check.proofs.Sound.{no_fault_told, no_fault, some_fault}
-use Rattle.thorin_print.proofs.Printed.{none_grown}
+use Rattle.thorin_print.specs.declared.output.Failure.TheVariants as failures
 
 module _ (executable : List ℕ) (named : Named)
     (looked : Result (Option FoundUnit) PackageError) where

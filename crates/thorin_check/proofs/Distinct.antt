@@ -1,33 +1,22 @@
 -- Units that are told of, one of each range of string offsets.
-use Rattle.std.proofs.Common.{◌≡◌, ℕ, ◌+◌, ◌<◌, ◌≤◌, List, [], ◌∷◌, ◌++◌, length, take}
-use Rattle.std.proofs.Common.{get_or, Option, Some, None, Result, Ok, Err, refl, sym, ◌∙◌, arith}
-use Rattle.std.proofs.Common.{take_all, Bool, false, ◌&&◌, nat_eq, IfOk, OnOk, String, Global}
-use Rattle.std.proofs.lemmas.Bool.Decides.{nat_tests}
-use Rattle.std.specs.List.{All, AllPairs}
-use Rattle.std.specs.List.Sorted.{IsPermutation}
-use Rattle.std.proofs.lemmas.List.Elements.{All-get_or, All-nil, All-push, All-more, All-weaker}
-use Rattle.std.proofs.lemmas.List.Elements.{All-contains, Contains-append_left, Contains-push}
+use Rattle.thorin_check.proofs.Terms.{All, AllPairs, AreApart, Bool, DwarfObject, Err, FaultValue}
+use Rattle.thorin_check.proofs.Terms.{ForEach, Global, IfOk, IsGathered, IsGatheredIn, IsOfUnit}
+use Rattle.thorin_check.proofs.Terms.{IsPermutation, IsSeen, IsTextOf, List, None, Ok, OnOk, Option}
+use Rattle.thorin_check.proofs.Terms.{Outcome, PackageError, Progress, Result, Some, String}
+use Rattle.thorin_check.proofs.Terms.{StringRange, Tells, TellsSeen, TellsText, Told, UnitEntry}
+use Rattle.thorin_check.proofs.Terms.{arith, contribution_kinds, false, get_or, length, nat_eq}
+use Rattle.thorin_check.proofs.Terms.{nat_tests, refl, same-ok, same_Some, sym, take, take_all, ℕ}
+use Rattle.thorin_check.proofs.Terms.{[], ◌&&◌, ◌++◌, ◌+◌, ◌<◌, ◌∙◌, ◌∷◌, ◌≡◌, ◌≤◌}
+use Rattle.std.proofs.lemmas.List.Elements.{All-contains, All-get_or, All-more, All-nil, All-push}
+use Rattle.std.proofs.lemmas.List.Elements.{All-weaker, Contains-append_left, Contains-push}
 use Rattle.std.proofs.lemmas.List.Quantifiers.{all_pairs_push}
-use Rattle.std.proofs.lemmas.Option.{same_Some}
-use Rattle.dwp_base.proofs.Steps.{same-ok}
 use Rattle.std.proofs.lemmas.List.Sorted.{Contains-permutation}
 use Rattle.dwp_index.specs.Package.{Package, FoundUnit, found}
-use Rattle.dwp_index.specs.declared.error.PackageError.{PackageError}
-use Rattle.dwp_index.specs.declared.units.UnitEntry.{UnitEntry}
-use Rattle.dwp_table.specs.declared.object.DwarfObject.{DwarfObject}
-use Rattle.thorin_print.specs.Answers.{Outcome}
-use Rattle.dwp_table.specs.Columns.{contribution_kinds}
-use Rattle.thorin_check.specs.Apart.{AreApart}
 use Rattle.thorin_check.specs.Checking.{TellsStringsOfAll, TellsSlot, TellsSlots, TellsUnits}
-use Rattle.thorin_check.specs.Gathered.{TellsListed, Listed, IsOfUnit, IsGathered, IsSeen, GoesOn}
-use Rattle.thorin_check.specs.Gathered.{IsGatheredIn, TellsSeen}
+use Rattle.thorin_check.specs.Gathered.{TellsListed, Listed, GoesOn}
 use Rattle.thorin_check.specs.Faults.{TellsStringsOf, TellsUnit}
-use Rattle.thorin_check.specs.Texts.{TellsText, IsTextOf}
-use Rattle.thorin_check.specs.Rendering.{FaultValue}
 use Rattle.thorin_check.specs.Strings.{number_of, IsBehind, HasOffsets, ShareNone, IsRangeOfOne}
 use Rattle.thorin_check.specs.declared.units.Seen.{Seen}
-use Rattle.thorin_check.specs.Telling.{Progress, Told, Tells, ForEach}
-use Rattle.thorin_check.specs.declared.strings.StringRange.{StringRange}
 use Rattle.thorin_check.proofs.SharedStrings.{has_strings}
 use Rattle.thorin_check.proofs.Told.{told_as, tells_as, in_turn, for_each_more, told_next}
 

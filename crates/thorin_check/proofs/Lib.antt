@@ -5,4 +5,5 @@ pub mod NamedRows
 pub mod Own
 pub mod SharedStrings
 pub mod Sound
+pub mod Terms
 pub mod Told

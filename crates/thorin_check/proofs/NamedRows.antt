@@ -1,31 +1,23 @@
 -- The rows that no slot names.
-use Rattle.std.proofs.Common.{◌≡◌, ◌⊎◌, ℕ, ◌+◌, ◌-◌, ◌<◌, ◌≤◌, Bool, true, false, List, [], ◌∷◌}
-use Rattle.std.proofs.Common.{◌++◌, length, map, get_or, Result, IfOk, String, Global, string_bytes}
-use Rattle.std.proofs.Common.{refl, sym, ◌∙◌, inl, inr, arith, below_more}
-use Rattle.std.specs.List.{All, Contains, range_with_len}
-use Rattle.std.specs.List.Sorted.{IsSortedByKey}
+use Rattle.thorin_check.proofs.Terms.{All, Bool, Compilation, Contains, DebugTypeSignature}
+use Rattle.thorin_check.proofs.Terms.{DwarfObject, FaultValue, Global, IfOk, Is, IsFault}
+use Rattle.thorin_check.proofs.Terms.{IsOfPrinting, IsSortedByKey, List, Outcome, Progress, Result}
+use Rattle.thorin_check.proofs.Terms.{String, Tells, TellsWhat, Told, TypeUnit, UnitEntry, arith}
+use Rattle.thorin_check.proofs.Terms.{below_more, false, get_or, get_or_default, inl, inr, length}
+use Rattle.thorin_check.proofs.Terms.{map, map-append, nat_tests, place_by, place_of_line}
+use Rattle.thorin_check.proofs.Terms.{range_with_len, refl, string_bytes, sym, true, ℕ, [], ◌++◌}
+use Rattle.thorin_check.proofs.Terms.{◌+◌, ◌-◌, ◌<◌, ◌∙◌, ◌∷◌, ◌≡◌, ◌≤◌, ◌⊎◌}
 use Rattle.std.specs.Ordering.{nat_cmp}
-use Rattle.std.proofs.lemmas.Bool.Decides.{nat_tests}
-use Rattle.std.proofs.lemmas.List.{get_or_default, map-append}
-use Rattle.std.proofs.lemmas.List.Elements.{All-nil, All-append, All-from_get_or}
+use Rattle.std.proofs.lemmas.List.Elements.{All-append, All-from_get_or, All-nil}
 use Rattle.std.proofs.lemmas.List.Elements.{Contains-append_left, Contains-append_right}
 use Rattle.std.proofs.lemmas.List.Elements.{Contains-get_or}
-use Rattle.std.proofs.lemmas.List.FromFn.{map-range_with_len_more, get_or-range_with_len}
-use Rattle.std.proofs.lemmas.List.FromFn.{length-range_with_len}
+use Rattle.std.proofs.lemmas.List.FromFn.{get_or-range_with_len, length-range_with_len}
+use Rattle.std.proofs.lemmas.List.FromFn.{map-range_with_len_more}
 use Rattle.std.proofs.lemmas.List.Sorted.{IsNonDecreasingBy-from_sort}
 use Rattle.dwp_base.proofs.Bools.{both}
-use Rattle.dwp_index.specs.declared.units.UnitEntry.{UnitEntry}
-use Rattle.dwp_table.specs.declared.object.DebugTypeSignature.{DebugTypeSignature}
-use Rattle.dwp_table.specs.declared.object.DwarfObject.{DwarfObject}
 use Rattle.dwp_table.specs.declared.object.DwoId.{DwoId}
-use Rattle.dwp_table.specs.declared.object.DwarfObject.TheVariants.{Compilation, TypeUnit}
-use Rattle.thorin_check.specs.Texts.{TellsWhat}
-use Rattle.thorin_check.specs.Faults.{row_text, row_fault, is_of, IsNamed, IsUnnamed, TellsRowsOf}
-use Rattle.thorin_check.specs.Faults.{is_next, row_faults}
-use Rattle.thorin_check.specs.Rendering.{FaultValue}
-use Rattle.thorin_check.specs.Telling.{Progress, Told, Tells, Is, IsFault}
-use Rattle.thorin_find.specs.Listing.{place_by, place_of_line}
-use Rattle.thorin_print.specs.Answers.{Outcome, IsOfPrinting}
+use Rattle.thorin_check.specs.Faults.{IsNamed, IsUnnamed, TellsRowsOf, is_next, is_of, row_fault}
+use Rattle.thorin_check.specs.Faults.{row_faults, row_text}
 use Rattle.thorin_check.proofs.Told.{what_told, none_told, then_or, told_then, told_as}
 
 -- ---- rows that are told one after the other

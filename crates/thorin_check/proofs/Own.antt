@@ -1,53 +1,39 @@
 -- The unit that a look-up finds is that of a row, whose ranges lie inside their sections; and the
 -- identifiers that units' own bytes give.
-use Rattle.std.proofs.Common.{◌≡◌, ◌∙◌, ℕ, ◌+◌, ◌≤◌, Bool, false, List, [], ◌∷◌, ◌++◌, length}
-use Rattle.std.proofs.Common.{Option, Some, None, Result, Ok, Err, refl, sym, ap, arith, find}
-use Rattle.std.proofs.Common.{nat_eq, ◌-◌, true, IsTrue}
-use Rattle.std.proofs.lemmas.Bool.Decides.{nat_tests}
-use Rattle.std.proofs.lemmas.Option.{same_Some}
-use Rattle.dwp_base.proofs.Bools.{by-bool}
+use Rattle.thorin_check.proofs.Terms.{All, Bool, Contribution, DebugTypeSignature, DwarfObject}
+use Rattle.thorin_check.proofs.Terms.{Endianness, Err, Index, IsAmong, IsTrue, List, None, Ok}
+use Rattle.thorin_check.proofs.Terms.{Option, PlaceRead, Ranges, ReadError, Result, SectionKind}
+use Rattle.thorin_check.proofs.Terms.{Sections, Some, TypeUnit, ap, arith, bind-was, by-bool}
+use Rattle.thorin_check.proofs.Terms.{column_of, column_place, content, contribution_kinds}
+use Rattle.thorin_check.proofs.Terms.{drop-take, false, find, length, nat_eq, nat_tests, own_by}
+use Rattle.thorin_check.proofs.Terms.{own_of, range_in, refl, result_ok, row_in, same-ok, same_Some}
+use Rattle.thorin_check.proofs.Terms.{sym, true, ℕ, [], ◌++◌, ◌+◌, ◌-◌, ◌∙◌, ◌∷◌, ◌≡◌, ◌≤◌}
 use Rattle.dwp_base.proofs.EveryKind.{each, HoldsAll}
-use Rattle.dwp_base.proofs.Steps.{bind-was, same-ok}
-use Rattle.dwp_base.specs.declared.section.Contribution.{Contribution}
-use Rattle.dwp_base.specs.declared.section.SectionKind.{SectionKind}
-use Rattle.dwp_base.specs.declared.section.SectionKind.TheVariants as kinds
-use Rattle.dwp_bytes.specs.declared.error.ReadError.{ReadError}
-use Rattle.dwp_index.specs.Contents.{Sections, content}
 use Rattle.dwp_index.specs.Finding.{LiesInside, own_bytes, own_place}
-use Rattle.dwp_index.specs.Index.{Index, Ranges, row_in, range_in, column_place}
-use Rattle.dwp_index.specs.Package.{Package, FoundUnit, found, found_counted, found_by, unit_found}
-use Rattle.dwp_index.specs.Package.{unit_at_row, unit_in, first_outside, all_inside, is_outside}
-use Rattle.dwp_index.specs.Package.{index_for, as_error, encoding_in, place_of, kind_of, row_bytes}
-use Rattle.dwp_index.specs.Package.{part_of, lies_inside}
-use Rattle.dwp_index.specs.declared.error.PackageError.TheVariants as errors
-use Rattle.dwp_table.specs.Columns.{column_of, contribution_kinds}
+use Rattle.dwp_index.specs.Package.{FoundUnit, Package, all_inside, as_error, encoding_in}
+use Rattle.dwp_index.specs.Package.{first_outside, found, found_by, found_counted, index_for}
+use Rattle.dwp_index.specs.Package.{is_outside, kind_of, lies_inside, part_of, place_of, row_bytes}
+use Rattle.dwp_index.specs.Package.{unit_at_row, unit_found, unit_in}
 use Rattle.dwp_table.specs.Objects.{identifier_of}
 use Rattle.dwp_table.specs.Probing.{found_row}
-use Rattle.dwp_table.specs.declared.object.DwarfObject.{DwarfObject}
 use Rattle.std.specs.BTreeMap.{insert_entry}
-use Rattle.std.specs.List.{All, IsAmong}
 use Rattle.std.specs.Map.{values_of}
-use Rattle.std.specs.Result.{result_ok}
 use Rattle.std.specs.declared.cmp.Ordering.{Ordering}
 use Rattle.std.proofs.lemmas.Map.Views.{All-values-insert_entry}
-use Rattle.std.proofs.lemmas.List.{drop-take}
-use Rattle.dwp_base.specs.declared.endian.Endianness.{Endianness}
 use Rattle.dwp_bytes.specs.Input.{section}
-use Rattle.dwp_table.specs.declared.object.DebugTypeSignature.{DebugTypeSignature}
-use Rattle.dwp_table.specs.declared.object.DwarfObject.TheVariants.{TypeUnit}
 use Rattle.dwp_units.specs.Units.{Unit as Header, units}
 use Rattle.dwp_units.specs.declared.unit.UnitSection.{UnitSection}
 use Rattle.dwp_units.specs.declared.unit.UnitSection.TheVariants.{Info, Types}
 use Rattle.thorin_find.specs.Names.{first_of, header_in}
 use Rattle.thorin_identity.specs.Identity.{identity}
 use Rattle.thorin_check.specs.Faults.{is_of}
-use Rattle.thorin_check.specs.Own.{own_by, own_of}
-use Rattle.thorin_check.specs.Remembered.{said_of, numbers_of, bytes_at, is_in_types, section_by}
-use Rattle.thorin_check.specs.Remembered.{place_in, own_at, IsReadIn}
-use Rattle.thorin_check.specs.contracts.abbreviations.UnitPlacePartialEq.TheImpl as places
-use Rattle.thorin_check.specs.declared.abbreviations.PlaceRead.{PlaceRead}
+use Rattle.thorin_check.specs.Remembered.{IsReadIn, bytes_at, is_in_types, numbers_of, own_at}
+use Rattle.thorin_check.specs.Remembered.{place_in, said_of, section_by}
 use Rattle.thorin_check.specs.declared.abbreviations.UnitPlace.{UnitPlace}
 use Rattle.thorin_check.proofs.NamedRows.{of_one_kind}
+use Rattle.dwp_base.specs.declared.section.SectionKind.TheVariants as kinds
+use Rattle.dwp_index.specs.declared.error.PackageError.TheVariants as errors
+use Rattle.thorin_check.specs.contracts.abbreviations.UnitPlacePartialEq.TheImpl as places
 
 -- ---- its ranges
 

@@ -1,42 +1,29 @@
 -- Which strings end, as the last zero byte of all tells, and the strings of units, by the string
 -- offsets that they share.
-use Rattle.std.proofs.Common.{◌≡◌, ℕ, ◌+◌, ◌-◌, ◌<◌, ◌≤◌, eqb, true, false, List, length, drop}
-use Rattle.std.proofs.Common.{Some, None, Ok, refl, arith, get_or-drop, length-drop, ◌∙◌, [], ◌∷◌}
-use Rattle.std.proofs.Common.{◌++◌, Option, Result, Err, sym, inl, inr, option_map, ap, IsTrue}
-use Rattle.std.specs.List.{list_any}
+use Rattle.thorin_check.proofs.Terms.{AllEnd, Contribution, DwarfObject, Endianness, Err, HasEnds}
+use Rattle.thorin_check.proofs.Terms.{IsGathered, IsGatheredIn, IsOfUnit, IsReach, IsTrue, List}
+use Rattle.thorin_check.proofs.Terms.{None, Ok, Option, PackageError, Result, Some, Str, StrOffsets}
+use Rattle.thorin_check.proofs.Terms.{StringRange, ap, arith, content, drop, entry_in, eqb, false}
+use Rattle.thorin_check.proofs.Terms.{get_or-drop, get_or_default, inl, inr, is_inside, length}
+use Rattle.thorin_check.proofs.Terms.{length-drop, list_any, nat_tests, option_map, range_in, refl}
+use Rattle.thorin_check.proofs.Terms.{result_err, same_Some, string_at, string_in, string_of, sym}
+use Rattle.thorin_check.proofs.Terms.{true, ℕ, [], ◌++◌, ◌+◌, ◌-◌, ◌<◌, ◌∙◌, ◌∷◌, ◌≡◌, ◌≤◌}
 use Rattle.std.specs.Option.{option_eq}
-use Rattle.std.specs.Result.{result_err}
-use Rattle.std.proofs.lemmas.List.{get_or_default}
-use Rattle.std.proofs.lemmas.Bool.Decides.{nat_tests}
 use Rattle.std.proofs.lemmas.List.Folds.{list_any_at, list_any_none}
 use Rattle.memchr.specs.Find.{IsLastByte, Passes, Nowhere, is_byte}
-use Rattle.dwp_base.specs.declared.endian.Endianness.{Endianness}
-use Rattle.dwp_base.specs.declared.section.SectionKind.TheVariants.{Str, StrOffsets}
-use Rattle.dwp_bytes.specs.StringOffsets.{string_at, entry_count, entry_in, string_in}
+use Rattle.dwp_bytes.specs.StringOffsets.{entry_count}
 use Rattle.dwp_bytes.specs.declared.encoding.Encoding.{Encoding}
-use Rattle.dwp_index.specs.Contents.{content}
 use Rattle.dwp_index.specs.Package.{Package, FoundUnit, unit_in, found, row_bytes}
 use Rattle.dwp_index.proofs.PackageLookUp.{by_row}
-use Rattle.dwp_table.specs.declared.object.DwarfObject.{DwarfObject}
-use Rattle.thorin_check.specs.Ends.{IsReach, HasEnds, is_inside, AllEnd}
 use Rattle.thorin_check.specs.declared.strings.Ends.{Ends}
-use Rattle.std.proofs.lemmas.Option.{same_Some}
-use Rattle.std.proofs.lemmas.List.Elements.{All-nil, All-push, Contains-append_left}
-use Rattle.std.proofs.lemmas.List.Elements.{Contains-push}
-use Rattle.dwp_base.specs.declared.section.Contribution.{Contribution}
+use Rattle.std.proofs.lemmas.List.Elements.{All-nil, All-push, Contains-append_left, Contains-push}
 use Rattle.dwp_bytes.specs.declared.encoding.Format.{Format}
 use Rattle.dwp_bytes.specs.declared.encoding.Format.TheVariants.{Dwarf32, Dwarf64}
-use Rattle.dwp_index.specs.Index.{range_in}
-use Rattle.dwp_index.specs.declared.error.PackageError.{PackageError}
-use Rattle.thorin_find.specs.Finding.{string_of}
-use Rattle.thorin_check.specs.Strings.{range_by, range_of, IsRangeOfOne, HasStringsOf}
-use Rattle.thorin_check.specs.Strings.{HasStringsIn}
-use Rattle.thorin_check.specs.Gathered.{Listed, IsOfUnit, Lists, string_by, AllEndIn, IsGathered}
-use Rattle.thorin_check.specs.Gathered.{Gathers, Adds, Gathered, IsGatheredIn}
-use Rattle.thorin_check.specs.contracts.strings.StringRangePartialEq.TheImpl as ranges
-use Rattle.thorin_check.specs.declared.strings.StringRange.{StringRange}
+use Rattle.thorin_check.specs.Strings.{HasStringsIn, HasStringsOf, IsRangeOfOne, range_by, range_of}
+use Rattle.thorin_check.specs.Gathered.{Adds, AllEndIn, Gathered, Gathers, Listed, Lists, string_by}
 use Rattle.thorin_check.specs.declared.strings.UnreadStrings.{UnreadStrings}
 use Rattle.thorin_check.proofs.Own.{row_of_found}
+use Rattle.thorin_check.specs.contracts.strings.StringRangePartialEq.TheImpl as ranges
 
 module _ (strings : List ℕ) where
   behind : (from offset : ℕ) → Nowhere (Passes (is_byte 0) strings) from (length strings)

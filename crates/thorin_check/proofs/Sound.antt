@@ -1,51 +1,33 @@
 -- Where no fault was told, the package is sound.
-use Rattle.std.proofs.Common.{◌≡◌, ◌≢◌, ◌∙◌, ℕ, Bool, true, false, List, [], ◌∷◌, ◌++◌, codes, map}
-use Rattle.std.proofs.Common.{get_or, Option, Some, None, Result, Ok, Err, Bor, refl, sym, subst}
-use Rattle.std.proofs.Common.{inl, inr, append-nil, arith, length, min, nat_eq, ◌<◌, ◌^◌, ◌-◌, lit<}
-use Rattle.std.proofs.Common.{◌⊎◌, ◌≤◌}
-use Rattle.std.proofs.lemmas.Bool.Decides.{nat_tests}
-use Rattle.std.specs.List.{All, Contains, flat_map}
-use Rattle.std.specs.Result.{result_err}
-use Rattle.std.proofs.lemmas.Option.{same_Some}
+use Rattle.thorin_check.proofs.Terms.{All, AllEnd, AreApart, AreApartIn, AreByRow, Bool, Bor}
+use Rattle.thorin_check.proofs.Terms.{Contains, DwarfObject, Err, Executables, FaultValue, ForEach}
+use Rattle.thorin_check.proofs.Terms.{InTurn, Index, Is, List, Listed, Named, None, Offer, Ok}
+use Rattle.thorin_check.proofs.Terms.{Option, PackageError, ReadError, Reading, Result, SectionKind}
+use Rattle.thorin_check.proofs.Terms.{Some, UnitEntry, append-nil, arith, codes, column_faults}
+use Rattle.thorin_check.proofs.Terms.{contribution_kinds, entry_in, false, fault_count, flat_map}
+use Rattle.thorin_check.proofs.Terms.{get_or, inl, inr, lacks_column, length, lit<, map, min}
+use Rattle.thorin_check.proofs.Terms.{mixed_versions, nat_eq, nat_tests, own_of, refl, result_err}
+use Rattle.thorin_check.proofs.Terms.{same_Some, section_faults, skeletons_by, string_count}
+use Rattle.thorin_check.proofs.Terms.{string_in, string_of, subst, sym, true, versions_faults, ℕ}
+use Rattle.thorin_check.proofs.Terms.{[], ◌++◌, ◌-◌, ◌<◌, ◌^◌, ◌∙◌, ◌∷◌, ◌≡◌, ◌≢◌, ◌≤◌, ◌⊎◌}
 use Rattle.std.proofs.lemmas.List.Elements.{All-nil, All-cons, All-weaker, All-contains}
 use Rattle.std.proofs.lemmas.List.FromFn.{get_or-map-range_with_len, length-map-range_with_len}
-use Rattle.std.proofs.lemmas.List.Sorted.{IsPermutation-sym, All-permutation, length_permutation}
-use Rattle.std.proofs.lemmas.List.Sorted.{Contains-permutation}
-use Rattle.dwp_base.specs.declared.section.SectionKind.{SectionKind}
-use Rattle.dwp_base.specs.declared.section.SectionKind.TheVariants as kinds
-use Rattle.dwp_bytes.specs.StringOffsets.{string_in, entry_in}
-use Rattle.dwp_bytes.specs.declared.error.ReadError.{ReadError}
-use Rattle.dwp_index.specs.Index.{Index}
+use Rattle.std.proofs.lemmas.List.Sorted.{All-permutation, Contains-permutation, IsPermutation-sym}
+use Rattle.std.proofs.lemmas.List.Sorted.{length_permutation}
 use Rattle.dwp_index.specs.Package.{Package, FoundUnit, found}
-use Rattle.dwp_index.specs.declared.error.PackageError.{PackageError}
-use Rattle.dwp_index.specs.declared.error.PackageError.TheVariants as errors
-use Rattle.dwp_index.specs.declared.units.UnitEntry.{UnitEntry}
-use Rattle.dwp_table.specs.declared.object.DwarfObject.{DwarfObject}
-use Rattle.thorin_executable.specs.Skeletons.{Named, Listed, skeletons_by}
-use Rattle.thorin_find.specs.Files.{Offer}
-use Rattle.thorin_find.specs.Finding.{string_count, string_of}
-use Rattle.thorin_find.specs.Listing.{AreByRow}
-use Rattle.thorin_check.specs.Apart.{AreApartIn, AreApart}
-use Rattle.thorin_check.specs.Checking.{TellsSlot, TellsSlots, TellsStringsOfAll, TellsPackage}
-use Rattle.thorin_check.specs.Checking.{TellsExecutable, TellsExecutables, status_of}
-use Rattle.thorin_check.specs.Sound.{Executables, slots, IsSoundUnit, AreNamed, NameOnce}
-use Rattle.thorin_check.specs.Sound.{HasUnitsOf, IsSound}
-use Rattle.thorin_check.specs.Faults.{IsUnread, TellsItself, is_bare, TellsInRow, TellsFound}
-use Rattle.thorin_check.specs.Faults.{TellsLooked, TellsUnit, missing_faults, TellsEnd, TellsListed}
-use Rattle.thorin_check.specs.Faults.{room_of, TellsNamed, TellsOwn, TellsString, TellsNumbered}
-use Rattle.thorin_check.specs.Faults.{strings_of, TellsStrings, TellsStringsOf, row_fault, row_end}
-use Rattle.thorin_check.specs.Faults.{TellsRowsOf}
-use Rattle.thorin_check.specs.Ends.{AllEnd}
-use Rattle.thorin_check.specs.Indexes.{versions_faults, mixed_versions, column_faults, lacks_column}
-use Rattle.thorin_check.specs.Indexes.{section_faults}
-use Rattle.dwp_table.specs.Columns.{contribution_kinds}
-use Rattle.thorin_check.specs.Own.{own_of}
+use Rattle.thorin_check.specs.Checking.{TellsExecutable, TellsExecutables, TellsPackage, TellsSlot}
+use Rattle.thorin_check.specs.Checking.{TellsSlots, TellsStringsOfAll, status_of}
+use Rattle.thorin_check.specs.Sound.{slots, IsSoundUnit, AreNamed, NameOnce, HasUnitsOf, IsSound}
+use Rattle.thorin_check.specs.Faults.{IsUnread, TellsEnd, TellsFound, TellsInRow, TellsItself}
+use Rattle.thorin_check.specs.Faults.{TellsListed, TellsLooked, TellsNamed, TellsNumbered, TellsOwn}
+use Rattle.thorin_check.specs.Faults.{TellsRowsOf, TellsString, TellsStrings, TellsStringsOf}
+use Rattle.thorin_check.specs.Faults.{TellsUnit, is_bare, missing_faults, room_of, row_end}
+use Rattle.thorin_check.specs.Faults.{row_fault, strings_of}
 use Rattle.thorin_check.specs.Strings.{HasStringsOf}
 use Rattle.thorin_check.proofs.SharedStrings.{range_ends, all_ends}
-use Rattle.thorin_check.specs.Rendering.{FaultValue}
 use Rattle.thorin_check.proofs.Own.{own_once, row_of_found}
-use Rattle.thorin_check.specs.Telling.{InTurn, ForEach, Is, fault_count}
-use Rattle.thorin_check.specs.declared.executables.Reading.{Reading}
+use Rattle.dwp_base.specs.declared.section.SectionKind.TheVariants as kinds
+use Rattle.dwp_index.specs.declared.error.PackageError.TheVariants as errors
 
 -- ---- no faults
 

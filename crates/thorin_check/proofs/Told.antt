@@ -1,30 +1,21 @@
 -- Faults that were told.
-use Rattle.std.proofs.Common.{◌≡◌, ◌∙◌, ℕ, ◌+◌, ◌-◌, ◌^◌, ◌<◌, ◌≤◌, List, [], ◌∷◌, ◌++◌, length}
-use Rattle.std.proofs.Common.{min, Option, Ok, Err, take, get_or, refl, sym, arith, rules}
-use Rattle.std.proofs.Common.{append_assoc, append-nil, take_all, ◌≢◌, Bool, true, false, codes}
-use Rattle.std.proofs.Common.{Some, None, Result, IfOk, String, string_bytes, Global, decimal, inl}
+use Rattle.thorin_check.proofs.Terms.{Bool, DwarfObject, Err, Failure, FaultValue, ForEach, Global}
+use Rattle.thorin_check.proofs.Terms.{Grows, IfOk, InTurn, IsFault, IsOfPrinting, IsSomeText}
+use Rattle.thorin_check.proofs.Terms.{IsTextOf, IsUnreadText, List, None, Ok, Option, Outcome}
+use Rattle.thorin_check.proofs.Terms.{PackageError, Prints, Progress, ReadError, Result, Some}
+use Rattle.thorin_check.proofs.Terms.{String, Tells, TellsOr, TellsText, TellsWhat, Told, UnitEntry}
+use Rattle.thorin_check.proofs.Terms.{append-nil, append_assoc, arith, codes, counted_on, decimal}
+use Rattle.thorin_check.proofs.Terms.{false, fault_text, get_or, grown, inl, length, min}
+use Rattle.thorin_check.proofs.Terms.{of_executable, of_package, of_unit, own_of, refl, result_err}
+use Rattle.thorin_check.proofs.Terms.{rules, string_bytes, sym, take, take_all, take_more, true, ℕ}
+use Rattle.thorin_check.proofs.Terms.{[], ◌++◌, ◌+◌, ◌-◌, ◌<◌, ◌^◌, ◌∙◌, ◌∷◌, ◌≡◌, ◌≢◌, ◌≤◌}
 use Rattle.std.proofs.KnownBytes.{Appends-nil, Appends-trans}
-use Rattle.std.proofs.lemmas.List.{take_more}
 use Rattle.std.proofs.lemmas.Grind.{flat_map-append}
-use Rattle.thorin_print.specs.Answers.{Grows, Prints, Outcome, IsOfPrinting}
-use Rattle.thorin_print.proofs.Printed.{grown}
 use Rattle.thorin_print.specs.declared.form.Form.{Form}
-use Rattle.thorin_check.specs.Rendering.{FaultValue, fault_text, of_unit, of_package, of_executable}
-use Rattle.thorin_check.specs.Telling.{counted_on, Progress, Told, TellsOr, Tells, IsFault, InTurn}
-use Rattle.thorin_check.specs.Telling.{ForEach}
-use Rattle.thorin_print.specs.declared.output.Failure.{Failure}
-use Rattle.std.specs.Result.{result_err}
-use Rattle.dwp_bytes.specs.declared.error.ReadError.{ReadError}
 use Rattle.dwp_index.specs.Package.{Package, FoundUnit, found}
-use Rattle.dwp_index.specs.declared.error.PackageError.{PackageError}
-use Rattle.dwp_index.specs.declared.units.UnitEntry.{UnitEntry}
-use Rattle.dwp_table.specs.declared.object.DwarfObject.{DwarfObject}
-use Rattle.thorin_check.specs.Texts.{TellsText, IsTextOf, IsSomeText, IsUnreadText, TellsWhat}
-use Rattle.thorin_check.specs.Faults.{TellsOwn, TellsItself, TellsFound, TellsUnit, is_bare}
-use Rattle.thorin_check.specs.Faults.{string_text, TellsString, TellsStrings, TellsStringsOf}
-use Rattle.thorin_check.specs.Faults.{IsBroken}
+use Rattle.thorin_check.specs.Faults.{IsBroken, TellsFound, TellsItself, TellsOwn, TellsString}
+use Rattle.thorin_check.specs.Faults.{TellsStrings, TellsStringsOf, TellsUnit, is_bare, string_text}
 use Rattle.thorin_check.specs.Overlaps.{IsClash}
-use Rattle.thorin_check.specs.Own.{own_of}
 use Rattle.thorin_print.specs.Shown.{shown}
 use Rattle.thorin_words.specs.Printed.{printed}
 

@@ -1,4 +1,4 @@
-use Rattle.std.proofs.Common.{sym}
+use Rattle.thorin_check.proofs.Terms.{sym}
 use Rattle.thorin_check.proofs.Own.{abbreviations_inside, own_read, own_unread}
 use Rattle.thorin_check.proofs.abbreviations.read.Goals as goal
 

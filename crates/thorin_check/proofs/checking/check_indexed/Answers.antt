@@ -1,6 +1,5 @@
-use Rattle.std.proofs.Common.{refl}
+use Rattle.thorin_check.proofs.Terms.{grown, refl}
 use Rattle.thorin_check.proofs.Checked.{checked, printed_some}
-use Rattle.thorin_print.proofs.Printed.{grown}
 use Rattle.thorin_check.proofs.checking.check_indexed.Goals as goal
 
 pub returns-in-Ok : goal.returns-in-Ok

@@ -1,7 +1,5 @@
-use Rattle.std.proofs.Common.{arith, refl}
-use Rattle.std.proofs.lemmas.Bool.Decides.{nat_tests}
-use Rattle.std.proofs.lemmas.Result.{err_from_is_err_and}
-use Rattle.thorin_print.proofs.Printed.{flushed, not_flushed}
+use Rattle.thorin_check.proofs.Terms.{arith, err_from_is_err_and, flushed, nat_tests, not_flushed}
+use Rattle.thorin_check.proofs.Terms.{refl}
 use Rattle.thorin_check.proofs.checking.finish.Goals as goal
 
 pub returns-in_err-print : goal.returns-in_err-print

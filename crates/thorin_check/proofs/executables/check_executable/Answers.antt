@@ -1,5 +1,4 @@
-use Rattle.std.proofs.Common.{◌≡◌, rules}
-use Rattle.std.proofs.lemmas.Result.{err_from_is_err_and}
+use Rattle.thorin_check.proofs.Terms.{err_from_is_err_and, rules, ◌≡◌}
 use Rattle.thorin_check.specs.Faults.{room_of}
 use Rattle.thorin_check.proofs.Checked.{executable_read, executable_unread, named_broken}
 use Rattle.thorin_check.proofs.executables.check_executable.Goals as goal

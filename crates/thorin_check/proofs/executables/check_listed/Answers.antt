@@ -1,8 +1,6 @@
-use Rattle.std.proofs.Common.{refl}
-use Rattle.std.proofs.lemmas.Result.{err_from_is_err_and}
-use Rattle.thorin_print.specs.Answers.{IsOfPrinting}
-use Rattle.thorin_check.proofs.Checked.{on_next, on_long, on_end, on_bare, broken_behind}
-use Rattle.thorin_check.proofs.Checked.{left_shorter}
+use Rattle.thorin_check.proofs.Terms.{IsOfPrinting, err_from_is_err_and, refl}
+use Rattle.thorin_check.proofs.Checked.{broken_behind, left_shorter, on_bare, on_end, on_long}
+use Rattle.thorin_check.proofs.Checked.{on_next}
 use Rattle.thorin_check.proofs.Told.{none_told, told_then, told_as, then_or, stopped_behind}
 use Rattle.thorin_check.proofs.executables.check_listed.Goals as goal
 

@@ -1,5 +1,4 @@
-use Rattle.std.proofs.Common.{length}
-use Rattle.thorin_check.specs.Telling.{so_far, Told}
+use Rattle.thorin_check.proofs.Terms.{Told, length, so_far}
 use Rattle.thorin_check.proofs.Checked.{GoesOn}
 use Rattle.thorin_check.proofs.executables.check_listed.Given as goal
 

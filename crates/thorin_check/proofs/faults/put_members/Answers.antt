@@ -1,4 +1,4 @@
-use Rattle.std.proofs.Common.{◌++◌, ◌∙◌, ap, append_assoc, codes, string_bytes, sym}
+use Rattle.thorin_check.proofs.Terms.{ap, append_assoc, codes, string_bytes, sym, ◌++◌, ◌∙◌}
 use Rattle.thorin_print.specs.declared.form.Form.TheVariants.{Json}
 use Rattle.thorin_print.specs.Spelled.{spelled}
 use Rattle.thorin_find.specs.Lines.{json_unit}

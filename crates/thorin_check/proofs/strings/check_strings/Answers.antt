@@ -1,10 +1,6 @@
-use Rattle.std.proofs.Common.{Ok, sym, ◌∙◌}
-use Rattle.std.specs.List.{All}
+use Rattle.thorin_check.proofs.Terms.{All, IsOfUnit, Ok, err_from_is_err_and, none_grown, sym, ◌∙◌}
 use Rattle.std.proofs.lemmas.List.Sorted.{All-permutation}
-use Rattle.std.proofs.lemmas.Result.{err_from_is_err_and}
-use Rattle.thorin_print.proofs.Printed.{none_grown}
-use Rattle.thorin_check.specs.Gathered.{IsOfUnit}
-use Rattle.thorin_check.proofs.Distinct.{first_none, first_again, first_more, first_all}
+use Rattle.thorin_check.proofs.Distinct.{first_again, first_all, first_more, first_none}
 use Rattle.thorin_check.proofs.Distinct.{listed_before}
 use Rattle.thorin_check.proofs.SharedStrings.{same_range}
 use Rattle.thorin_check.proofs.Told.{none_told, told_then, told_as, stopped_behind}

@@ -1,4 +1,4 @@
-use Rattle.thorin_check.specs.Telling.{so_far, Told}
+use Rattle.thorin_check.proofs.Terms.{Told, so_far}
 use Rattle.thorin_check.proofs.Distinct.{TellsFirst}
 use Rattle.thorin_check.proofs.strings.check_strings.Given as goal
 

@@ -1,8 +1,6 @@
-use Rattle.std.proofs.Common.{Ok, arith, refl}
+use Rattle.thorin_check.proofs.Terms.{Ok, arith, err_from_is_err_and, refl, string_of}
 use Rattle.std.proofs.lemmas.List.FromFn.{map-range_with_len_more}
-use Rattle.std.proofs.lemmas.Result.{err_from_is_err_and}
 use Rattle.thorin_check.specs.Faults.{TellsNumbered}
-use Rattle.thorin_find.specs.Finding.{string_of}
 use Rattle.thorin_check.proofs.Told.{text_told, text_stopped, strings_some, none_told, told_more}
 use Rattle.thorin_check.proofs.SharedStrings.{of_found}
 use Rattle.thorin_check.proofs.strings.check_strings_of.Goals as goal

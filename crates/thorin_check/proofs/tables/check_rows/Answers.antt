@@ -1,5 +1,4 @@
-use Rattle.std.proofs.lemmas.Result.{err_from_is_err_and}
-use Rattle.std.proofs.Common.{◌∙◌, sym}
+use Rattle.thorin_check.proofs.Terms.{err_from_is_err_and, sym, ◌∙◌}
 use Rattle.thorin_check.proofs.NamedRows.{covers_none, covers_told, covers_all}
 use Rattle.thorin_check.proofs.Told.{none_told, then_or, stopped_behind}
 use Rattle.thorin_check.proofs.tables.check_rows.Goals as goal

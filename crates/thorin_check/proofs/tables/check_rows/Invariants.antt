@@ -1,4 +1,4 @@
-use Rattle.thorin_check.specs.Telling.{so_far, Told}
+use Rattle.thorin_check.proofs.Terms.{Told, so_far}
 use Rattle.thorin_check.proofs.NamedRows.{Covers}
 use Rattle.thorin_check.proofs.tables.check_rows.Given as goal
 

@@ -1,6 +1,5 @@
-use Rattle.std.proofs.Common.{◌≡◌, ◌&&◌, not, rules}
-use Rattle.std.proofs.lemmas.Result.{err_from_is_err_and}
-use Rattle.dwp_table.specs.Columns.{contribution_kinds}
+use Rattle.thorin_check.proofs.Terms.{contribution_kinds, err_from_is_err_and, not, rules, ◌&&◌}
+use Rattle.thorin_check.proofs.Terms.{◌≡◌}
 use Rattle.thorin_check.specs.Faults.{lacks_abbreviations, lacks_strings}
 use Rattle.thorin_check.proofs.Told.{in_turn, in_turn_or, stopped_behind, told_all, told_next}
 use Rattle.thorin_check.proofs.Told.{told_then}

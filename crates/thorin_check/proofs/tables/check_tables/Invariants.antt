@@ -1,7 +1,4 @@
-use Rattle.std.proofs.Common.{take}
-use Rattle.dwp_table.specs.Columns.{contribution_kinds}
-use Rattle.thorin_check.specs.Indexes.{TellsColumns}
-use Rattle.thorin_check.specs.Telling.{so_far, Told}
+use Rattle.thorin_check.proofs.Terms.{TellsColumns, Told, contribution_kinds, so_far, take}
 use Rattle.thorin_check.proofs.tables.check_tables.Given as goal
 
 -- the faults of the sections so far

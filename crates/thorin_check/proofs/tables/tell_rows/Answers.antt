@@ -1,5 +1,4 @@
-use Rattle.std.proofs.lemmas.Result.{err_from_is_err_and}
-use Rattle.std.proofs.Common.{◌≡◌, Ok, Err, arith, rules}
+use Rattle.thorin_check.proofs.Terms.{Err, Ok, arith, err_from_is_err_and, rules, ◌≡◌}
 use Rattle.thorin_check.specs.Faults.{row_text}
 use Rattle.thorin_check.proofs.NamedRows.{row_or}
 use Rattle.thorin_check.proofs.tables.tell_rows.Goals as goal

@@ -1,5 +1,5 @@
+use Rattle.thorin_check.proofs.Terms.{Is, Told, so_far}
 use Rattle.thorin_check.specs.Faults.{row_faults}
-use Rattle.thorin_check.specs.Telling.{so_far, Told, Is}
 use Rattle.thorin_check.proofs.tables.tell_rows.Given as goal
 
 -- the faults so far

@@ -1,4 +1,4 @@
-use Rattle.std.proofs.lemmas.Result.{err_from_is_err_and}
+use Rattle.thorin_check.proofs.Terms.{err_from_is_err_and}
 use Rattle.thorin_check.proofs.Distinct.{text_made, text_seen, seen_next, units_apart, units_then}
 use Rattle.thorin_check.proofs.Told.{text_stopped, then_or, told_all}
 use Rattle.thorin_check.proofs.units.check_units.Goals as goal

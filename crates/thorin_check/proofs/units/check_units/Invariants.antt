@@ -1,6 +1,4 @@
-use Rattle.std.proofs.Common.{take}
-use Rattle.thorin_check.specs.Gathered.{IsSeen, TellsSeen}
-use Rattle.thorin_check.specs.Telling.{so_far, Told, ForEach}
+use Rattle.thorin_check.proofs.Terms.{ForEach, IsSeen, TellsSeen, Told, so_far, take}
 use Rattle.thorin_check.proofs.units.check_units.Given as goal
 
 -- the faults of the entries so far

@@ -1,5 +1,4 @@
-use Rattle.std.proofs.Common.{sym, ◌∙◌}
-use Rattle.thorin_check.specs.declared.abbreviations.PlaceRead.{PlaceRead}
+use Rattle.thorin_check.proofs.Terms.{PlaceRead, sym, ◌∙◌}
 use Rattle.thorin_check.proofs.Own.{known_again, known_more, places_same, read_at}
 use Rattle.thorin_check.proofs.abbreviations.Remembered.text_of.Goals as goal
 

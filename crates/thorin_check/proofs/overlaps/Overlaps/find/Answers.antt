@@ -1,5 +1,4 @@
-use Rattle.std.proofs.Common.{take_all}
-use Rattle.dwp_table.specs.Columns.{contribution_kinds}
+use Rattle.thorin_check.proofs.Terms.{contribution_kinds, take_all}
 use Rattle.thorin_check.proofs.Apart.{apart_on}
 use Rattle.thorin_check.proofs.overlaps.Overlaps.find.Goals as goal
 

@@ -1,4 +1,4 @@
-use Rattle.std.proofs.Common.{arith}
+use Rattle.thorin_check.proofs.Terms.{arith}
 use Rattle.thorin_check.proofs.Apart.{gone_on, is_behind}
 use Rattle.thorin_check.proofs.overlaps.Overlaps.mark_twins.Goals as goal
 

@@ -1,4 +1,4 @@
-use Rattle.std.proofs.Common.{◌≡◌, false}
+use Rattle.thorin_check.proofs.Terms.{false, ◌≡◌}
 use Rattle.thorin_check.proofs.Apart.{GoneThrough}
 use Rattle.thorin_check.proofs.overlaps.Overlaps.mark_twins.Given as goal
 

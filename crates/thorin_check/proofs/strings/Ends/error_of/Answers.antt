@@ -1,6 +1,4 @@
-use Rattle.std.proofs.Common.{arith}
-use Rattle.std.proofs.lemmas.Bool.Decides.{nat_tests}
-use Rattle.dwp_bytes.specs.StringOffsets.{string_at, string_in}
+use Rattle.thorin_check.proofs.Terms.{arith, nat_tests, string_at, string_in}
 use Rattle.thorin_check.proofs.SharedStrings.{none_there}
 use Rattle.thorin_check.proofs.strings.Ends.error_of.Goals as goal
 

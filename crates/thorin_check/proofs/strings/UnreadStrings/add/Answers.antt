@@ -1,5 +1,5 @@
-use Rattle.std.proofs.Common.{refl, arith, sym, ◌∙◌}
-use Rattle.thorin_check.proofs.SharedStrings.{of_found, read_added, listed_added, last_added}
+use Rattle.thorin_check.proofs.Terms.{arith, refl, sym, ◌∙◌}
+use Rattle.thorin_check.proofs.SharedStrings.{last_added, listed_added, of_found, read_added}
 use Rattle.thorin_check.proofs.SharedStrings.{same_range}
 use Rattle.thorin_check.proofs.strings.UnreadStrings.add.Goals as goal
 
