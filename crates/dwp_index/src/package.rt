@@ -59,14 +59,8 @@ impl<'a> PackageFile<'a> {
     pub fn parse(bytes: &'a [u8]) -> Result<PackageFile<'a>, PackageError>
         ensures { Answers (λ x. x) result (package_of bytes.now) }
     {
-        let file = match ElfFile::parse(bytes) {
-            Ok(file) => file,
-            Err(e) => return Err(PackageError::Elf(e)),
-        };
-        let contents = match Contents::read(&file) {
-            Ok(contents) => contents,
-            Err(e) => return Err(PackageError::Elf(e)),
-        };
+        let file = ElfFile::parse(bytes).map_err(PackageError::Elf)?;
+        let contents = Contents::read(&file).map_err(PackageError::Elf)?;
         let order = file.endianness();
         let compilations = read_index(contents.of(SectionKind::CuIndex), order)?;
         let types = read_index(contents.of(SectionKind::TuIndex), order)?;
