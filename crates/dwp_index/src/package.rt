@@ -291,10 +291,8 @@ pub fn read_index<'a>(
     if bytes.is_empty() {
         return Ok(None);
     }
-    match UnitIndex::parse(bytes, order) {
-        Ok(index) => Ok(Some(index)),
-        Err(e) => Err(PackageError::Index(e)),
-    }
+    let index = UnitIndex::parse(bytes, order).map_err(PackageError::Index)?;
+    Ok(Some(index))
 }
 
 /// The row of a number, counted from 1: `UnitIndex::row` with an error of packages.
