@@ -303,10 +303,7 @@ pub fn read_index<'a>(
 pub fn read_row<'a>(index: &UnitIndex<'a>, number: u32) -> Result<Row<'a>, PackageError>
     ensures { Answers (λ x. x) result (as_error errors.Index (row_in index.now number)) }
 {
-    match index.row(number) {
-        Ok(row) => Ok(row),
-        Err(e) => Err(PackageError::Index(e)),
-    }
+    index.row(number).map_err(PackageError::Index)
 }
 
 /// The first section, in the order of columns, that a range of the row isn't inside of.
