@@ -261,10 +261,7 @@ impl<'a> PackageFile<'a> {
         }
         let place = place_of(object, row.range(SectionKind::Types));
         let bytes = row_bytes(&self.contents, &row, kind_of(place));
-        let encoding = match encoding_in(bytes, self.order, place) {
-            Ok(encoding) => encoding,
-            Err(e) => return Err(PackageError::Unit(e)),
-        };
+        let encoding = encoding_in(bytes, self.order, place).map_err(PackageError::Unit)?;
         Ok(PackagedUnit {
             order: self.order,
             contents: self.contents,
