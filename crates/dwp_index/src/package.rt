@@ -11,7 +11,7 @@ ghost use Rattle.dwp_table.specs.Table.{IsIndex, FindsExactly};
 ghost use Rattle.dwp_index.specs.Finding.{row_number, slots_for};
 ghost use Rattle.dwp_index.specs.Index.{Index, row_in};
 ghost use Rattle.dwp_index.specs.Package.{as_error, package_of, index_in_section};
-ghost use Rattle.dwp_index.specs.Package.{index_for, first_outside, unit_in, found_counted, found};
+ghost use Rattle.dwp_index.specs.Package.{index_for, first_outside, found_counted, found};
 ghost use Rattle.dwp_index.specs.Package.{first_byte, row_counted};
 ghost use Rattle.dwp_index.specs.declared.error.PackageError.TheVariants as errors;
 
@@ -145,7 +145,7 @@ impl<'a> PackageFile<'a> {
     ///
     /// # Errors
     /// Those of `find`.
-    #[tactic(auto, unfolding(crate::specs::Package::found_counted, crate::specs::Package::unit_at_row))]
+    #[tactic(auto, unfolding(crate::specs::Package::found_counted, crate::specs::Package::unit_at_row, crate::specs::Package::unit_in))]
     pub fn find_counted(
         &self,
         object: DwarfObject,
@@ -171,7 +171,22 @@ impl<'a> PackageFile<'a> {
                     None => Ok((None, count)),
                     Some(number) => {
                         let row = read_row(index, number)?;
-                        let unit = self.unit_in(object, number, row)?;
+                        if let Some(kind) = first_outside(&self.contents, &row) {
+                            return Err(PackageError::Range(kind));
+                        }
+                        let place = place_of(object, row.range(SectionKind::Types));
+                        let bytes = row_bytes(&self.contents, &row, kind_of(place));
+                        let encoding = encoding_in(bytes, self.order, place).map_err(
+                            PackageError::Unit,
+                        )?;
+                        let unit = PackagedUnit {
+                            order: self.order,
+                            contents: self.contents,
+                            number,
+                            row,
+                            bytes,
+                            encoding,
+                        };
                         Ok((Some(unit), count))
                     }
                 }
@@ -243,33 +258,6 @@ impl<'a> PackageFile<'a> {
             DwarfObject::Compilation(_) => self.compilation_index(),
             DwarfObject::TypeUnit(_) => self.type_index(),
         }
-    }
-
-    /// The unit of a row.
-    #[tactic(auto, unfolding(crate::specs::Package::unit_in))]
-    fn unit_in(
-        &self,
-        object: DwarfObject,
-        number: u32,
-        row: Row<'a>,
-    ) -> Result<PackagedUnit<'a>, PackageError>
-        ensures unit { Answers (λ x. x) result (unit_in self.now object number row.entry) }
-        ensures number { IfOk result (λ unit. unit.number ≡ number) }
-    {
-        if let Some(kind) = first_outside(&self.contents, &row) {
-            return Err(PackageError::Range(kind));
-        }
-        let place = place_of(object, row.range(SectionKind::Types));
-        let bytes = row_bytes(&self.contents, &row, kind_of(place));
-        let encoding = encoding_in(bytes, self.order, place).map_err(PackageError::Unit)?;
-        Ok(PackagedUnit {
-            order: self.order,
-            contents: self.contents,
-            number,
-            row,
-            bytes,
-            encoding,
-        })
     }
 }
 
