@@ -110,15 +110,11 @@ pub fn part_of<'a>(bytes: &'a [u8], range: Option<Contribution>) -> &'a [u8]
     ensures { result.now ≡ part_of bytes.now range }
 {
     match range {
-        None => &[],
-        Some(range) => {
-            if lies_inside(bytes, range) {
-                let start = range.offset.0 as usize;
-                &bytes[start..start + range.size as usize]
-            } else {
-                &[]
-            }
+        Some(range) if lies_inside(bytes, range) => {
+            let start = range.offset.0 as usize;
+            &bytes[start..start + range.size as usize]
         }
+        _ => &[],
     }
 }
 
