@@ -141,12 +141,9 @@ pub(crate) fn row_bytes<'a>(contents: &Contents<'a>, row: &Row<'a>, kind: Sectio
 pub fn place_of(object: DwarfObject, range: Option<Contribution>) -> UnitSection
     ensures { result ≡ place_of object range }
 {
-    match object {
-        DwarfObject::Compilation(_) => UnitSection::Info,
-        DwarfObject::TypeUnit(_) => match range {
-            None => UnitSection::Info,
-            Some(_) => UnitSection::Types,
-        },
+    match (object, range) {
+        (DwarfObject::TypeUnit(_), Some(_)) => UnitSection::Types,
+        _ => UnitSection::Info,
     }
 }
 
