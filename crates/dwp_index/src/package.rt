@@ -229,9 +229,7 @@ impl<'a> PackageFile<'a> {
     {
         let index = self.index_for(object)?;
         let number = index.find(object.index())?;
-        let Ok(row) = index.row(number) else {
-            return None;
-        };
+        let row = index.row(number).ok()?;
         let kind = kind_of(place_of(object, row.range(SectionKind::Types)));
         let range = row.range(kind)?;
         self.contents.of(kind).get(range.offset.0 as usize).copied()
