@@ -6,32 +6,20 @@ use Rattle.dwp_elf_read.proofs.section.stands_at.Goals as goal
 use Rattle.dwp_elf_read.proofs.section.stands_at.Goals.{then-text-rest-via-then-text-rest}
 use Rattle.dwp_elf_read.proofs.section.stands_at.Goals.{then-text-rest-via-else-text-rest+then-rest-text-ne0}
 
-pub returns-then-text-rest-clause-exact : goal.returns-then-text-rest-clause-exact
-returns-then-text-rest-clause-exact c whole =
-    no_end _ _ c.args.text.now _ c.split_at.ensures.back (λ within nul.
+pub returns-then-text-rest : goal.returns-then-text-rest
+returns-then-text-rest c =
+    let no = no_end _ _ c.args.text.now _ c.split_at.ensures.back (λ within nul.
     elim c.then-text-rest.branch [
       | then-text-rest-via-then-text-rest w ↦ omega (arith, within, w.if-text-rest.true)
       | then-text-rest-via-else-text-rest+then-rest-text-ne0 w ↦ w.if-rest-text-ne0.true nul
-    ])
+    ]) in
+    record { exact = λ whole. no; other = λ same. sym no }
 
-pub returns-then-text-rest-clause-other : goal.returns-then-text-rest-clause-other
-returns-then-text-rest-clause-other c same =
-    sym (no_end _ _ c.args.text.now _ c.split_at.ensures.back (λ within nul.
-    elim c.then-text-rest.branch [
-      | then-text-rest-via-then-text-rest w ↦ omega (arith, within, w.if-text-rest.true)
-      | then-text-rest-via-else-text-rest+then-rest-text-ne0 w ↦ w.if-rest-text-ne0.true nul
-    ]))
-
-pub returns-clause-exact : goal.returns-clause-exact
-returns-clause-exact c =
-    (by_bytes _ _ _ _ c.args.text.now _ _ c.split_at.ensures.back c.split_at-2.ensures.front
-    c.as_bytes.ensures.value c.eq.ensures (omega (arith, c.if-text-rest.false))
-    c.if-rest-text-ne0.false (ap is_utf8 (sym c.as_bytes.ensures.value)
-    ∙ is_utf8-from_IsUtf8 _ c.as_bytes.ensures.utf8)).0
-
-pub returns-clause-other : goal.returns-clause-other
-returns-clause-other c =
-    (by_bytes _ _ _ _ c.args.text.now _ _ c.split_at.ensures.back c.split_at-2.ensures.front
-    c.as_bytes.ensures.value c.eq.ensures (omega (arith, c.if-text-rest.false))
-    c.if-rest-text-ne0.false (ap is_utf8 (sym c.as_bytes.ensures.value)
-    ∙ is_utf8-from_IsUtf8 _ c.as_bytes.ensures.utf8)).1
+pub returns : goal.returns
+returns c =
+    let told = by_bytes _ _ _ _ c.args.text.now _ _ c.split_at.ensures.back
+    c.split_at-2.ensures.front c.as_bytes.ensures.value c.eq.ensures
+    (omega (arith, c.if-text-rest.false)) c.if-rest-text-ne0.false
+    (ap is_utf8 (sym c.as_bytes.ensures.value)
+    ∙ is_utf8-from_IsUtf8 _ c.as_bytes.ensures.utf8) in
+    record { exact = told.0; other = told.1 }
