@@ -137,6 +137,33 @@ impl<'a> Table<'a> {
     }
 }
 
+impl<'a> Section<'a> {
+    ghost use Rattle.dwp_elf_read.specs.Relocation.{relocations_of};
+    ghost use Rattle.dwp_elf_read.specs.View.{section, file, relocations_left};
+
+    /// The relocations of this section, in file order: those of every section of relocations that
+    /// names it.
+    #[tactic(auto, unfolding(crate::specs::View::section, crate::specs::View::file, crate::specs::Elf::section_of, crate::specs::View::relocations_left, crate::specs::View::entries_left, crate::specs::Relocation::entries_from, crate::specs::View::elf))]
+    pub fn relocations(&self) -> Relocations<'a>
+        ensures { relocations_left result
+            ≡ relocations_of (file self.now) (section self.now).number }
+    {
+        let table = Table {
+            entries: self.file.image.with_bytes(&[]),
+            explicit: false,
+            link: 0,
+            next: 0,
+            count: 0,
+        };
+        Relocations {
+            file: self.file,
+            target: self.number,
+            section: 0,
+            table,
+        }
+    }
+}
+
 /// The relocations of a section, in file order. It ends after the first table that can't be read.
 #[derive(Clone, Copy)]
 pub struct Relocations<'a> {
@@ -149,27 +176,7 @@ pub struct Relocations<'a> {
 #[tactic(auto, using(crate::proofs::Places::left_passed, crate::proofs::Places::left_entered, crate::proofs::Places::left_done), unfolding(crate::specs::View::relocations_left, crate::specs::View::entries_left, crate::specs::Relocation::entries_from, crate::specs::Relocation::relocates, crate::specs::View::elf))]
 impl<'a> Relocations<'a> {
     ghost use Rattle.std.specs.Prelude.{◌<◌, [], ◌∷◌, OnOk, OnErr, IfErr};
-    ghost use Rattle.dwp_elf_read.specs.View.{elf, entries_left, relocations_left};
-    ghost use Rattle.dwp_elf_read.specs.Relocation.{relocations_of};
-
-    /// The relocations of the section numbered `target`.
-    pub(crate) fn of(file: ElfFile<'a>, target: usize) -> Relocations<'a>
-        ensures { relocations_left result ≡ relocations_of (elf file.entry) target }
-    {
-        let table = Table {
-            entries: file.image.with_bytes(&[]),
-            explicit: false,
-            link: 0,
-            next: 0,
-            count: 0,
-        };
-        Relocations {
-            file,
-            target,
-            section: 0,
-            table,
-        }
-    }
+    ghost use Rattle.dwp_elf_read.specs.View.{entries_left, relocations_left};
 
     /// Goes on to the next section, and to its entries if it has some of the section.
     fn pass_section(&mut self) -> Result<(), ReadError>

@@ -6,7 +6,6 @@ ghost use Rattle.dwp_elf_read.specs.Elf.{text_at, name_is};
 use crate::error::ReadError;
 use crate::file::ElfFile;
 use crate::image::{SHT_NOBITS, SectionHeader};
-use crate::relocation::Relocations;
 use dwp_base::SectionKind;
 use memchr::memchr;
 
@@ -68,8 +67,7 @@ impl<'a> Section<'a> {
     ghost use Rattle.dwp_elf_read.specs.Elf.{is_empty, has_compressed_flag};
     ghost use Rattle.dwp_elf_read.specs.Elf.{is_named, is_of, has_older_name, holds};
     ghost use Rattle.dwp_elf_read.specs.Compared.{with_own};
-    ghost use Rattle.dwp_elf_read.specs.Relocation.{relocations_of};
-    ghost use Rattle.dwp_elf_read.specs.View.{section, file, file_bytes, relocations_left};
+    ghost use Rattle.dwp_elf_read.specs.View.{section, file_bytes};
 
     /// The section's number.
     pub fn number(&self) -> usize
@@ -215,16 +213,6 @@ impl<'a> Section<'a> {
             range.0 + range.1 ≤ length (file_bytes self.now)) }
     {
         self.file.image.range(&self.header)
-    }
-
-    /// The relocations of this section, in file order: those of every section of relocations that
-    /// names it.
-    #[tactic(auto, unfolding(crate::specs::View::section, crate::specs::View::file, crate::specs::Elf::section_of))]
-    pub fn relocations(&self) -> Relocations<'a>
-        ensures { relocations_left result
-            ≡ relocations_of (file self.now) (section self.now).number }
-    {
-        Relocations::of(self.file, self.number)
     }
 
     /// Whether the section has the number of another, and its type, address, link and info.
