@@ -4,7 +4,7 @@ ghost use Rattle.std.specs.Prelude.{◌+◌, ◌*◌, ◌≤◌, length};
 ghost use Rattle.dwp_elf_read.specs.Layout.{entry_size};
 
 use crate::error::ReadError;
-use crate::image::Image;
+use crate::image::{FileHeader, Image, word_size_of};
 use crate::kind::identity;
 use crate::section::{Section, Sections};
 use dwp_base::{Class, Endianness};
@@ -38,7 +38,7 @@ impl<'a> ElfFile<'a> {
     /// The first error, in this order: `TooShort` below 16 bytes, `NotElf`, `TooShort` below a
     /// header of the class, `ByteOrder`, `Version`, `SectionEntrySize`, `SectionTable` and
     /// `NameTable`.
-    #[tactic(auto, unfolding(crate::specs::Elf::elf_of, crate::specs::View::elf, crate::specs::View::sections_after, crate::specs::View::bytes_of))]
+    #[tactic(auto, unfolding(crate::specs::Elf::elf_of, crate::specs::Layout::file_header_of, crate::specs::View::elf, crate::specs::View::sections_after, crate::specs::View::bytes_of))]
     pub fn parse(bytes: &'a [u8]) -> Result<ElfFile<'a>, ReadError>
         ensures meaning { Answers elf result (elf_of bytes.now) }
         ensures of_bytes { IfOk result (λ file. bytes_of file ≡ bytes.now) }
@@ -49,7 +49,14 @@ impl<'a> ElfFile<'a> {
             order,
             bytes,
         };
-        let header = image.file_header();
+        let word = word_size_of(class);
+        let header = FileHeader {
+            machine: image.u16_at(18),
+            table: image.word_at(24 + 2 * word),
+            entry_size: image.u16_at(34 + 3 * word),
+            count: image.u16_at(36 + 3 * word),
+            names: image.u16_at(38 + 3 * word),
+        };
         let count = image.count_sections(&header)?;
         let names = image.names(&header, count)?;
         Ok(ElfFile {

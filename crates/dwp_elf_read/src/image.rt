@@ -5,8 +5,8 @@ ghost use Rattle.std.specs.Prelude.{◌≡◌, ◌+◌, ◌*◌, ◌^◌, ◌<�
 ghost use Rattle.std.specs.Prelude.{IfOk, IfSome, OnOk};
 ghost use Rattle.std.specs.Option.{option_copied};
 ghost use Rattle.dwp_base.specs.Reading.{Answers};
-ghost use Rattle.dwp_elf_read.specs.Layout.{word_size, header_size, entry_size, number_at};
-ghost use Rattle.dwp_elf_read.specs.Layout.{is_inside, file_header_of, section_header_of};
+ghost use Rattle.dwp_elf_read.specs.Layout.{word_size, entry_size, number_at};
+ghost use Rattle.dwp_elf_read.specs.Layout.{is_inside, section_header_of};
 ghost use Rattle.dwp_elf_read.specs.Elf.{section_header_at, section_content, named_count};
 ghost use Rattle.dwp_elf_read.specs.Elf.{section_count, name_table_number, name_table};
 
@@ -136,23 +136,6 @@ impl<'a> Image<'a> {
     {
         let end = self.bytes.len() as u64;
         place <= end && size <= end - place
-    }
-
-    /// The file's header.
-    #[tactic(auto, unfolding(crate::specs::Layout::file_header_of))]
-    pub fn file_header(&self) -> FileHeader
-        requires { header_size self.now.class ≤ length self.now.bytes.now }
-        ensures { result
-            ≡ file_header_of (word_size self.now.class) self.now.order self.now.bytes.now }
-    {
-        let word = word_size_of(self.class);
-        FileHeader {
-            machine: self.u16_at(18),
-            table: self.word_at(24 + 2 * word),
-            entry_size: self.u16_at(34 + 3 * word),
-            count: self.u16_at(36 + 3 * word),
-            names: self.u16_at(38 + 3 * word),
-        }
     }
 
     /// The section header that the bytes begin with.
