@@ -3,7 +3,7 @@
 ghost use Rattle.std.specs.Prelude.{◌≡◌, ℕ, ◌+◌, ◌≤◌, ◌<◌, ◌^◌, ◌*◌, ◌++◌, [], List, length, take};
 ghost use Rattle.dwp_elf_read.specs.Layout.{header_size, entry_size, word_size};
 ghost use Rattle.dwp_elf.specs.FileText.{identification, file_header, section_header};
-ghost use Rattle.dwp_elf.specs.FileText.{half, word, wide};
+ghost use Rattle.dwp_elf.specs.FileText.{word, wide};
 
 use dwp_base::{Class, Endianness};
 use std::marker::Model;
@@ -58,15 +58,6 @@ impl Gathered {
         let end = self.len + bytes.len();
         self.bytes[self.len..end].copy_from_slice(bytes);
         self.len = end;
-    }
-
-    /// Adds a number of 2 bytes.
-    fn put_half(&mut self, order: Endianness, x: u16)
-        requires { length self.old + 2 ≤ 64 }
-        ensures after { self.new ≡ self.old ++ half order x }
-        ensures len { length self.new ≡ length self.old + 2 }
-    {
-        self.put(&order.bytes_of_u16(x));
     }
 
     /// Adds a number of 4 bytes.
@@ -145,19 +136,19 @@ pub fn file_header(
 {
     let mut header = Gathered::new();
     header.put(&identification(class, endianness));
-    header.put_half(endianness, RELOCATABLE);
-    header.put_half(endianness, machine);
+    header.put(&endianness.bytes_of_u16(RELOCATABLE));
+    header.put(&endianness.bytes_of_u16(machine));
     header.put_word(endianness, VERSION);
     header.put_wide(class, endianness, 0);
     header.put_wide(class, endianness, 0);
     header.put_wide(class, endianness, headers);
     header.put_word(endianness, 0);
-    header.put_half(endianness, header_size(class));
-    header.put_half(endianness, 0);
-    header.put_half(endianness, 0);
-    header.put_half(endianness, entry_size(class));
-    header.put_half(endianness, count);
-    header.put_half(endianness, count - 1);
+    header.put(&endianness.bytes_of_u16(header_size(class)));
+    header.put(&endianness.bytes_of_u16(0));
+    header.put(&endianness.bytes_of_u16(0));
+    header.put(&endianness.bytes_of_u16(entry_size(class)));
+    header.put(&endianness.bytes_of_u16(count));
+    header.put(&endianness.bytes_of_u16(count - 1));
     header
 }
 
