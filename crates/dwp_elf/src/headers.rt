@@ -3,7 +3,7 @@
 ghost use Rattle.std.specs.Prelude.{◌≡◌, ℕ, ◌+◌, ◌≤◌, ◌<◌, ◌^◌, ◌*◌, ◌++◌, [], List, length, take};
 ghost use Rattle.dwp_elf_read.specs.Layout.{header_size, entry_size, word_size};
 ghost use Rattle.dwp_elf.specs.FileText.{identification, file_header, section_header};
-ghost use Rattle.dwp_elf.specs.FileText.{word, wide};
+ghost use Rattle.dwp_elf.specs.FileText.{wide};
 
 use dwp_base::{Class, Endianness};
 use std::marker::Model;
@@ -60,15 +60,6 @@ impl Gathered {
         self.len = end;
     }
 
-    /// Adds a number of 4 bytes.
-    fn put_word(&mut self, order: Endianness, x: u32)
-        requires { length self.old + 4 ≤ 64 }
-        ensures after { self.new ≡ self.old ++ word order x }
-        ensures len { length self.new ≡ length self.old + 4 }
-    {
-        self.put(&order.bytes_of_u32(x));
-    }
-
     /// Adds an address, an offset or a size, of 4 or 8 bytes by class.
     fn put_wide(&mut self, class: Class, order: Endianness, x: u64)
         requires room { length self.old + word_size class ≤ 64 }
@@ -77,7 +68,7 @@ impl Gathered {
         ensures len { length self.new ≡ length self.old + word_size class }
     {
         match class {
-            Class::Elf32 => self.put_word(order, x as u32),
+            Class::Elf32 => self.put(&order.bytes_of_u32(x as u32)),
             Class::Elf64 => self.put(&order.bytes_of_u64(x)),
         }
     }
@@ -138,11 +129,11 @@ pub fn file_header(
     header.put(&identification(class, endianness));
     header.put(&endianness.bytes_of_u16(RELOCATABLE));
     header.put(&endianness.bytes_of_u16(machine));
-    header.put_word(endianness, VERSION);
+    header.put(&endianness.bytes_of_u32(VERSION));
     header.put_wide(class, endianness, 0);
     header.put_wide(class, endianness, 0);
     header.put_wide(class, endianness, headers);
-    header.put_word(endianness, 0);
+    header.put(&endianness.bytes_of_u32(0));
     header.put(&endianness.bytes_of_u16(header_size(class)));
     header.put(&endianness.bytes_of_u16(0));
     header.put(&endianness.bytes_of_u16(0));
@@ -168,14 +159,14 @@ pub fn section_header(
     ensures { result ≡ section_header class endianness name kind place size }
 {
     let mut header = Gathered::new();
-    header.put_word(endianness, name);
-    header.put_word(endianness, kind);
+    header.put(&endianness.bytes_of_u32(name));
+    header.put(&endianness.bytes_of_u32(kind));
     header.put_wide(class, endianness, 0);
     header.put_wide(class, endianness, 0);
     header.put_wide(class, endianness, place);
     header.put_wide(class, endianness, size);
-    header.put_word(endianness, 0);
-    header.put_word(endianness, 0);
+    header.put(&endianness.bytes_of_u32(0));
+    header.put(&endianness.bytes_of_u32(0));
     header.put_wide(class, endianness, 1);
     header.put_wide(class, endianness, 0);
     header
