@@ -1,6 +1,7 @@
 //! The layout of a file, and how its parts are written to a writer.
 
 ghost use Rattle.std.specs.Prelude.{◌≡◌, ◌+◌, ◌*◌, ◌^◌, ◌<◌, ◌≤◌, length, replicate, MatchOption};
+ghost use Rattle.std.specs.Prelude.{IfSome};
 ghost use Rattle.dwp_base.specs.Sections.{kind_count};
 ghost use Rattle.dwp_elf.specs.Contents.{contents_of};
 ghost use Rattle.dwp_elf_read.specs.Layout.{header_size, word_size};
@@ -25,29 +26,23 @@ const ZEROS: [u8; 64] = [0; 64];
 /// The name of the section that has the names.
 const NAMES: &[u8; 10] = b".shstrtab\0";
 
-/// How many bytes the contents have, None past 64 bits.
-fn content_size(sections: &[(SectionKind, Vec<u8>)]) -> Option<u64>
-    ensures { MatchOption result (2 ^ 64 ≤ length (content_bytes (contents_of sections.now)))
-        (λ n. n ≡ length (content_bytes (contents_of sections.now))) }
-{
-    let mut size = 0u64;
-    for section in sections {
-        size = size.checked_add(section.1.len() as u64)?;
-    }
-    Some(size)
-}
-
-/// How many bytes the content of `.shstrtab` has.
-fn name_table_size(sections: &[(SectionKind, Vec<u8>)]) -> u64
+/// How many bytes the contents have, None past 64 bits, and how many the content of `.shstrtab`.
+fn sizes_of(sections: &[(SectionKind, Vec<u8>)]) -> Option<(u64, u64)>
     requires { length sections.now ≤ kind_count }
-    ensures size { result ≡ length (name_table (contents_of sections.now)) }
-    ensures small { result ≤ 400 }
+    ensures contents { MatchOption result
+        (2 ^ 64 ≤ length (content_bytes (contents_of sections.now)))
+        (λ sizes. sizes.0 ≡ length (content_bytes (contents_of sections.now))) }
+    ensures names { IfSome result (λ sizes.
+        sizes.1 ≡ length (name_table (contents_of sections.now))) }
+    ensures small { IfSome result (λ sizes. sizes.1 ≤ 400) }
 {
-    let mut size = 1 + NAMES.len() as u64;
+    let mut contents = 0u64;
+    let mut names = 1 + NAMES.len() as u64;
     for section in sections {
-        size += section.0.name().len() as u64 + 1;
+        contents = contents.checked_add(section.1.len() as u64)?;
+        names += section.0.name().len() as u64 + 1;
     }
-    size
+    Some((contents, names))
 }
 
 /// Where the section headers of a file begin, and the sizes of its name table, of the zeros before
@@ -70,8 +65,8 @@ pub fn layout_of(class: Class, sections: &[(SectionKind, Vec<u8>)]) -> Option<La
     ensures { MatchOption result (PassesLimit class (contents_of sections.now))
         (IsLayout class (contents_of sections.now)) }
 {
-    let names_size = name_table_size(sections);
-    let names_place = u64::from(header_size(class)).checked_add(content_size(sections)?)?;
+    let (contents, names_size) = sizes_of(sections)?;
+    let names_place = u64::from(header_size(class)).checked_add(contents)?;
     let names_end = names_place.checked_add(names_size)?;
     let zeros = (8 - names_end % 8) % 8;
     let headers = names_end.checked_add(zeros)?;

@@ -1,0 +1,13 @@
+use Rattle.dwp_elf.proofs.Terms
+use Terms.{◌*◌, ◌+◌, content_bytes, contents_of, drop, length, name_table, names_of, ◌≡◌, ◌≤◌}
+use Rattle.dwp_elf.proofs.output.sizes_of.Given as goal
+
+abbrev pub invariant-loop-section : goal.invariant-loop-section
+invariant-loop-section l = record {
+  contents_left : l.contents
+      + length (content_bytes (contents_of (drop l.section-index l.sections)))
+      ≡ length (content_bytes (contents_of l.sections));
+  names_left : l.names + length (names_of (contents_of (drop l.section-index l.sections)))
+      ≡ length (name_table (contents_of l.sections));
+  small : l.names ≤ 11 + 25 * l.section-index;
+}
