@@ -37,17 +37,6 @@ fn number_of(sections: &[(SectionKind, Vec<u8>)], kind: SectionKind) -> Option<u
     sections.iter().position(|section| section.0.is(kind))
 }
 
-/// The length of each section's content, in their order.
-fn lengths_of(alloc: Global, sections: &[(SectionKind, Vec<u8>)]) -> Result<Vec<usize>, AllocError>
-    ensures { IfOk result (λ sizes. sizes.items ≡ lengths (contents_of sections.now)) }
-{
-    let mut sizes = Vec::new(alloc);
-    for section in sections {
-        sizes.push(section.1.len())?;
-    }
-    Ok(sizes)
-}
-
 /// Appends bytes, some at a time: longer pieces are copied byte by byte on some processors.
 fn append_by_pieces(out: &mut Vec<u8>, bytes: &[u8]) -> Result<(), AllocError>
     ensures ok { OnOk result (out.new.items ≡ out.old.items ++ bytes.now) }
@@ -215,7 +204,10 @@ impl WritableObject {
     pub fn lengths(&self) -> Result<Vec<usize>, AllocError>
         ensures { IfOk result (λ sizes. sizes.items ≡ lengths self.now.contents) }
     {
-        lengths_of(self.alloc, &self.sections)
+        self.sections
+            .iter()
+            .map(|section| section.1.len())
+            .collect(self.alloc)
     }
 
     /// Adds bytes at the end of a section's content, and tells where they are in it. The first
