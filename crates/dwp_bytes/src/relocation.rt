@@ -90,11 +90,7 @@ impl<'a, R: Reader> Clone for Relocate<'a, R> {
     ghost is_infallible = { λ _. ⊤ };
 
     fn clone(&self) -> Result<Self, AllocError> {
-        Ok(Relocate {
-            relocations: self.relocations,
-            section: self.section,
-            reader: self.reader,
-        })
+        Ok(*self)
     }
 }
 
