@@ -3,21 +3,21 @@ use Rattle.std.proofs.lemmas.Grind.{common_steps, elements}
 use Rattle.dwp_index.specs.IndexBytes.{counts_of}
 use Rattle.dwp_index.proofs.parsing.counts_of.Goals as goal
 
-pub returns-else-units-eq0-clause-exact : goal.returns-else-units-eq0-clause-exact
+pub returns-else-units-eq0 : goal.returns-else-units-eq0
 unfolding counts_of
-returns-else-units-eq0-clause-exact c = grind (arith, common_steps)
+returns-else-units-eq0 c = record {
+  exact = grind (arith, common_steps);
+  enough = grind (arith, elements);
+  slots = grind (arith, elements);
+}
 
-pub returns-then-units-eq0-clause-exact : goal.returns-then-units-eq0-clause-exact
+pub returns-then-units-eq0 : goal.returns-then-units-eq0
 unfolding counts_of
-returns-then-units-eq0-clause-exact c = grind (arith, common_steps)
-
-pub returns-else-units-eq0-clause-enough : goal.returns-else-units-eq0-clause-enough
-unfolding counts_of
-returns-else-units-eq0-clause-enough c = grind (arith, elements)
-
-pub returns-else-units-eq0-clause-slots : goal.returns-else-units-eq0-clause-slots
-unfolding counts_of
-returns-else-units-eq0-clause-slots c = grind (arith, elements)
+returns-then-units-eq0 c = record {
+  exact = grind (arith, common_steps);
+  enough = grind (arith, elements);
+  slots = grind (arith, elements);
+}
 
 pub returns-then-bytes-lt16-clause-enough : goal.returns-then-bytes-lt16-clause-enough
 unfolding counts_of
@@ -26,11 +26,3 @@ returns-then-bytes-lt16-clause-enough c = grind (arith, elements)
 pub returns-then-bytes-lt16-clause-slots : goal.returns-then-bytes-lt16-clause-slots
 unfolding counts_of
 returns-then-bytes-lt16-clause-slots c = grind (arith, elements)
-
-pub returns-then-units-eq0-clause-enough : goal.returns-then-units-eq0-clause-enough
-unfolding counts_of
-returns-then-units-eq0-clause-enough c = grind (arith, elements)
-
-pub returns-then-units-eq0-clause-slots : goal.returns-then-units-eq0-clause-slots
-unfolding counts_of
-returns-then-units-eq0-clause-slots c = grind (arith, elements)
