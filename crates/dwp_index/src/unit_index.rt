@@ -10,7 +10,6 @@ ghost use Rattle.dwp_index.specs.IndexBytes.{index_of};
 use crate::parsing::{after, after_rows, counts_of, read_columns, read_u32_at, tail, version_of};
 use dwp_base::{ByKind, Contribution, ContributionOffset, Endianness, SectionKind};
 use dwp_bytes::ReadError;
-use dwp_table::laws::look_up_finds_exactly;
 use dwp_table::{first_place, place_after};
 use std::marker::Model;
 
@@ -150,15 +149,6 @@ impl<'a> UnitIndex<'a> {
             → FindsExactly ids identifier result.0 result.1 }
         ensures few { (ids : List ℕ) → IsIndex ids self.now.signatures self.now.rows
             → result.1 ≤ length ids + 1 }
-    {
-        look_up_finds_exactly();
-        self.look_up(identifier)
-    }
-
-    #[inline(always)]
-    fn look_up(&self, identifier: u64) -> (Option<u32>, u32)
-        ensures row { result.0 ≡ found_row self.now.signatures self.now.rows identifier }
-        ensures count { result.1 ≡ look_count self.now.signatures self.now.rows identifier }
     {
         if self.slot_count == 0 {
             return (None, 0);

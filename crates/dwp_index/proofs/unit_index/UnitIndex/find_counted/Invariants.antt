@@ -1,5 +1,5 @@
 use Rattle.dwp_index.proofs.Views.{IsLooking}
-use Rattle.dwp_index.proofs.unit_index.UnitIndex.look_up.Given as goal
+use Rattle.dwp_index.proofs.unit_index.UnitIndex.find_counted.Given as goal
 
 abbrev pub invariant-loop-looked : goal.invariant-loop-looked
 invariant-loop-looked l =
