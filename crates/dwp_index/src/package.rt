@@ -17,7 +17,7 @@ ghost use Rattle.dwp_index.specs.declared.error.PackageError.TheVariants as erro
 
 use crate::contents::Contents;
 use crate::error::PackageError;
-use crate::unit::{PackagedUnit, encoding_in, kind_of, lies_inside, place_of, row_bytes};
+use crate::unit::{PackagedUnit, encoding_in, kind_of, lies_inside, part_of, place_of};
 use crate::unit_index::{Row, UnitIndex};
 use crate::units::Units;
 use dwp_base::{Endianness, SectionKind};
@@ -145,7 +145,7 @@ impl<'a> PackageFile<'a> {
     ///
     /// # Errors
     /// Those of `find`.
-    #[tactic(auto, unfolding(crate::specs::Package::found_counted, crate::specs::Package::unit_at_row, crate::specs::Package::unit_in))]
+    #[tactic(auto, unfolding(crate::specs::Package::found_counted, crate::specs::Package::unit_at_row, crate::specs::Package::unit_in, crate::specs::Package::row_bytes))]
     pub fn find_counted(
         &self,
         object: DwarfObject,
@@ -175,7 +175,8 @@ impl<'a> PackageFile<'a> {
                             return Err(PackageError::Range(kind));
                         }
                         let place = place_of(object, row.range(SectionKind::Types));
-                        let bytes = row_bytes(&self.contents, &row, kind_of(place));
+                        let kind = kind_of(place);
+                        let bytes = part_of(self.contents.of(kind), row.range(kind));
                         let encoding = encoding_in(bytes, self.order, place).map_err(
                             PackageError::Unit,
                         )?;

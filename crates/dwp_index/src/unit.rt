@@ -6,7 +6,6 @@ ghost use Rattle.dwp_base.specs.Reading.{Answers};
 ghost use Rattle.dwp_bytes.specs.StringOffsets.{string_in};
 ghost use Rattle.dwp_units.specs.declared.unit.UnitSection.{UnitSection};
 ghost use Rattle.dwp_index.specs.Contents.{content};
-ghost use Rattle.dwp_index.specs.ContentFields.{contents_in};
 ghost use Rattle.dwp_index.specs.Index.{range_in};
 ghost use Rattle.dwp_index.specs.Package.{part_of, lies_inside, row_bytes, kind_of, place_of};
 ghost use Rattle.dwp_index.specs.Package.{encoding_in};
@@ -77,10 +76,11 @@ impl<'a> PackagedUnit<'a> {
     }
 
     /// The bytes of the unit's range in a section; none where it has no range.
+    #[tactic(auto, unfolding(crate::specs::Package::row_bytes))]
     pub fn section(&self, kind: SectionKind) -> &'a [u8]
         ensures { result.now ≡ row_bytes self.now.contents self.now.row kind }
     {
-        row_bytes(&self.contents, &self.row, kind)
+        part_of(self.contents.of(kind), self.row.range(kind))
     }
 
     /// The string of a number, by the unit's own encoding; None past the last whole entry of its
@@ -125,14 +125,6 @@ pub fn lies_inside(bytes: &[u8], range: Contribution) -> bool
 {
     let len = bytes.len() as u64;
     range.offset.0 <= len && range.size <= len - range.offset.0
-}
-
-/// The bytes of a row's range in a section; none where it has no such range.
-#[tactic(auto, unfolding(crate::specs::Package::row_bytes))]
-pub(crate) fn row_bytes<'a>(contents: &Contents<'a>, row: &Row<'a>, kind: SectionKind) -> &'a [u8]
-    ensures { result.now ≡ row_bytes (contents_in contents.now) row.now kind }
-{
-    part_of(contents.of(kind), row.range(kind))
 }
 
 /// The section that a unit's own bytes stand in: a type unit's may be those of types, by its range
