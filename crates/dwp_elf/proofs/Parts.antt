@@ -1,11 +1,12 @@
 -- Lemmas on the parts of a file, section by section, and one after the other.
 use Rattle.std.proofs.Common.{nat_le, subst, leb-true}
+use Rattle.std.proofs.lemmas.List.{replicate-append-replicate}
 use Rattle.dwp_elf.proofs.Terms
 use Terms.{◌*◌, ◌+◌, ◌++◌, ◌<◌, [], ◌^◌, add-one, append_assoc, IsLayout, arith, at_drop_all}
 use Terms.{Class, content_bytes, contents_of, drop, drop-cons, Elf32, Elf64, Endianness, entry_size}
 use Terms.{every, get_or, header_size, headers_from, length, length-append, List, name_of}
-use Terms.{name_table, names_of, refl, replicate, SectionKind, sym, Vec, word_size, ℕ, ◌∙◌, ◌∷◌}
-use Terms.{◌≡◌, ◌≤◌}
+use Terms.{name_table, names_of, refl, replicate, SectionKind, sym, take, take-replicate, Vec}
+use Terms.{word_size, ℕ, ◌∙◌, ◌∷◌, ◌≡◌, ◌≤◌}
 use Rattle.dwp_elf.specs.declared.output.Layout.{Layout}
 use Rattle.dwp_elf.specs.declared.object.WritableObject.TheInside.{Inside}
 use Rattle.dwp_elf.specs.FileText.{Object, file_header, names_end, zeros_after, headers_place}
@@ -94,15 +95,46 @@ pub file_text-split : (o : Object) → file_text o ≡ file_header o.class o.ord
 unfolding file_text
 file_text-split o = simp append_assoc
 
--- the same, where the header was made from the layout, and for each number what wrote it out
+-- the same, where the header was made from the layout, and for each number what wrote it out; the
+-- zeros before the section headers and those of the first header stand together
 pub text_parts : (w : Inside) (o : Object) (p : Layout) (header : List ℕ) (count entry : ℕ)
     → object_of w ≡ o → IsLayout o.class o.contents p → count ≡ w.sections.len
     → header ≡ file_header w.class w.endianness w.machine p.headers (count + 2)
     → entry ≡ entry_size w.class → file_text o ≡ header ++ (content_bytes
     (contents_of w.sections.items) ++ (name_table (contents_of w.sections.items) ++ (replicate
-    p.zeros 0 ++ (replicate entry 0 ++ headers_from w.class w.endianness p.names_size 1
-    (header_size w.class) (contents_of w.sections.items)))))
+    (p.zeros + entry) 0 ++ headers_from w.class w.endianness p.names_size 1
+    (header_size w.class) (contents_of w.sections.items))))
 text_parts w o p header count entry is placed counted made sized =
     let are = subst (λ (x : Object). IsLayout x.class x.contents p) (sym is) placed in
     let count = counted ∙ w.sections.ok.0 ∙ sym (length-contents_of w.sections.items) in
-    rw (← is, file_text-split, made, sized, are.headers, are.zeros, are.names_size, count) refl
+    let rest = headers_from w.class w.endianness p.names_size 1 (header_size w.class)
+    (contents_of w.sections.items) in
+    let together : replicate {A = ℕ} (p.zeros + entry) 0 ++ rest
+    ≡ replicate p.zeros 0 ++ (replicate entry 0 ++ rest) =
+    rw (← replicate-append-replicate {A = ℕ} p.zeros entry 0)
+    (append_assoc (replicate p.zeros 0) (replicate entry 0) rest) in
+    rw (
+      together,
+      ← is,
+      file_text-split,
+      made,
+      sized,
+      are.headers,
+      are.zeros,
+      are.names_size,
+      count,
+    ) refl
+
+few_zeros : (class : Class) (n zeros entry : ℕ) → zeros ≡ zeros_after n → entry ≡ entry_size class
+    → zeros + entry ≤ 72
+few_zeros Elf32 n zeros entry z e = omega (arith, z, e)
+few_zeros Elf64 n zeros entry z e = omega (arith, z, e)
+
+-- these zeros are the first of 72
+pub zeros_of : (w : Inside) (o : Object) (p : Layout) (entry : ℕ) → object_of w ≡ o
+    → IsLayout o.class o.contents p → entry ≡ entry_size w.class
+    → take (p.zeros + entry) (replicate {A = ℕ} 72 0) ≡ replicate (p.zeros + entry) 0
+zeros_of w o p entry is placed sized =
+    let are = subst (λ (x : Object). IsLayout x.class x.contents p) (sym is) placed in
+    take-replicate {X = ℕ} (p.zeros + entry) 72 0
+    (few_zeros w.class _ p.zeros entry are.zeros sized)

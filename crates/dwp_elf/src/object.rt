@@ -17,8 +17,7 @@ ghost use Rattle.dwp_elf.specs.Written.{written_elf};
 
 use crate::headers::{entry_size, file_header};
 use crate::output::{
-    Layout, layout_of, write_contents, write_name_table, write_section_headers, write_whole,
-    write_zeros,
+    Layout, ZEROS, layout_of, write_contents, write_name_table, write_section_headers, write_whole,
 };
 use crate::writer::Output;
 use dwp_base::{Class, Contribution, ContributionOffset, Endianness, SectionKind};
@@ -372,8 +371,9 @@ impl WritableObject {
         write_whole(out, header.as_slice())?;
         write_contents(out, &self.sections)?;
         write_name_table(out, &self.sections)?;
-        write_zeros(out, layout.zeros as usize)?;
-        write_zeros(out, usize::from(entry_size(self.class)))?;
+        // (the header of section 0 is all zeros)
+        let zeros = layout.zeros as usize + usize::from(entry_size(self.class));
+        write_whole(out, &ZEROS[..zeros])?;
         write_section_headers(
             out,
             self.class,

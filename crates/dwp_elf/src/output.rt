@@ -1,7 +1,6 @@
 //! The layout of a file, and how its parts are written to a writer.
 
-ghost use Rattle.std.specs.Prelude.{◌≡◌, ◌+◌, ◌*◌, ◌^◌, ◌<◌, ◌≤◌, length, replicate, MatchOption};
-ghost use Rattle.std.specs.Prelude.{IfSome};
+ghost use Rattle.std.specs.Prelude.{◌≡◌, ◌+◌, ◌*◌, ◌^◌, ◌<◌, ◌≤◌, length, IfSome, MatchOption};
 ghost use Rattle.dwp_base.specs.Sections.{kind_count};
 ghost use Rattle.dwp_elf.specs.Contents.{contents_of};
 ghost use Rattle.dwp_elf_read.specs.Layout.{header_size, word_size};
@@ -20,8 +19,8 @@ const PROGBITS: u32 = 1;
 /// A table of strings, as the names are.
 const STRTAB: u32 = 3;
 
-/// Zeros.
-const ZEROS: [u8; 64] = [0; 64];
+/// Zeros: as many as a section header has, and those before the headers.
+pub const ZEROS: [u8; 72] = [0; 72];
 
 /// The name of the section that has the names.
 const NAMES: &[u8; 10] = b".shstrtab\0";
@@ -99,15 +98,6 @@ pub fn write_whole<O: Output>(out: &mut O, bytes: &[u8]) -> io::Result<()>
         rest = &rest[taken..];
     }
     Ok(())
-}
-
-/// Writes zeros, at most 64 of them.
-pub fn write_zeros<O: Output>(out: &mut O, count: usize) -> io::Result<()>
-    requires { count ≤ 64 }
-    ensures text { Writes result (O.contents out.old) (O.contents out.new) (replicate count 0) }
-    ensures error { Errors result (O.failed out.old) (O.failed out.new) }
-{
-    write_whole(out, &ZEROS[..count])
 }
 
 /// Writes the contents, one after the other.
