@@ -81,29 +81,6 @@ fn append_to(
     }
 }
 
-/// What `append_to` does, of bytes that are moved: the first of their kind are not copied.
-fn move_to(
-    alloc: Global,
-    sections: &mut Vec<(SectionKind, Vec<u8>)>,
-    kind: SectionKind,
-    bytes: Vec<u8>,
-) -> Result<usize, AllocError>
-    ensures contents { IfOk result (λ _. contents_of sections.new.items
-        ≡ appended kind bytes.items (contents_of sections.old.items)) }
-    ensures place { IfOk result (λ place.
-        place ≡ length (content_of kind (contents_of sections.old.items))) }
-    ensures unchanged { OnErr result (contents_of sections.new.items
-        ≡ contents_of sections.old.items) }
-{
-    match number_of(sections, kind) {
-        Some(_) => append_to(alloc, sections, kind, &bytes),
-        None => {
-            sections.push((kind, bytes))?;
-            Ok(0)
-        }
-    }
-}
-
 /// Keeps the first sections, at most as many as there are sizes, and cuts each that is longer to
 /// its size; one that is cut to 0 stays, without bytes.
 fn truncate_to(sections: &mut Vec<(SectionKind, Vec<u8>)>, sizes: &[usize])
@@ -259,17 +236,22 @@ impl WritableObject {
         ensures refused { IfErr result (λ e. e ≡ Memory) }
         ensures unchanged { OnErr result (self.new ≡ self.old) }
     {
-        let size = bytes.len();
+        let size = bytes.len() as u64;
         if size == 0 {
             return Ok(None);
         }
-        let place = move_to(self.alloc, &mut self.sections, kind, bytes).map_err(
-            |_| WriteError::Memory,
-        )?;
-        Ok(Some(Contribution {
-            offset: ContributionOffset(place as u64),
-            size: size as u64,
-        }))
+        match number_of(&self.sections, kind) {
+            Some(_) => self.append(kind, &bytes),
+            None => {
+                self.sections
+                    .push((kind, bytes))
+                    .map_err(|_| WriteError::Memory)?;
+                Ok(Some(Contribution {
+                    offset: ContributionOffset(0),
+                    size,
+                }))
+            }
+        }
     }
 
     /// Keeps the first sections, at most as many as there are sizes, and cuts each that is longer

@@ -1,22 +1,26 @@
 use Rattle.dwp_elf.proofs.Terms.{arith, common_steps, contents_of, refl, sym, ◌≡◌}
 use Rattle.dwp_elf.specs.Growing.{with_bytes}
+use Rattle.dwp_elf.proofs.Changes.{absent}
 use Rattle.dwp_elf.proofs.Growth.{is_grown-with_bytes}
 use Rattle.dwp_elf.proofs.KindCounts.{KindsDiffer-appended}
 use Rattle.dwp_elf.proofs.object.WritableObject.append_moved.Goals as goal
-use Rattle.std.proofs.Common.{rules}
 
 pub invariant_of-self-2 : goal.invariant_of-self-2
-invariant_of-self-2 c = grind (arith, common_steps, KindsDiffer-appended)
+invariant_of-self-2 c = grind (arith, common_steps, KindsDiffer-appended, absent)
 
-pub returns-clause-grown : goal.returns-clause-grown
-returns-clause-grown c before =
-    let added : contents_of c.move_to.new.sections.items ≡ with_bytes c.args.kind c.args.bytes.items
-    (contents_of c.self.inside.sections.items) = grind (arith, common_steps) in
+pub returns-in_ok-map_err-in-None-clause-grown : goal.returns-in_ok-map_err-in-None-clause-grown
+returns-in_ok-map_err-in-None-clause-grown c before =
+    let none = absent c.args.kind c.self.inside.sections.items
+    (rw c.deref.ensures.value at c.in-None.ensures) in
+    let added : contents_of c.push.new.self.items ≡ with_bytes c.args.kind
+    c.args.bytes.items (contents_of c.self.inside.sections.items) =
+    grind (arith, common_steps, none.added) in
     rw (sym c.self.view_is) (is_grown-with_bytes before _ _ c.args.kind c.args.bytes.items
     (rw added refl))
 
-pub returns-clause-contents : goal.returns-clause-contents
-returns-clause-contents c = search rules
+pub returns-in_ok-map_err-in-None-clause-contents :
+    goal.returns-in_ok-map_err-in-None-clause-contents
+returns-in_ok-map_err-in-None-clause-contents c = grind (arith, common_steps, absent)
 
-pub returns-clause-place : goal.returns-clause-place
-returns-clause-place c = search rules
+pub returns-in_ok-map_err-in-None-clause-place : goal.returns-in_ok-map_err-in-None-clause-place
+returns-in_ok-map_err-in-None-clause-place c = grind (arith, common_steps, absent)
