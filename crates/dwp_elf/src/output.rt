@@ -4,7 +4,7 @@ ghost use Rattle.std.specs.Prelude.{◌≡◌, ◌+◌, ◌*◌, ◌^◌, ◌<�
 ghost use Rattle.dwp_base.specs.Sections.{kind_count};
 ghost use Rattle.dwp_elf.specs.Contents.{contents_of};
 ghost use Rattle.dwp_elf_read.specs.Layout.{header_size, word_size};
-ghost use Rattle.dwp_elf.specs.FileText.{content_bytes, names_of, name_table, headers_from};
+ghost use Rattle.dwp_elf.specs.FileText.{content_bytes, name_table, headers_from};
 ghost use Rattle.dwp_elf.specs.Numbers.{PassesLimit, IsLayout};
 ghost use Rattle.dwp_elf.specs.Refusals.{Writes, Errors};
 
@@ -112,20 +112,7 @@ pub fn write_contents<O: Output>(out: &mut O, sections: &[(SectionKind, Vec<u8>)
     Ok(())
 }
 
-/// Writes the names of the contents, each ended by a zero byte.
-fn write_names<O: Output>(out: &mut O, sections: &[(SectionKind, Vec<u8>)]) -> io::Result<()>
-    ensures text { Writes result (O.contents out.old) (O.contents out.new)
-        (names_of (contents_of sections.now)) }
-    ensures error { Errors result (O.failed out.old) (O.failed out.new) }
-{
-    for section in sections {
-        write_whole(out, section.0.name().as_bytes())?;
-        write_whole(out, &[0])?;
-    }
-    Ok(())
-}
-
-/// Writes the content of `.shstrtab`.
+/// Writes the content of `.shstrtab`: each name is ended by a zero byte.
 pub fn write_name_table<O: Output>(
     out: &mut O,
     sections: &[(SectionKind, Vec<u8>)],
@@ -135,7 +122,10 @@ pub fn write_name_table<O: Output>(
     ensures error { Errors result (O.failed out.old) (O.failed out.new) }
 {
     write_whole(out, &[0])?;
-    write_names(out, sections)?;
+    for section in sections {
+        write_whole(out, section.0.name().as_bytes())?;
+        write_whole(out, &[0])?;
+    }
     write_whole(out, NAMES)
 }
 

@@ -1,15 +1,52 @@
-use Rattle.dwp_elf.proofs.Terms.{◌++◌, [], codes, contents_of, names_of, ◌∷◌}
-use Rattle.dwp_elf.proofs.SoFar.{part_after, part_before, Writes-after, failed}
+use Rattle.dwp_elf.proofs.Terms.{◌++◌, [], ap, append_assoc, codes, refl, ◌∙◌, ◌∷◌}
+use Rattle.dwp_elf.proofs.Parts.{names_of-drop, names_of-end}
+use Rattle.dwp_elf.proofs.SoFar.{so_far_none, so_far_more, so_far_part, part_before, Writes-so_far}
+use Rattle.dwp_elf.proofs.SoFar.{failed}
 use Rattle.dwp_elf.proofs.output.write_name_table.Goals as goal
 
-pub returns-in_err-write_names-clause-text : goal.returns-in_err-write_names-clause-text
-returns-in_err-write_names-clause-text g c =
-    failed _ _ c.from_residual-in_err-write_names.ensures.1
-    (part_after (0 ∷ []) c.in_ok-write_whole.ensures.text
-    (part_before (codes ".shstrtab" ++ 0 ∷ []) c.in_err-write_names.ensures.text))
+pub returns-in_err-write_whole-clause-text : goal.returns-in_err-write_whole-clause-text
+returns-in_err-write_whole-clause-text g c =
+    failed _ _ c.from_residual.ensures.1 (part_before _ c.in_err-write_whole.ensures.text)
+
+pub loop-section-init : goal.loop-section-init
+loop-section-init g c = record {
+  text = so_far_more _ _ (0 ∷ []) _ (so_far_none _ _) refl c.in_ok-write_whole.ensures.text;
+  error = c.in_ok-write_whole.ensures.error;
+}
+
+pub returns-in_err-write_whole-2-clause-text : goal.returns-in_err-write_whole-2-clause-text
+returns-in_err-write_whole-2-clause-text g c =
+    let named = names_of-drop _ _ _ c.loop-section-test.true c.section-item.is _
+    (c.as_bytes.ensures.value ∙ c.name.ensures) in
+    failed _ _ c.from_residual-in_err-write_whole-2.ensures.1
+    (so_far_part c.loop-section.invariant.text _ _ _
+    (ap (λ l. l ++ (codes ".shstrtab" ++ 0 ∷ [])) named ∙ append_assoc _ _ _)
+    c.in_err-write_whole-2.ensures.text)
+
+pub returns-in_err-write_whole-3-clause-text : goal.returns-in_err-write_whole-3-clause-text
+returns-in_err-write_whole-3-clause-text g c =
+    let named = names_of-drop _ _ _ c.loop-section-test.true c.section-item.is _
+    (c.as_bytes.ensures.value ∙ c.name.ensures) in
+    let first = so_far_more _ _ _ _ c.loop-section.invariant.text
+    (ap (λ l. l ++ (codes ".shstrtab" ++ 0 ∷ [])) named ∙ append_assoc _ _ _)
+    c.in_ok-write_whole-2.ensures.text in
+    failed _ _ c.from_residual-in_err-write_whole-3.ensures.1
+    (so_far_part first _ (0 ∷ []) _ refl c.in_err-write_whole-3.ensures.text)
+
+pub loop-section-preserved : goal.loop-section-preserved
+loop-section-preserved g c =
+    let named = names_of-drop _ _ _ c.loop-section-test.true c.section-item.is _
+    (c.as_bytes.ensures.value ∙ c.name.ensures) in
+    let first = so_far_more _ _ _ _ c.loop-section.invariant.text
+    (ap (λ l. l ++ (codes ".shstrtab" ++ 0 ∷ [])) named ∙ append_assoc _ _ _)
+    c.in_ok-write_whole-2.ensures.text in
+    record {
+      text = so_far_more _ _ (0 ∷ []) _ first refl c.in_ok-write_whole-3.ensures.text;
+      error = λ kind f. c.loop-section.invariant.error kind
+          (c.in_ok-write_whole-2.ensures.error kind
+          (c.in_ok-write_whole-3.ensures.error kind f));
+    }
 
 pub returns-clause-text : goal.returns-clause-text
-returns-clause-text g c =
-    Writes-after _ _ _ _ (0 ∷ []) _ c.in_ok-write_whole.ensures.text
-    (Writes-after _ _ _ _ (names_of (contents_of c.args.sections.now)) _
-    c.in_ok-write_names.ensures.text c.write_whole-2.ensures.text)
+returns-clause-text g c = Writes-so_far c.loop-section.invariant.text _ _
+    (rw (names_of-end _ _ c.loop-section-test.false) c.write_whole-2.ensures.text)
