@@ -8,7 +8,7 @@ ghost use Rattle.dwp_base.specs.Reading.{Answers};
 ghost use Rattle.dwp_elf_read.specs.Layout.{word_size, entry_size, number_at};
 ghost use Rattle.dwp_elf_read.specs.Layout.{is_inside, section_header_of};
 ghost use Rattle.dwp_elf_read.specs.Elf.{section_header_at, section_content, named_count};
-ghost use Rattle.dwp_elf_read.specs.Elf.{section_count, name_table_number, name_table};
+ghost use Rattle.dwp_elf_read.specs.Elf.{section_count, name_table};
 
 use crate::error::ReadError;
 use dwp_base::{Class, Endianness};
@@ -250,25 +250,8 @@ impl<'a> Image<'a> {
         Ok(count as usize)
     }
 
-    /// The number of the section with the sections' names; 0 where there is none.
-    #[tactic(auto, unfolding(crate::specs::Elf::name_table_number))]
-    fn names_number(&self, header: &FileHeader) -> Result<usize, ReadError>
-        requires { 0 < header.now.table
-            → header.now.table + entry_size self.now.class ≤ length self.now.bytes.now }
-        ensures { Answers (λ number. number) result
-            (name_table_number self.now.class self.now.order self.now.bytes.now header.now) }
-    {
-        if header.names != 0xffff {
-            return Ok(usize::from(header.names));
-        }
-        if header.table == 0 {
-            return Err(ReadError::NameTable);
-        }
-        Ok(self.header_of(header.table as usize, 0).link as usize)
-    }
-
     /// The bytes of the sections' names; none where the file has no name table.
-    #[tactic(auto, unfolding(crate::specs::Elf::name_table, crate::specs::Elf::name_table_numbered))]
+    #[tactic(auto, unfolding(crate::specs::Elf::name_table, crate::specs::Elf::name_table_number, crate::specs::Elf::name_table_numbered))]
     pub fn names(&self, header: &FileHeader, count: usize) -> Result<&'a [u8], ReadError>
         requires headers { header.now.table + count * entry_size self.now.class
             ≤ length self.now.bytes.now }
@@ -277,7 +260,13 @@ impl<'a> Image<'a> {
         ensures { Answers (λ names. names.now) result
             (name_table self.now.class self.now.order self.now.bytes.now header.now count) }
     {
-        let number = self.names_number(header)?;
+        let number = if header.names != 0xffff {
+            usize::from(header.names)
+        } else if header.table == 0 {
+            return Err(ReadError::NameTable);
+        } else {
+            self.header_of(header.table as usize, 0).link as usize
+        };
         if number == 0 {
             return Ok(&[]);
         }
