@@ -7,7 +7,7 @@ ghost use Rattle.std.specs.Option.{option_copied};
 ghost use Rattle.dwp_base.specs.Reading.{Answers};
 ghost use Rattle.dwp_elf_read.specs.Layout.{word_size, entry_size, number_at};
 ghost use Rattle.dwp_elf_read.specs.Layout.{is_inside, section_header_of};
-ghost use Rattle.dwp_elf_read.specs.Elf.{section_header_at, section_content, named_count};
+ghost use Rattle.dwp_elf_read.specs.Elf.{section_header_at, section_content};
 ghost use Rattle.dwp_elf_read.specs.Elf.{section_count, name_table};
 
 use crate::error::ReadError;
@@ -206,12 +206,14 @@ impl<'a> Image<'a> {
         Some(&bytes[start as usize..start as usize + size as usize])
     }
 
-    /// How many sections the header names.
-    #[tactic(auto, unfolding(crate::specs::Elf::named_count))]
-    fn count_named(&self, header: &FileHeader) -> Result<u64, ReadError>
+    /// How many sections there are, all of whose headers lie in the file.
+    #[tactic(auto, unfolding(crate::specs::Elf::section_count, crate::specs::Elf::named_count))]
+    pub fn count_sections(&self, header: &FileHeader) -> Result<usize, ReadError>
         ensures value { Answers (λ count. count) result
-            (named_count self.now.class self.now.order self.now.bytes.now header.now) }
-        ensures first { IfOk result (λ count. count ≡ 0 → 0 < header.now.table
+            (section_count self.now.class self.now.order self.now.bytes.now header.now) }
+        ensures headers { IfOk result (λ count.
+            header.now.table + count * entry_size self.now.class ≤ length self.now.bytes.now) }
+        ensures first { OnOk result (0 < header.now.table
             → header.now.table + entry_size self.now.class ≤ length self.now.bytes.now) }
     {
         if header.table == 0 {
@@ -221,27 +223,14 @@ impl<'a> Image<'a> {
         if header.entry_size as usize != size {
             return Err(ReadError::SectionEntrySize);
         }
-        if header.count != 0 {
-            return Ok(u64::from(header.count));
-        }
-        if !self.contains(header.table, size as u64) {
+        let count = if header.count != 0 {
+            u64::from(header.count)
+        } else if self.contains(header.table, size as u64) {
+            self.header_of(header.table as usize, 0).size
+        } else {
             return Err(ReadError::SectionTable);
-        }
-        Ok(self.header_of(header.table as usize, 0).size)
-    }
-
-    /// How many sections there are, all of whose headers lie in the file.
-    #[tactic(auto, unfolding(crate::specs::Elf::section_count))]
-    pub fn count_sections(&self, header: &FileHeader) -> Result<usize, ReadError>
-        ensures value { Answers (λ count. count) result
-            (section_count self.now.class self.now.order self.now.bytes.now header.now) }
-        ensures headers { IfOk result (λ count.
-            header.now.table + count * entry_size self.now.class ≤ length self.now.bytes.now) }
-        ensures first { OnOk result (0 < header.now.table
-            → header.now.table + entry_size self.now.class ≤ length self.now.bytes.now) }
-    {
-        let count = self.count_named(header)?;
-        let Some(size) = count.checked_mul(entry_size_of(self.class) as u64) else {
+        };
+        let Some(size) = count.checked_mul(size as u64) else {
             return Err(ReadError::SectionTable);
         };
         if !self.contains(header.table, size) {
