@@ -59,25 +59,16 @@ impl<'a> Reader for SliceReader<'a> {
 
     #[tactic(auto, unfolding(crate::specs::Input::split_at))]
     fn split(&mut self, n: usize) -> Result<Self, ReadError> {
-        let SliceReader {
-            order,
-            place,
-            bytes,
-        } = *self;
+        let bytes = self.bytes;
         if bytes.len() < n {
             return Err(ReadError::UnexpectedEof);
         }
         let (front, rest) = bytes.split_at(n);
-        *self = SliceReader {
-            order,
-            place: place + n,
-            bytes: rest,
-        };
-        Ok(SliceReader {
-            order,
-            place,
-            bytes: front,
-        })
+        let mut piece = *self;
+        piece.bytes = front;
+        self.bytes = rest;
+        self.place += n;
+        Ok(piece)
     }
 
     #[tactic(auto, unfolding(crate::specs::Input::sized_at, crate::specs::Input::relocated_at, crate::specs::Input::number_at, crate::specs::Input::byte_at))]
