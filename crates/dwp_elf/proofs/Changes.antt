@@ -1,11 +1,12 @@
 -- Lemmas on how the contents of sections change.
-use Rattle.std.proofs.Common.{set, ltb, one-add, position, take_all, ltb-false}
+use Rattle.std.proofs.Common.{map, set, ltb, one-add, position, take_all, ltb-false}
 use Rattle.dwp_elf.proofs.Terms
 use Terms.{◌+◌, ◌++◌, ◌<◌, [], add-one, ap, append-nil, appended, arith, Bool, by-bool, content_of}
 use Terms.{contents_of, drop, drop_all, get_or, length, length-map, List, ltb-true, map-set}
 use Terms.{map-set_same, None, position_or_len, refl, same_kind, SectionKind, Some, suc, sym, take}
 use Terms.{take-map, truncated, Vec, zero, ℕ, ◌∙◌, ◌∷◌, ◌≡◌, ◌≤◌}
 use Rattle.std.proofs.Math.ListN.{get_or-map}
+use Rattle.dwp_elf.specs.Growing.{lengths}
 
 abbrev pub Sections : Type 0
 Sections = List (SectionKind × Vec ℕ)
@@ -96,6 +97,11 @@ cut-suc i (b ∷ bs) [] d h l = absurd (omega arith)
 cut-suc zero (b ∷ bs) (n ∷ ns) d h l = refl
 cut-suc (suc i) (b ∷ bs) (n ∷ ns) d h l =
     ap (λ l. kept n b ∷ l) (cut-suc i bs ns d (omega arith) (omega arith))
+
+-- the lengths that sections tell are those of their contents
+pub told_lengths : (xs : Sections) → map (λ s. s.1.len) xs ≡ lengths (contents_of xs)
+told_lengths [] = refl
+told_lengths (x ∷ xs) = rw (x.1.ok.0, told_lengths xs) refl
 
 pub length-contents_of : (xs : Sections) → length (contents_of xs) ≡ length xs
 length-contents_of xs = length-map xs _
