@@ -81,19 +81,6 @@ fn append_to(
     }
 }
 
-/// Keeps the first sections, at most as many as there are sizes, and cuts each that is longer to
-/// its size; one that is cut to 0 stays, without bytes.
-fn truncate_to(sections: &mut Vec<(SectionKind, Vec<u8>)>, sizes: &[usize])
-    ensures { contents_of sections.new.items
-        ≡ truncated (contents_of sections.old.items) sizes.now }
-{
-    sections.truncate(sizes.len());
-    for number in 0..sections.len() {
-        let section = &mut sections[number];
-        section.1.truncate(sizes[number]);
-    }
-}
-
 /// An ELF file that is being made: the contents of its sections, in order of first append.
 #[derive(Debug, Drop)]
 pub struct WritableObject {
@@ -263,7 +250,11 @@ impl WritableObject {
         ensures taken_back { (before : Object) → IsGrown before self.old
             → sizes.now ≡ lengths before.contents → self.new ≡ before }
     {
-        truncate_to(&mut self.sections, sizes);
+        self.sections.truncate(sizes.len());
+        for number in 0..self.sections.len() {
+            let section = &mut self.sections[number];
+            section.1.truncate(sizes[number]);
+        }
     }
 
     /// How many bytes the file has. It takes no memory.
