@@ -1,10 +1,9 @@
 //! Units of a package, with all that belongs to each (DWARF 5, 7.3.5).
 
-ghost use Rattle.std.specs.Prelude.{◌≡◌, IfSome, Ok};
+ghost use Rattle.std.specs.Prelude.{◌≡◌};
 ghost use Rattle.std.specs.Option.{option_copied};
 ghost use Rattle.dwp_base.specs.Reading.{Answers};
 ghost use Rattle.dwp_bytes.specs.StringOffsets.{string_in};
-ghost use Rattle.dwp_units.specs.declared.unit.UnitSection.{UnitSection};
 ghost use Rattle.dwp_index.specs.Contents.{content};
 ghost use Rattle.dwp_index.specs.Index.{range_in};
 ghost use Rattle.dwp_index.specs.Package.{part_of, lies_inside, row_bytes, kind_of, place_of};
@@ -162,35 +161,22 @@ pub fn encoding_in(
 ) -> Result<Encoding, ReadError>
     ensures { Answers (λ x. x) result (encoding_in order place bytes.now) }
 {
-    match split_encoding(bytes, order) {
-        Some(encoding) => Ok(encoding),
-        None => any_encoding(bytes, order, place),
+    if bytes.len() >= 20 {
+        let length = order.read_u32(bytes);
+        if length >= 16 && length < 0xfffffff0 && bytes.len() as u64 - 4 >= u64::from(length) {
+            let body = &bytes[4..4 + length as usize];
+            // A split compilation unit of version 5, in the 32-bit format, whose addresses have 8
+            // bytes: look-ups find these most often.
+            if order.read_u16(body) == 5 && body[2] == 5 && body[3] == 8 {
+                return Ok(Encoding {
+                    version: 5,
+                    format: Format::Dwarf32,
+                    address_size: 8,
+                });
+            }
+        }
     }
-}
-
-/// The encoding of a split compilation unit of DWARF 5 in the 32-bit format whose addresses have 8
-/// bytes, which is what look-ups find most often; None for any other unit.
-#[inline(always)]
-fn split_encoding(bytes: &[u8], order: Endianness) -> Option<Encoding>
-    ensures { IfSome result (λ encoding. (place : UnitSection)
-        → encoding_in order place bytes.now ≡ Ok encoding) }
-{
-    if bytes.len() < 20 {
-        return None;
-    }
-    let length = order.read_u32(bytes);
-    if length < 16 || length >= 0xfffffff0 || bytes.len() as u64 - 4 < u64::from(length) {
-        return None;
-    }
-    let body = &bytes[4..4 + length as usize];
-    if order.read_u16(body) != 5 || body[2] != 5 || body[3] != 8 {
-        return None;
-    }
-    Some(Encoding {
-        version: 5,
-        format: Format::Dwarf32,
-        address_size: 8,
-    })
+    any_encoding(bytes, order, place)
 }
 
 /// The encoding of a unit of any form.
