@@ -165,33 +165,29 @@ impl<'a> PackageFile<'a> {
     {
         match self.index_for(object) {
             None => Ok((None, 0)),
-            Some(index) => {
-                let (found, count) = index.find_counted(object.index());
-                match found {
-                    None => Ok((None, count)),
-                    Some(number) => {
-                        let row = read_row(index, number)?;
-                        if let Some(kind) = first_outside(&self.contents, &row) {
-                            return Err(PackageError::Range(kind));
-                        }
-                        let place = place_of(object, row.range(SectionKind::Types));
-                        let kind = kind_of(place);
-                        let bytes = part_of(self.contents.of(kind), row.range(kind));
-                        let encoding = encoding_in(bytes, self.order, place).map_err(
-                            PackageError::Unit,
-                        )?;
-                        let unit = PackagedUnit {
-                            order: self.order,
-                            contents: self.contents,
-                            number,
-                            row,
-                            bytes,
-                            encoding,
-                        };
-                        Ok((Some(unit), count))
+            Some(index) => match index.find_counted(object.index()) {
+                (None, count) => Ok((None, count)),
+                (Some(number), count) => {
+                    let row = read_row(index, number)?;
+                    if let Some(kind) = first_outside(&self.contents, &row) {
+                        return Err(PackageError::Range(kind));
                     }
+                    let place = place_of(object, row.range(SectionKind::Types));
+                    let kind = kind_of(place);
+                    let bytes = part_of(self.contents.of(kind), row.range(kind));
+                    let encoding =
+                        encoding_in(bytes, self.order, place).map_err(PackageError::Unit)?;
+                    let unit = PackagedUnit {
+                        order: self.order,
+                        contents: self.contents,
+                        number,
+                        row,
+                        bytes,
+                        encoding,
+                    };
+                    Ok((Some(unit), count))
                 }
-            }
+            },
         }
     }
 
