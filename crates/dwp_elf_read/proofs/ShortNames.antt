@@ -1,16 +1,14 @@
 -- Whether a text of a string table is one that is given, by as much of it as that is long.
-use Rattle.std.proofs.Common.{◌≡◌, ℕ, zero, suc, ◌<◌, ◌==◌, nat_lt, Bool, false, List, []}
-use Rattle.std.proofs.Common.{◌∷◌, ◌∙◌, true, not, is_some, Option, None, Some, length, take, drop}
-use Rattle.std.proofs.Common.{position, refl, ap, sym}
-use Rattle.std.proofs.Common.{find, get_or, arith}
-use Rattle.std.proofs.lemmas.Bool.{eqb-true}
+use Rattle.std.proofs.Common.{◌≡◌, ℕ, ◌<◌, ◌==◌, nat_lt, Bool, false, List, ◌∙◌, true, not, is_some}
+use Rattle.std.proofs.Common.{Option, None, Some, length, take, drop, position, refl, ap, sym, find}
+use Rattle.std.proofs.Common.{get_or, arith}
+use Rattle.std.proofs.lemmas.Bool.{eqb-true, lt-ltb, ltb-false, false_from_ne_true}
 use Rattle.std.proofs.lemmas.List.Quantifiers.{position-Some}
 use Rattle.std.specs.List.{position_or_len}
 use Rattle.std.specs.Option.{option_and_then}
 use Rattle.std.specs.Str.{is_utf8, bytes_eq}
-use Rattle.std.proofs.lemmas.Bool.{lt-ltb, ltb-false, false_from_ne_true}
 use Rattle.std.proofs.lemmas.List.{drop_all, get_or-take, length-take-le}
-use Rattle.std.proofs.lemmas.List.Sums.{position_or_len_is}
+use Rattle.std.proofs.lemmas.List.Sums.{fails_before_first, position_or_len_is}
 use Rattle.std.proofs.lemmas.Slice.Eq.{bytes_eq-Decides}
 use Rattle.dwp_base.specs.Sections.{all_kinds, compressed_name_of, kind_named, name_of}
 use Rattle.dwp_base.specs.declared.section.SectionKind.{SectionKind}
@@ -27,18 +25,6 @@ zero_byte b = b == 0
 abbrev first_text : List ℕ → Option ℕ → Option (List ℕ)
 first_text bytes end = option_and_then (λ n. text_of (take n bytes)) end
 
--- before the first zero byte there is none
-none_before : (text : List ℕ) (k : ℕ) → k < position_or_len zero_byte text
-    → zero_byte (get_or text k 0) ≡ false
-none_before [] k = λ below. absurd (omega (arith, below))
-none_before (b ∷ text) zero =
-    by-bool (0 < position_or_len zero_byte (b ∷ text) → zero_byte b ≡ false) (zero_byte b)
-    (λ e. rw e (λ below. absurd (omega (arith, below)))) (λ e below. e)
-none_before (b ∷ text) (suc k) =
-    by-bool (suc k < position_or_len zero_byte (b ∷ text) → zero_byte (get_or text k 0) ≡ false)
-    (zero_byte b) (λ e. rw e (λ below. absurd (omega (arith, below))))
-    (λ e. rw e (λ below. none_before text k (omega (arith, below))))
-
 -- a text without one has none at a place
 none_at : (text : List ℕ) (k : ℕ) → position zero_byte text ≡ None → k < length text
     → zero_byte (get_or text k 0) ≡ false
@@ -46,7 +32,8 @@ none_at text k =
     by-bool (position zero_byte text ≡ None → k < length text → zero_byte (get_or text k 0) ≡ false)
     (nat_lt (position_or_len zero_byte text) (length text))
     (λ yes. rw yes (λ whole below. absurd cc))
-    (λ no whole below. none_before text k (omega (arith, below, ltb-false _ _ no)))
+    (λ no whole below. fails_before_first zero_byte text k 0
+    (omega (arith, below, ltb-false _ _ no)))
 
 -- a text of another length is another
 other_text : (own text : List ℕ) → (length own ≡ length text → ⊥) → name_is text (text_of own)
