@@ -1,7 +1,6 @@
 -- An ascending list of relocations is searched by halves.
 use Rattle.std.proofs.Common.{◌≡◌, ◌≢◌, inl, inr, ℕ, zero, suc, ◌+◌, ◌<◌, true, false, eqb, List}
-use Rattle.std.proofs.Common.{◌∷◌}
-use Rattle.std.proofs.Common.{length, get_or, Some, None, Ok, Err, refl, arith, sym, ◌∙◌}
+use Rattle.std.proofs.Common.{◌∷◌, length, get_or, Some, None, Ok, Err, refl, arith, sym, ◌∙◌}
 use Rattle.std.proofs.lemmas.Bool.{ltb-true, cases_lt, ne_eqb}
 use Rattle.std.proofs.lemmas.Bool.Decides.{nat_tests}
 use Rattle.std.proofs.lemmas.List.Recursion.{found_at, found_nowhere}
