@@ -1,9 +1,8 @@
-use Rattle.std.proofs.Common.{take-append-drop}
+use Rattle.std.proofs.Common.{take-append-drop, rules}
 use Rattle.dwp_elf.proofs.Terms.{◌++◌, ◌<◌, ap, arith, length, sym, take, take_rest, ◌∙◌}
 use Rattle.std.proofs.lemmas.Bool.Decides.{nat_tests}
 use Rattle.dwp_elf.proofs.SoFar.{so_far_none, so_far_more, so_far_stop, Keeps-from_none, failed}
 use Rattle.dwp_elf.proofs.output.write_whole.Goals as goal
-use Rattle.std.proofs.Common.{rules}
 
 pub loop-rest-init : goal.loop-rest-init
 loop-rest-init g c = record { text = so_far_none _ _; error = λ kind f. f }
