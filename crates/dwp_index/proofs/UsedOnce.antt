@@ -1,9 +1,8 @@
 -- The used slots of an index of distinct identifiers.
 use Rattle.std.proofs.Common.{Bool, List, None, Option, Some, [], add-one, ap, append_assoc, arith}
 use Rattle.std.proofs.Common.{drop, eqb, filter, get_or, get_or-set_other, length, length-append}
-use Rattle.std.proofs.Common.{length-set, map, map-id, ne_eqb, not}
-use Rattle.std.proofs.Common.{refl, set, subst, suc, sym, take, zero, ℕ, ◌++◌, ◌+◌, ◌-◌, ◌<◌, ◌∙◌}
-use Rattle.std.proofs.Common.{◌∷◌, ◌≡◌, ◌≤◌, ◌⊎◌}
+use Rattle.std.proofs.Common.{length-set, map, map-id, ne_eqb, not, refl, set, subst, suc, sym}
+use Rattle.std.proofs.Common.{take, zero, ℕ, ◌++◌, ◌+◌, ◌-◌, ◌<◌, ◌∙◌, ◌∷◌, ◌≡◌, ◌≤◌, ◌⊎◌}
 use Rattle.std.proofs.Math.Seq.{get_or-append_seam}
 use Rattle.std.proofs.lemmas.Bool.{cases_eq}
 use Rattle.std.proofs.lemmas.Grind.{get_or-set_at}
