@@ -90,7 +90,11 @@ impl<'a, R: Reader> Clone for Relocate<'a, R> {
     ghost is_infallible = { λ _. ⊤ };
 
     fn clone(&self) -> Result<Self, AllocError> {
-        Ok(*self)
+        Ok(Relocate {
+            relocations: self.relocations,
+            section: self.section,
+            reader: self.reader,
+        })
     }
 }
 
