@@ -1,4 +1,4 @@
-use Rattle.std.proofs.Common.{take-append-drop, rules}
+use Rattle.std.proofs.Common.{take-append-drop}
 use Rattle.dwp_elf.proofs.Terms.{◌++◌, ◌<◌, ap, arith, length, sym, take, take_rest, ◌∙◌}
 use Rattle.std.proofs.lemmas.Bool.Decides.{nat_tests}
 use Rattle.dwp_elf.proofs.SoFar.{so_far_none, so_far_more, so_far_stop, Keeps-from_none, failed}
@@ -30,6 +30,3 @@ loop-rest-preserved g c =
           c.in_ok-taken.ensures.bytes;
       error = λ kind f. c.loop-rest.invariant.error kind (c.in_ok-taken.ensures.some some kind f);
     }
-
-pub returns-then-taken-eq0-clause-error : goal.returns-then-taken-eq0-clause-error
-returns-then-taken-eq0-clause-error g c = search rules

@@ -3,7 +3,6 @@ use Rattle.dwp_elf.specs.Growing.{with_bytes}
 use Rattle.dwp_elf.proofs.Growth.{is_grown-with_bytes}
 use Rattle.dwp_elf.proofs.KindCounts.{KindsDiffer-appended}
 use Rattle.dwp_elf.proofs.object.WritableObject.append.Goals as goal
-use Rattle.std.proofs.Common.{rules}
 
 pub invariant_of-self-2 : goal.invariant_of-self-2
 invariant_of-self-2 c = grind (arith, common_steps, KindsDiffer-appended)
@@ -14,15 +13,3 @@ returns-clause-grown c before =
     (contents_of c.self.inside.sections.items) = grind (arith, common_steps) in
     rw (sym c.self.view_is) (is_grown-with_bytes before _ _ c.args.kind c.args.bytes.now
     (rw added refl))
-
-pub returns-clause-contents : goal.returns-clause-contents
-returns-clause-contents c = search rules
-
-pub returns-clause-nothing : goal.returns-clause-nothing
-returns-clause-nothing c = search rules
-
-pub returns-clause-place : goal.returns-clause-place
-returns-clause-place c = search rules
-
-pub returns-in_err-place-clause-nothing : goal.returns-in_err-place-clause-nothing
-returns-in_err-place-clause-nothing c = search rules
