@@ -18,11 +18,3 @@ returns-then-units-eq0 c = record {
   enough = grind (arith, elements);
   slots = grind (arith, elements);
 }
-
-pub returns-then-bytes-lt16-clause-enough : goal.returns-then-bytes-lt16-clause-enough
-unfolding counts_of
-returns-then-bytes-lt16-clause-enough c = grind (arith, elements)
-
-pub returns-then-bytes-lt16-clause-slots : goal.returns-then-bytes-lt16-clause-slots
-unfolding counts_of
-returns-then-bytes-lt16-clause-slots c = grind (arith, elements)
