@@ -1,7 +1,6 @@
 //! The relocations of a section, in file order (ELF gABI, "Relocation").
 
 ghost use Rattle.std.specs.Prelude.{◌≡◌, ◌+◌, ◌*◌, ◌≤◌, length};
-ghost use Rattle.dwp_elf_read.specs.Layout.{word_size};
 ghost use Rattle.dwp_elf_read.specs.Relocation.{relocation_at, relocation_size};
 
 use crate::error::ReadError;

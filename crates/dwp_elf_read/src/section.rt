@@ -59,13 +59,12 @@ pub struct Section<'a> {
 impl<'a> Section<'a> {
     ghost use Rattle.dwp_elf_read.specs.declared.error.ReadError.TheVariants.{NameRange};
     ghost use Rattle.dwp_elf_read.specs.declared.error.ReadError.TheVariants.{SectionRange};
-    ghost use Rattle.std.specs.Prelude.{◌≤◌, ◌+◌, ◌↔◌, IfSome, IsTrue, Some, length};
-    ghost use Rattle.std.specs.Prelude.{slice_range};
+    ghost use Rattle.std.specs.Prelude.{◌≤◌, ◌+◌, ◌↔◌, IfSome, IsTrue, Some, length, slice_range};
     ghost use Rattle.std.specs.Option.{ok_or, option_and_then};
     ghost use Rattle.dwp_base.specs.Sections.{kind_named};
     ghost use Rattle.dwp_base.specs.Reading.{Answers};
-    ghost use Rattle.dwp_elf_read.specs.Elf.{is_empty, has_compressed_flag};
-    ghost use Rattle.dwp_elf_read.specs.Elf.{is_named, is_of, has_older_name, holds};
+    ghost use Rattle.dwp_elf_read.specs.Elf.{is_empty, has_compressed_flag, is_named, is_of};
+    ghost use Rattle.dwp_elf_read.specs.Elf.{has_older_name, holds};
     ghost use Rattle.dwp_elf_read.specs.Compared.{with_own};
     ghost use Rattle.dwp_elf_read.specs.View.{section, file_bytes};
 
