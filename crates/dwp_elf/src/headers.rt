@@ -2,8 +2,7 @@
 
 ghost use Rattle.std.specs.Prelude.{◌≡◌, ℕ, ◌+◌, ◌≤◌, ◌<◌, ◌^◌, ◌*◌, ◌++◌, [], List, length, take};
 ghost use Rattle.dwp_elf_read.specs.Layout.{header_size, entry_size, word_size};
-ghost use Rattle.dwp_elf.specs.FileText.{identification, file_header, section_header};
-ghost use Rattle.dwp_elf.specs.FileText.{wide};
+ghost use Rattle.dwp_elf.specs.FileText.{identification, file_header, section_header, wide};
 
 use dwp_base::{Class, Endianness};
 use std::marker::Model;
