@@ -175,8 +175,9 @@ impl<'a> PackageFile<'a> {
                     let place = place_of(object, row.range(SectionKind::Types));
                     let kind = kind_of(place);
                     let bytes = part_of(self.contents.of(kind), row.range(kind));
-                    let encoding =
-                        encoding_in(bytes, self.order, place).map_err(PackageError::Unit)?;
+                    let encoding = encoding_in(bytes, self.order, place).map_err(
+                        PackageError::Unit,
+                    )?;
                     let unit = PackagedUnit {
                         order: self.order,
                         contents: self.contents,
