@@ -2,7 +2,7 @@
 use Rattle.std.proofs.Common.{nat_le, subst, leb-true}
 use Rattle.std.proofs.lemmas.List.{replicate-append-replicate}
 use Rattle.dwp_elf.proofs.Terms
-use Terms.{◌*◌, ◌+◌, ◌++◌, ◌<◌, [], ◌^◌, add-one, append_assoc, IsLayout, arith, at_drop_all}
+use Terms.{◌*◌, ◌+◌, ◌++◌, ◌<◌, [], ◌^◌, add-one, ap, append_assoc, IsLayout, arith, at_drop_all}
 use Terms.{Class, content_bytes, contents_of, drop, drop-cons, Elf32, Elf64, Endianness, entry_size}
 use Terms.{every, get_or, header_size, headers_from, length, length-append, List, name_of}
 use Terms.{name_table, names_of, refl, replicate, SectionKind, sym, take, take-replicate, Vec}
@@ -25,10 +25,17 @@ module _ (xs : Sections) (i : ℕ) (x : SectionKind × Vec ℕ) (h : i < length 
   unfolding content_bytes
   content_bytes-drop = rw drop-item refl
 
-  pub names_of-drop : (name : List ℕ) → name ≡ name_of x.0
+  names_of-drop : (name : List ℕ) → name ≡ name_of x.0
       → names_of (contents_of (drop i xs)) ≡ name ++ (0 ∷ names_of (contents_of (drop (i + 1) xs)))
   unfolding names_of
   names_of-drop name named = rw (drop-item, named, append_assoc) refl
+
+  -- the same, with what follows all names
+  pub names_of-drop-more : (name more : List ℕ) → name ≡ name_of x.0
+      → names_of (contents_of (drop i xs)) ++ more
+      ≡ name ++ (0 ∷ (names_of (contents_of (drop (i + 1) xs)) ++ more))
+  names_of-drop-more name more named = ap (λ l. l ++ more) (names_of-drop name named)
+      ∙ append_assoc name (0 ∷ names_of (contents_of (drop (i + 1) xs))) more
 
   -- the same for lengths
   pub length-content_bytes-drop : length (content_bytes (contents_of (drop i xs)))

@@ -1,5 +1,5 @@
-use Rattle.dwp_elf.proofs.Terms.{◌++◌, [], ap, append_assoc, codes, refl, ◌∙◌, ◌∷◌}
-use Rattle.dwp_elf.proofs.Parts.{names_of-drop, names_of-end}
+use Rattle.dwp_elf.proofs.Terms.{◌++◌, [], codes, refl, ◌∙◌, ◌∷◌}
+use Rattle.dwp_elf.proofs.Parts.{names_of-drop-more, names_of-end}
 use Rattle.dwp_elf.proofs.SoFar.{so_far_none, so_far_more, so_far_part, part_before, Writes-so_far}
 use Rattle.dwp_elf.proofs.SoFar.{failed}
 use Rattle.dwp_elf.proofs.output.write_name_table.Goals as goal
@@ -16,29 +16,25 @@ loop-section-init g c = record {
 
 pub returns-in_err-write_whole-2-clause-text : goal.returns-in_err-write_whole-2-clause-text
 returns-in_err-write_whole-2-clause-text g c =
-    let named = names_of-drop _ _ _ c.loop-section-test.true c.section-item.is _
-    (c.as_bytes.ensures.value ∙ c.name.ensures) in
+    let named = names_of-drop-more _ _ _ c.loop-section-test.true c.section-item.is _
+    (codes ".shstrtab" ++ 0 ∷ []) (c.as_bytes.ensures.value ∙ c.name.ensures) in
     failed _ _ c.from_residual-in_err-write_whole-2.ensures.1
-    (so_far_part c.loop-section.invariant.text _ _ _
-    (ap (λ l. l ++ (codes ".shstrtab" ++ 0 ∷ [])) named ∙ append_assoc _ _ _)
-    c.in_err-write_whole-2.ensures.text)
+    (so_far_part c.loop-section.invariant.text _ _ _ named c.in_err-write_whole-2.ensures.text)
 
 pub returns-in_err-write_whole-3-clause-text : goal.returns-in_err-write_whole-3-clause-text
 returns-in_err-write_whole-3-clause-text g c =
-    let named = names_of-drop _ _ _ c.loop-section-test.true c.section-item.is _
-    (c.as_bytes.ensures.value ∙ c.name.ensures) in
-    let first = so_far_more _ _ _ _ c.loop-section.invariant.text
-    (ap (λ l. l ++ (codes ".shstrtab" ++ 0 ∷ [])) named ∙ append_assoc _ _ _)
+    let named = names_of-drop-more _ _ _ c.loop-section-test.true c.section-item.is _
+    (codes ".shstrtab" ++ 0 ∷ []) (c.as_bytes.ensures.value ∙ c.name.ensures) in
+    let first = so_far_more _ _ _ _ c.loop-section.invariant.text named
     c.in_ok-write_whole-2.ensures.text in
     failed _ _ c.from_residual-in_err-write_whole-3.ensures.1
     (so_far_part first _ (0 ∷ []) _ refl c.in_err-write_whole-3.ensures.text)
 
 pub loop-section-preserved : goal.loop-section-preserved
 loop-section-preserved g c =
-    let named = names_of-drop _ _ _ c.loop-section-test.true c.section-item.is _
-    (c.as_bytes.ensures.value ∙ c.name.ensures) in
-    let first = so_far_more _ _ _ _ c.loop-section.invariant.text
-    (ap (λ l. l ++ (codes ".shstrtab" ++ 0 ∷ [])) named ∙ append_assoc _ _ _)
+    let named = names_of-drop-more _ _ _ c.loop-section-test.true c.section-item.is _
+    (codes ".shstrtab" ++ 0 ∷ []) (c.as_bytes.ensures.value ∙ c.name.ensures) in
+    let first = so_far_more _ _ _ _ c.loop-section.invariant.text named
     c.in_ok-write_whole-2.ensures.text in
     record {
       text = so_far_more _ _ (0 ∷ []) _ first refl c.in_ok-write_whole-3.ensures.text;

@@ -1,12 +1,18 @@
-use Rattle.dwp_elf.proofs.Terms.{arith, common_steps, contents_of, refl, sym, ◌≡◌}
+use Rattle.dwp_elf.proofs.Terms.{appended, arith, common_steps, contents_of, refl, sym, ◌≡◌}
 use Rattle.dwp_elf.specs.Growing.{with_bytes}
 use Rattle.dwp_elf.proofs.Changes.{absent}
 use Rattle.dwp_elf.proofs.Growth.{is_grown-with_bytes}
 use Rattle.dwp_elf.proofs.KindCounts.{KindsDiffer-appended}
 use Rattle.dwp_elf.proofs.object.WritableObject.append_moved.Goals as goal
 
-pub invariant_of-self-2 : goal.invariant_of-self-2
-invariant_of-self-2 c = grind (arith, common_steps, KindsDiffer-appended, absent)
+pub invariant_of-self-in-None : goal.invariant_of-self-in-None
+invariant_of-self-in-None c =
+    let none = absent c.args.kind c.self.inside.sections.items
+    (rw c.deref.ensures.value at c.in-None.ensures) in
+    let added : contents_of c.push.new.self.items ≡ appended c.args.kind
+    c.args.bytes.items (contents_of c.self.inside.sections.items) =
+    grind (arith, common_steps, none.added) in
+    rw added (KindsDiffer-appended _ _ _ c.self.invariant)
 
 pub returns-in_ok-map_err-in-None-clause-grown : goal.returns-in_ok-map_err-in-None-clause-grown
 returns-in_ok-map_err-in-None-clause-grown c before =
@@ -20,7 +26,16 @@ returns-in_ok-map_err-in-None-clause-grown c before =
 
 pub returns-in_ok-map_err-in-None-clause-contents :
     goal.returns-in_ok-map_err-in-None-clause-contents
-returns-in_ok-map_err-in-None-clause-contents c = grind (arith, common_steps, absent)
+returns-in_ok-map_err-in-None-clause-contents c =
+    let none = absent c.args.kind c.self.inside.sections.items
+    (rw c.deref.ensures.value at c.in-None.ensures) in
+    let added : contents_of c.push.new.self.items ≡ with_bytes c.args.kind
+    c.args.bytes.items (contents_of c.self.inside.sections.items) =
+    grind (arith, common_steps, none.added) in
+    rw (sym c.self.view_is) (rw added refl)
 
 pub returns-in_ok-map_err-in-None-clause-place : goal.returns-in_ok-map_err-in-None-clause-place
-returns-in_ok-map_err-in-None-clause-place c = grind (arith, common_steps, absent)
+returns-in_ok-map_err-in-None-clause-place c =
+    let none = absent c.args.kind c.self.inside.sections.items
+    (rw c.deref.ensures.value at c.in-None.ensures) in
+    grind (arith, common_steps, none.content)

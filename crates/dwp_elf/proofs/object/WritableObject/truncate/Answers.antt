@@ -1,8 +1,19 @@
-use Rattle.dwp_elf.proofs.Terms.{arith, common_steps, contents_of, refl, sym, truncated, ◌≡◌}
+use Rattle.dwp_elf.proofs.Terms
+use Terms.{List, ap, arith, common_steps, contents_of, refl, sym, truncated, ℕ, ◌∙◌, ◌≡◌}
+use Rattle.dwp_elf.specs.Object.{object_of}
+use Rattle.dwp_elf.specs.declared.object.WritableObject.TheInside.{Inside}
 use Rattle.dwp_elf.proofs.Changes.{cut_more, cut_all, length-contents_of, truncated-contents_of}
 use Rattle.dwp_elf.proofs.Growth.{truncated-begins}
 use Rattle.dwp_elf.proofs.KindCounts.{KindsDiffer-truncated}
 use Rattle.dwp_elf.proofs.object.WritableObject.truncate.Goals as goal
+
+-- all but the contents is as it was
+cut_object : (old new : Inside) (sizes : List ℕ) → new ≡ record old { sections = new.sections }
+    → contents_of new.sections.items ≡ truncated (contents_of old.sections.items) sizes
+    → object_of new ≡ record (object_of old) {
+      contents = truncated (contents_of old.sections.items) sizes;
+    }
+cut_object old new sizes others is = ap object_of others ∙ rw is refl
 
 pub loop-number-preserved : goal.loop-number-preserved
 loop-number-preserved c = grind (arith, common_steps, cut_more, length-contents_of)
@@ -21,11 +32,13 @@ returns-clause-taken_back c before grown same =
     grind (arith, common_steps, length-contents_of, cut_all, truncated-contents_of) in
     let inside = rw (sym c.self.view_is) at grown in
     let cut = truncated-begins before.contents _ inside.contents in
-    rw (is, same, cut, inside.class, inside.machine, inside.order)
+    cut_object c.self.inside c.loop-number.self-inside _ c.loop-number.invariant.others is
+    ∙ rw (same, cut, inside.class, inside.machine, inside.order) refl
 
 pub returns-clause-cut : goal.returns-clause-cut
 returns-clause-cut c =
     let is : contents_of c.loop-number.self-inside.sections.items ≡ truncated
     (contents_of c.self.inside.sections.items) c.args.sizes.now =
     grind (arith, common_steps, length-contents_of, cut_all, truncated-contents_of) in
-    rw (← c.self.view_is, is) refl
+    rw (sym c.self.view_is) (cut_object c.self.inside c.loop-number.self-inside _
+    c.loop-number.invariant.others is)
