@@ -204,6 +204,12 @@ pub next_shorter : (i : Input) (x : Next) → next_at i ≡ Ok (Some x)
     → length x.1.bytes < length i.bytes
 next_shorter i x e = omega (arith, goes_length (next_takes i x e).goes)
 
+-- a code and a declaration behind it
+pub next_is : (i : Input) {j k : Input} {code : ℕ} {d : Declaration} → code_at i ≡ Ok (code, j)
+    → code ≢ 0 → declaration_at j ≡ Ok (d, k) → next_at i ≡ Ok (Some ((code, d), k))
+unfolding next_at
+next_is i coded some read = rw (coded, ne_eqb _ 0 some, read) refl
+
 -- a declaration with the pairs that can be read behind its byte on children
 abbrev with_pairs : ℕ → Bool × Input → Declaration
 with_pairs tag children =

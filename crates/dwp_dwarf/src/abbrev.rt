@@ -5,7 +5,7 @@ ghost use Rattle.dwp_base.specs.Reading.{Answers, Reads};
 ghost use Rattle.dwp_bytes.specs.Input.{Input};
 ghost use Rattle.dwp_bytes.specs.Leb.{uleb_at};
 ghost use Rattle.dwp_dwarf.specs.Abbreviations.{constant_at, specification_at, past_specifications};
-ghost use Rattle.dwp_dwarf.specs.Abbreviations.{tag_at, children_at};
+ghost use Rattle.dwp_dwarf.specs.Abbreviations.{tag_at, children_at, declaration_at};
 ghost use Rattle.dwp_dwarf.specs.Abbreviations.{declaration, is_last, Declaration};
 ghost use Rattle.dwp_dwarf.specs.Grammar.{next_at};
 ghost use Rattle.dwp_dwarf.specs.Offsets.{from_at};
@@ -133,6 +133,23 @@ fn read_children<R: Reader>(reader: &mut R) -> Result<bool, ReadError>
     Ok(byte == 1)
 }
 
+/// A declaration behind its code.
+#[tactic(auto, unfolding(crate::specs::Abbreviations::declaration_at))]
+fn read_declaration<R: Reader>(reader: &mut R) -> Result<Abbreviation<R>, ReadError>
+    ensures { Reads (declaration_of R.input) result (R.input reader.old) (R.input reader.new)
+        declaration_at }
+{
+    let mut specifications = *reader;
+    let tag = read_tag(&mut specifications)?;
+    let has_children = read_children(&mut specifications)?;
+    *reader = after_specifications(specifications)?;
+    Ok(Abbreviation {
+        tag,
+        has_children,
+        specifications,
+    })
+}
+
 /// The declaration that stands there with its code, where one is known to: its list isn't gone
 /// over.
 pub(crate) fn known_declaration<R: Reader>(mut at: R) -> Result<Abbreviation<R>, ReadError>
@@ -150,7 +167,7 @@ pub(crate) fn known_declaration<R: Reader>(mut at: R) -> Result<Abbreviation<R>,
 }
 
 /// The next declaration with its code, and what comes behind it; None at the end of the table.
-#[tactic(auto, unfolding(crate::specs::Grammar::next_at, crate::specs::Abbreviations::declaration_at))]
+#[tactic(auto, unfolding(crate::specs::Grammar::next_at))]
 pub(crate) fn next_declaration<R: Reader>(
     mut at: R,
 ) -> Result<Option<(u64, Abbreviation<R>, R)>, ReadError>
@@ -160,15 +177,8 @@ pub(crate) fn next_declaration<R: Reader>(
     if code == 0 {
         return Ok(None);
     }
-    let tag = read_tag(&mut at)?;
-    let has_children = read_children(&mut at)?;
-    let behind = after_specifications(at)?;
-    let abbreviation = Abbreviation {
-        tag,
-        has_children,
-        specifications: at,
-    };
-    Ok(Some((code, abbreviation, behind)))
+    let abbreviation = read_declaration(&mut at)?;
+    Ok(Some((code, abbreviation, at)))
 }
 
 /// The first declaration of a code in what is left of a table, which is read no further.
@@ -178,13 +188,16 @@ pub(crate) fn find_declaration<R: Reader>(
 ) -> Result<Option<Abbreviation<R>>, ReadError>
     ensures { Answers (found_of R.input) result (declaration code (R.input rest.old)) }
 {
-    while let Some((found, abbreviation, behind)) = next_declaration(*rest)? {
-        *rest = behind;
+    loop {
+        let found = read_code(rest)?;
+        if found == 0 {
+            return Ok(None);
+        }
+        let abbreviation = read_declaration(rest)?;
         if found == code {
             return Ok(Some(abbreviation));
         }
     }
-    Ok(None)
 }
 
 impl AttributeSpecification {
