@@ -1,9 +1,9 @@
 -- The type units that an input's steps pass over and find to differ are those of its list of units.
 use Rattle.thorin.proofs.Terms
-use Terms.{ap, append-nil, append_assoc, bind-was, Compilation, DwarfObject, Elf, IndexEntry, inl}
-use Terms.{InProgress, inr, List, lookup, map, map-append, Meaning, None, Ok, Option, refl, rules}
-use Terms.{same-ok, same_name, Some, Source, source-made, source_units, State, sym, taken, takes}
-use Terms.{TypeUnit, UnitRead, units_in, Used, with_all_parts, [], ℕ, ◌++◌, ◌∙◌, ◌∷◌, ◌≡◌}
+use Terms.{ap, append-nil, append_assoc, begun-now, bind-was, Compilation, DwarfObject, Elf}
+use Terms.{IndexEntry, inl, InProgress, inr, List, lookup, map, map-append, Meaning, None, Ok}
+use Terms.{Option, refl, rules, same-ok, same_name, Some, Source, source-made, source_units, State}
+use Terms.{sym, taken, takes, TypeUnit, UnitRead, units_in, Used, [], ℕ, ◌++◌, ◌∙◌, ◌∷◌, ◌≡◌}
 use Rattle.thorin_input.specs.NewUnits.{Adding, New, NewUnit, or_held, with_first, with_unit}
 use Rattle.thorin_join.specs.Represents.{meaning_at, units_begun}
 use Rattle.thorin_join.specs.Builder.{differing_begun, differing_in, package_or_new}
@@ -14,7 +14,7 @@ use Rattle.thorin.specs.Differing.{Bytes, differing, differing_by, input_units, 
 use Rattle.thorin.specs.Differing.{or_there, own_bytes, read_bytes}
 use Rattle.thorin_join.proofs.Units.ReadInTurn.{Steps, units-read}
 use Rattle.thorin_join.proofs.Parts.Added.{each-unit}
-use Rattle.thorin.proofs.Running.{begun-then}
+use Rattle.thorin_join.proofs.Joined.{with_all_parts}
 
 -- ---- what steps do
 
@@ -91,7 +91,7 @@ pub taken-differs : (bytes : List ℕ) (old new : State) (units : Bytes) → tak
     → differing_in new ≡ differing_in old ++ differing (own_bytes (units_in old)) [] units
 unfolding input_units object_units
 taken-differs bytes old new units h k =
-    let t = takes bytes old.begun new.begun (begun-then bytes old new h) in
+    let t = takes bytes old.begun new.begun (begun-now bytes old new h) in
     let made = package_or_new t.file old.begun in
     let read = rw t.opens at k in
     elim t.does [

@@ -1,42 +1,31 @@
 -- Joining in groups: joining what groups joined is joining all of them. And what packing in groups
 -- means: the join of all inputs at once.
 use Rattle.thorin.proofs.Terms
-use Terms.{ap, append-nil, append_assoc, AreJoined, ArePackedAlone, AreTaken, arith, bind-was, Bool}
-use Terms.{both-true, can_join, cond, drop, drop-map, DwarfObject, File, filter, filter-append}
-use Terms.{finish_test, flat_map, HaveTheirEncodings, InProgress, input_meaning, inputs_of}
-use Terms.{is_compilation, IsDistinct, IsFinishedState, IsPackageOf, IsPackageOfAll}
-use Terms.{IsPackedInGroups, IsPermutation, IsSoundBegun, JoinAll, joining, keys, length}
-use Terms.{length-append, length-map, List, list_any, lookup, map, map-append, map-set, Meaning}
-use Terms.{Members, nat_tests, None, Ok, Option, option_or, refl, remove, rules, same_name, Some}
-use Terms.{start, State, subst, swap, sym, take, take-append-drop, take-map, taken, taken_each}
-use Terms.{true, units_in, with_input, [], ℕ, ◌&&◌, ◌++◌, ◌+◌, ◌==◌, ◌∙◌, ◌∷◌, ◌≡◌}
-use Rattle.std.proofs.lemmas.List.Sorted.{Contains-permutation, IsPermutation-cons}
-use Rattle.std.proofs.lemmas.List.Sorted.{IsPermutation-map, IsPermutation-refl}
-use Rattle.std.proofs.lemmas.List.Sorted.{IsPermutation-remove, IsPermutation-sym}
-use Rattle.std.proofs.lemmas.List.Sorted.{IsPermutation-trans, sum_by-IsPermutation}
+use Terms.{ap, append-nil, append_assoc, AreJoined, ArePackedAlone, AreTaken, arith, begun-now}
+use Terms.{bind-was, Bool, both-true, can_join, cond, drop, drop-map, DwarfObject, File, filter}
+use Terms.{filter-append, finish_test, flat_map, HaveTheirEncodings, InProgress, input_meaning}
+use Terms.{inputs_of, is_compilation, IsDistinct, IsFinishedState, IsPackageOf, IsPackageOfAll}
+use Terms.{IsPackedInGroups, IsPermutation, IsPermutation-sym, IsSoundBegun, JoinAll, joining, keys}
+use Terms.{length, length-append, length-map, List, list_any, lookup, map, map-append, map-set}
+use Terms.{Meaning, Members, nat_tests, None, Ok, Option, option_or, refl, remove, rules, same_name}
+use Terms.{Some, start, State, subst, swap, sym, take, take-append-drop, take-map, taken}
+use Terms.{taken_each, true, units_in, with_input, [], ℕ, ◌&&◌, ◌++◌, ◌+◌, ◌==◌, ◌∙◌, ◌∷◌, ◌≡◌}
 use Rattle.std.proofs.lemmas.List.Folds.{list_any-append}
+use Rattle.std.proofs.lemmas.List.Sorted.{IsPermutation-cons, IsPermutation-refl}
+use Rattle.std.proofs.lemmas.List.Sorted.{IsPermutation-remove, IsPermutation-trans}
 use Rattle.std.proofs.lemmas.Map.{lookup-none}
 use Rattle.std.proofs.lemmas.Map.Entries.{none_past_head}
-use Rattle.std.proofs.lemmas.Map.Keys.{IsDistinct-from_apart, IsDistinct-IsPermutation}
-use Rattle.std.proofs.lemmas.Map.Keys.{IsDistinct-tail}
-use Rattle.std.proofs.lemmas.Map.Views.{Contains-from_lookup, lookup-from_Contains}
+use Rattle.std.proofs.lemmas.Map.Keys.{IsDistinct-from_apart, IsDistinct-tail}
+use Rattle.std.proofs.lemmas.Map.Views.{Contains-from_lookup}
 use Rattle.thorin_join.proofs.Units.InRows.{apart-none, joined_distinct, same_name-self}
-use Rattle.thorin_join.proofs.Units.InRows.{same_name-sym, same_name-true}
+use Rattle.thorin_join.proofs.Units.InRows.{same_name-true}
+use Rattle.thorin_again.proofs.Accepted.Written.{apart-again, count-again, equivalence, found-again}
 use Rattle.thorin_again.specs.Again.{all_meant, HaveEncodingOf, MeansOnceWritten, MeansWhereTaken}
 use Rattle.std.proofs.Math.ListN.{get_or-map}
 use Rattle.std.specs.List.Sorted.{apply_swaps}
 use Rattle.std.proofs.lemmas.Map.Made.{keys_of-map_values}
-use Rattle.thorin.proofs.Running.{as-written, begun-then, each-taken}
+use Rattle.thorin.proofs.Running.{as-written, each-taken}
 use Rattle.std.proofs.Math.Seq.{drop-append_seam, take-append_seam}
-use Rattle.std.specs.Cmp.{IsEquivalence}
-use Rattle.std.proofs.lemmas.List.Sums.{length-filter}
-
-names-equal : IsEquivalence same_name
-names-equal = record {
-  refl = same_name-self;
-  symm = λ a b. grind (rules, same_name-sym a b, same_name-sym b a);
-  congr = λ x y z h. ap (λ n. same_name n z) (same_name-true x y h);
-}
 
 abbrev pub Named : Type 0 → Type 0
 Named X = List (DwarfObject × X)
@@ -76,29 +65,11 @@ module _ {X : Type 0} where
   joined-apart us = IsDistinct-from_apart same_name (keys (joining [] us))
       (joined_distinct [] us apart-none)
 
-  apart-again : (us vs : Named X) → IsPermutation us vs → IsDistinct same_name (keys us)
-      → IsDistinct same_name (keys vs)
-  apart-again us vs h = IsDistinct-IsPermutation same_name names-equal.symm (keys us) (keys vs)
-      (IsPermutation-map (λ (u : DwarfObject × X). u.0) us vs h)
-
-  still-found : (us vs : Named X) → IsDistinct same_name (keys vs) → IsPermutation us vs
-      → (name : DwarfObject) (x : X) → lookup (same_name name) us ≡ Some x
-      → lookup (same_name name) vs ≡ Some x
-  still-found us vs apart h name x found = lookup-from_Contains names-equal name x vs apart
-      (Contains-permutation us vs (name, x) h (Contains-from_lookup same_name-true name x us found))
-
-  -- they are found alike in any order
-  pub found-again : (us vs : Named X) → IsDistinct same_name (keys us) → IsPermutation us vs
-      → (name : DwarfObject) → lookup (same_name name) us ≡ lookup (same_name name) vs
-  found-again us vs apart h name =
-      let there = still-found us vs (apart-again us vs h apart) h name in
-      grind (rules, there, still-found vs us apart (IsPermutation-sym us vs h) name)
-
   -- behind the first of a list its name is not found
   past-first : (u : DwarfObject × X) (us : Named X) → IsDistinct same_name (keys (u ∷ us))
       → (name : DwarfObject) → same_name name u.0 ≡ true → lookup (same_name name) us ≡ None
   past-first u us apart name same =
-      lookup-none (same_name name) us (none_past_head names-equal name u us apart same)
+      lookup-none (same_name name) us (none_past_head equivalence name u us apart same)
 
   -- and those that are found alike are the same, in some order
   same-units : (us vs : Named X) → IsDistinct same_name (keys us) → IsDistinct same_name (keys vs)
@@ -131,10 +102,6 @@ module _ {X : Type 0} where
       → compilations (us ++ vs) ≡ compilations us + compilations vs
   compilations-append us vs = simp (filter-append, length-append)
 
-  compilations-again : (us vs : Named X) → IsPermutation us vs → compilations us ≡ compilations vs
-  compilations-again us vs h =
-      simp length-filter (sym (sum_by-IsPermutation (λ u. cond (is_one u) 1 0) us vs h))
-
   -- so many of them are passed over; a list can be joined where none is
   counted : (names : List DwarfObject) (us : Named X) → (n : ℕ)
       × (n + compilations (joining names us) ≡ compilations us) × (can_join names us ≡ (n == 0))
@@ -164,14 +131,8 @@ module _ {X : Type 0} where
       let later = groups-alike gs rs are.2 in
       let c = counted [] g in (
         λ name. let found = found-again (joining [] g) r (joined-apart g) are.1 name in
-            grind (
-              rules,
-              lookup-append (same_name name),
-              found-joined name [] g,
-              found,
-              later.0 name,
-            ),
-        grind (arith, nat_tests, compilations-append, compilations-again (joining [] g) r are.1),
+            grind (rules, lookup-append (same_name name), found-joined name [] g, found, later.0 name),
+        grind (arith, nat_tests, compilations-append, count-again is_one (joining [] g) r are.1),
       )
   groups-alike _ _ are = absurd are
 
@@ -186,7 +147,7 @@ module _ {X : Type 0} where
         let a = counted [] (flat groups) in
         let b = counted [] (flat results) in
         let alike = groups-alike groups results are in
-        let again = compilations-again (joining [] (flat groups)) (joining [] (flat results))
+        let again = count-again is_one (joining [] (flat groups)) (joining [] (flat results))
         groups-joined in
         grind (arith, nat_tests)
 
@@ -311,7 +272,7 @@ pub sound-taken : KeepsSound → (list : List (List ℕ)) (old new : State) → 
 sound-taken keeps [] old new sound are = rw are.1 sound
 sound-taken keeps (bytes ∷ rest) old new sound are =
     sound-taken keeps rest are.1 new (keeps bytes old.begun are.1.begun sound
-    (begun-then bytes (record old { targets = are.0 }) are.1 are.2)) are.3
+    (begun-now bytes (record old { targets = are.0 }) are.1 are.2)) are.3
 
 -- ---- units in another order
 

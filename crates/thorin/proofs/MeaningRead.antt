@@ -1,13 +1,14 @@
 -- What a package means as an input is what a reader of packages finds in it.
 use Rattle.thorin.proofs.Terms
 use Terms.{ap, as_error, bind-was, both, by-bool, by-choice, Compilation, cond, DwarfObject, Elf}
-use Terms.{elf_of, Encoding, encoding_of, Endianness, Err, false, find, has_info, has_name, Indexes}
-use Terms.{inl, input_meaning, inr, is-false, is-same, is_none, is_some, List, map, Meaning, None}
-use Terms.{Ok, Option, option_and_then, own_contribution, ParseFileKind, refl, Result, rules}
-use Terms.{same-ok, same-self, SectionKind, SectionMeaning, Some, Source, source_units, Str, sym}
-use Terms.{true, TypeUnit, UnitRead, Used, [], ℕ, ◌&&◌, ◌++◌, ◌>>=◌, ◌||◌, ◌∙◌, ◌∷◌, ◌≡◌, ◌⊎◌}
-use Rattle.thorin_input.specs.Used.{counts_once, elf_in, first, has_kind, input_file_of, InputFile}
-use Rattle.thorin_input.specs.Used.{opened, unusable, used_bytes, used_from, used_kind, with_used}
+use Terms.{elf_of, Encoding, encoding_of, Endianness, Err, false, find, has_name, Indexes, inl}
+use Terms.{input_meaning, inr, is-false, is-same, is_none, is_some, List, map, Meaning, None, Ok}
+use Terms.{Option, option_and_then, own_contribution, ParseFileKind, refl, Result, rules, same-ok}
+use Terms.{same-self, SectionKind, SectionMeaning, Some, Source, source_units, Str, sym, true}
+use Terms.{TypeUnit, UnitRead, Used, [], ℕ, ◌&&◌, ◌++◌, ◌>>=◌, ◌||◌, ◌∙◌, ◌∷◌, ◌≡◌, ◌⊎◌}
+use Rattle.thorin_input.specs.Used.{counts_once, elf_in, first, has_info, has_kind, input_file_of}
+use Rattle.thorin_input.specs.Used.{InputFile, opened, unusable, used_bytes, used_from, used_kind}
+use Rattle.thorin_input.specs.Used.{with_used}
 use Rattle.dwp_base.specs.Sections.{all_kinds, same_kind}
 use Rattle.dwp_index.specs.Index.{Index, range_in, Ranges}
 use Rattle.dwp_index.specs.Package.{index_in_section, is_outside, Package, package_of, part_of}

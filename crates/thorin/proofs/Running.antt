@@ -4,8 +4,8 @@ use Terms.{ap, append-nil, append_assoc, ArePackedAlone, AreTaken, bind-was, Com
 use Terms.{drop_more, DwarfObject, elf_of, Err, ErrorValue, file_text, get_or, IfOk, inl, Input}
 use Terms.{inr, IsPackedAlone, IsWritten, JoinAll, KindsDiffer, length, List, map, map-append}
 use Terms.{Members, Ok, Option, Outcome, Ran, refl, Result, rules, same-ok, State, subst, sym, take}
-use Terms.{take-append-drop, taken, taken_each, TakesInput, TypeUnit, units_in, with_input}
-use Terms.{written_elf, [], ℕ, ◌++◌, ◌+◌, ◌<◌, ◌∙◌, ◌∷◌, ◌≡◌}
+use Terms.{take-append-drop, taken, taken_each, TakesInput, TypeUnit, units_in, written_elf, [], ℕ}
+use Terms.{◌++◌, ◌+◌, ◌<◌, ◌∙◌, ◌∷◌, ◌≡◌}
 use Rattle.thorin_errors.specs.declared.error.InputError.{InputError}
 use Rattle.thorin_errors.specs.declared.error.InputError.TheVariants.{Io, Memory as no_memory}
 use Rattle.thorin_errors.specs.declared.error.MissingReferencedObjectBehaviour.{MissingReferencedObjectBehaviour}
@@ -142,12 +142,6 @@ run-accepts offer (i ∷ is) old new (o ∷ os) accepted (s, takes, rest, all) =
 run-accepts offer _ old new _ accepted ran = absurd ran
 
 -- ---- inputs that are all taken
-
--- what one input made of a package
-pub begun-then : (bytes : List ℕ) (old new : State) → taken bytes old ≡ Ok new
-    → with_input bytes old.begun ≡ Ok new.begun
-unfolding taken
-begun-then bytes old new h = grind rules
 
 -- those that are all taken
 pub each-taken : (list : List (List ℕ)) (old new : State) → taken_each list old ≡ Ok new

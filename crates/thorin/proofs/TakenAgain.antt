@@ -1,19 +1,21 @@
 -- Packages that are packed again, and inputs of one encoding, as packing has them.
 use Rattle.thorin.proofs.Terms
-use Terms.{ap, ArePackedAlone, AreTaken, arith, bind-was, CanBePackedAgain, DwarfObject, Elf}
-use Terms.{elf_of, Encoding, encoding_of, Endianness, Err, Error, ErrorValue, File, find}
-use Terms.{finish_test, IfOk, inl, inr, is_missing, IsFinishedState, IsOfEncoding, IsPlainOf}
-use Terms.{IsSoundBegun, IsWritten, List, None, Ok, Option, refl, Result, Some, start, State, sym}
-use Terms.{taken, taken_each, Writes, written_elf, [], ℕ, ⊎_elim, ◌>>=◌, ◌∙◌, ◌∷◌, ◌≡◌, ◌⊎◌}
-use Rattle.thorin_join.specs.Builder.{names_in, order_of}
-use Rattle.thorin.specs.Groups.{IsUnwritten, RefusesPackages}
+use Terms.{ap, ArePackedAlone, AreTaken, arith, begun-now, bind-was, CanBePackedAgain, DwarfObject}
+use Terms.{Elf, elf_of, Encoding, encoding_of, Endianness, Err, ErrorValue, File, find, finish_test}
+use Terms.{IfOk, inl, inr, is_missing, IsFinishedState, IsOfEncoding, IsPlainOf, IsSoundBegun}
+use Terms.{IsWritten, List, names_in, None, Ok, Option, refl, RefusesPackages, Result, Some, start}
+use Terms.{State, sym, taken, taken_each, Writes, written_elf, [], ℕ, ⊎_elim, ◌∙◌, ◌∷◌, ◌≡◌, ◌⊎◌}
 use Rattle.thorin.specs.Unfinished.{AreMixed, AreTooLong, IsGroupsError, IsUnfinished, LacksInput}
 use Rattle.thorin_input.specs.Used.{input_file_of, InputFile, opened}
+use Rattle.thorin_errors.specs.declared.error.Error.{Error}
+use Rattle.thorin_join.specs.Builder.{order_of}
 use Rattle.thorin_again.specs.Again.{input_encoding}
 use Rattle.thorin_again.specs.OwnAccepted.{IsAcceptedOnceWritten}
-use Rattle.thorin_again.specs.OwnRefusals.{UnlessForeseen}
+use Rattle.thorin_again.specs.OwnRefusals.{IsForeseen, UnlessForeseen}
+use Rattle.thorin.specs.Groups.{IsUnwritten}
 use Rattle.thorin.proofs.GroupJoins.{KeepsSound}
-use Rattle.thorin.proofs.Running.{begun-then, each-taken, read-text}
+use Rattle.thorin.proofs.Running.{each-taken, read-text}
+use Rattle.thorin_again.proofs.Opened.Sections.{and-then}
 
 -- of a file that may have been written
 pub if-written : {V : Type 0} (view : V → List ℕ) (state : State) (P : List ℕ → Type 0)
@@ -75,13 +77,6 @@ unwritten-why law packages error u = ⊎_elim
     })))
     u.refused
 
--- taking one of them, and then the others
-then-foreseen : (r : Result State ErrorValue) (f : State → Result State ErrorValue)
-    → UnlessForeseen r
-    → ((next : State) → r ≡ Ok next → UnlessForeseen (f next)) → UnlessForeseen (r >>= f)
-then-foreseen (Ok next) f h later = later next refl
-then-foreseen (Err error) f h later = h
-
 module _ (keeps : KeepsSound) (any : AcceptedLaw) (finishes : UnfinishedLaw) (orders : OrderLaw)
     (order : Endianness) where
   each-foreseen : (groups : List (List (List ℕ))) (packages : List (List ℕ))
@@ -95,10 +90,10 @@ module _ (keeps : KeepsSound) (any : AcceptedLaw) (finishes : UnfinishedLaw) (or
       let w = each.0.written in
       let accepted = any group state w.file (each-taken group start state each.0.taken) w.tested
       w.finished can.0 w.kinds (read-text state bytes w) in
-      then-foreseen (taken bytes old) (taken_each files)
+      and-then IsForeseen (taken bytes old) (taken_each files)
       (rw w.text (accepted old sound (rw can.1 same))) (λ next took.
       each-foreseen groups files each.1 can.2 next
-      (keeps bytes old.begun next.begun sound (begun-then bytes old next took))
+      (keeps bytes old.begun next.begun sound (begun-now bytes old next took))
       (orders bytes (written_elf w.file) old next order w.read_back took ∙ rw can.1 same))
   each-foreseen _ _ each can old sound same = absurd can
 

@@ -7,30 +7,32 @@ pub use Rattle.std.proofs.Common.{Bor, flat_map, IsPermutation, length-take-le, 
 pub use Rattle.std.proofs.Common.{remove, swap, take_all, ⊎_elim, ◌==◌}
 pub use Rattle.std.proofs.lemmas.List.{map-set, map_more, take_more}
 pub use Rattle.std.proofs.lemmas.List.Elements.{All-head, All-tail}
+pub use Rattle.std.proofs.lemmas.List.Sorted.{IsPermutation-sym}
 pub use Rattle.std.specs.List.{drop-map, IsDistinct, take-map}
 pub use Rattle.std.specs.Option.{ok_or, option_or}
 pub use Rattle.thorin.specs.Again.{CanBePackedAgain, HasCommonEncoding, IsTakenAgain}
 pub use Rattle.thorin.specs.Groups.{AreJoined, ArePackedAlone, bytes_in, groups_in}
 pub use Rattle.thorin.specs.Groups.{HaveTheirEncodings, inputs_of, IsPackageOfAll, IsPackedAlone}
-pub use Rattle.thorin.specs.Groups.{IsPackedInGroups, PacksAlone, PacksInGroups}
+pub use Rattle.thorin.specs.Groups.{IsPackedInGroups, PacksAlone, PacksInGroups, RefusesPackages}
 unfoldable pub use Rattle.thorin.specs.Groups.{taken_each}
 pub use Rattle.thorin.specs.Run.{IsWritten, Ran, TakesInput, Writes}
 pub use Rattle.thorin.specs.declared.packing.Input.{Input}
+pub use Rattle.thorin_again.proofs.Kept.OneEncoding.{begun-now}
 pub use Rattle.thorin_again.specs.OneEncoding.{AnswersAs, IsOfEncoding}
 pub use Rattle.thorin_again.specs.PlainInputs.{AreTaken, IsPlainOf}
-pub use Rattle.thorin_builder.proofs.Terms.{accepted_of, drop_more, Error, File, find, get_or, IfOk}
-pub use Rattle.thorin_builder.proofs.Terms.{is_missing, IsFinishedState, Outcome, rules, State}
+pub use Rattle.thorin_builder.proofs.Terms.{accepted_of, drop_more, find, get_or, IfOk, is_missing}
+pub use Rattle.thorin_builder.proofs.Terms.{IsFinishedState, names_in, Outcome, rules, State}
 unfoldable pub use Rattle.thorin_builder.proofs.Terms.{finish_test, taken}
 pub use Rattle.thorin_errors.specs.Errors.{ParseFileKind}
 unfoldable pub use Rattle.thorin_index.specs.EntryTests.{tests_under}
 pub use Rattle.thorin_input.specs.Encodings.{encoding_of}
 pub use Rattle.thorin_input.specs.Rows.{own_contribution}
-pub use Rattle.thorin_join.proofs.Joined.{source-made, takes, with_all_parts}
+pub use Rattle.thorin_join.proofs.Joined.{source-made, takes}
 use Rattle.thorin_join.proofs.Terms as Joined
 pub use Joined.{ap, append-nil, append_assoc, arith, as_error, bind-ok, bind-was, Bool, by-bool}
 pub use Joined.{can_join, codes, Compilation, cond, content_of, Contribution, drop, DwarfObject}
-pub use Joined.{Each, Elf, elf_of, Encoding, Endianness, Err, ErrorValue, false, file_text, filter}
-pub use Joined.{filter-append, Format, has_info, IndexEntry, Indexes, inl, InProgress, inr, is-same}
+pub use Joined.{Each, Elf, elf_of, Encoding, Endianness, Err, ErrorValue, false, File, file_text}
+pub use Joined.{filter, filter-append, Format, IndexEntry, Indexes, inl, InProgress, inr, is-same}
 pub use Joined.{is_compilation, is_none, is_some, IsSound, IsSoundBegun, joining, keys, KindsDiffer}
 pub use Joined.{length, length-append, length-drop, length-map, LieInside, List, list_any, lookup}
 pub use Joined.{map, map-append, Meaning, Members, nat_le, nat_tests, None, not, Ok, Option, refl}

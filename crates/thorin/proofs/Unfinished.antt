@@ -2,13 +2,12 @@
 -- refused for two encodings alone, or for a number of a long section. Rows of many units have a
 -- long section: a unit has at least six bytes, those of its length and of its version.
 use Rattle.thorin.proofs.Terms
-use Terms.{ap, AreTaken, arith, bind-was, Bool, by-bool, codes, content_of, Contribution, drop}
-use Terms.{Each, Encoding, Endianness, Err, ErrorValue, filter, finish_test, Format, IndexEntry}
-use Terms.{inl, InProgress, inr, is_compilation, is_some, IsSound, IsSoundBegun, length}
-use Terms.{length-append, length-drop, length-take-le, LieInside, List, nat_le, nat_tests, None}
-use Terms.{not, Ok, ok_or, Option, refl, Result, SectionKind, Some, start, State, subst, sym, takes}
-use Terms.{tests_under, true, [], ℕ, ◌*◌, ◌+◌, ◌-◌, ◌<◌, ◌>>=◌, ◌^◌, ◌∙◌, ◌∷◌, ◌≡◌, ◌≤◌, ◌⊎◌}
-use Rattle.thorin_join.specs.Builder.{compilations, indexes_test, names_in, targets_test}
+use Terms.{ap, AreTaken, arith, begun-now, bind-was, Bool, by-bool, codes, content_of, Contribution}
+use Terms.{drop, Each, Encoding, Endianness, Err, ErrorValue, filter, finish_test, Format}
+use Terms.{IndexEntry, inl, InProgress, inr, is_compilation, is_some, IsSound, IsSoundBegun, length}
+use Terms.{length-append, length-drop, length-take-le, LieInside, List, names_in, nat_le, nat_tests}
+use Terms.{None, not, Ok, ok_or, Option, refl, Result, SectionKind, Some, start, State, subst, sym}
+use Terms.{takes, tests_under, true, [], ℕ, ◌*◌, ◌+◌, ◌-◌, ◌<◌, ◌>>=◌, ◌^◌, ◌∙◌, ◌∷◌, ◌≡◌, ◌≤◌, ◌⊎◌}
 use Rattle.std.proofs.lemmas.List.Filters.{length-filter_both}
 use Rattle.dwp_bytes.specs.Input.{Input, number_at, section, split_at}
 use Rattle.dwp_units.specs.Units.{header_at, initial_length_at, Unit as Header, unit_at}
@@ -24,12 +23,12 @@ use Rattle.thorin_errors.specs.Errors.{MixedInputEncodings, NoOutputObjectCreate
 use Rattle.thorin_index.specs.Entries.{contribution_to, offset_or_0, size_or_0}
 use Rattle.thorin_index.specs.EntryTests.{contributions_test, count_test, each, encoding_test}
 use Rattle.thorin_index.specs.EntryTests.{format_test, index_tests, number_test, same_encoding}
+use Rattle.thorin_join.specs.Builder.{compilations, indexes_test, targets_test}
 use Rattle.thorin_join.specs.StandApart.{contents_begun, EachRow}
 use Rattle.thorin_join.proofs.Rows.StandApart.{sound-inside}
 use Rattle.thorin_join.proofs.Units.ReadInTurn.{each-all}
 use Rattle.thorin_again.specs.InFormat.{AreInFormat, HasEncodingOfOne, HaveEncodingsOf, IsInFormat}
 use Rattle.std.proofs.lemmas.List.Sums.{count_by-le-length, length-filter}
-use Rattle.thorin.proofs.Running.{begun-then}
 use Rattle.dwp_base.specs.declared.section.SectionKind.TheVariants as kinds
 use Rattle.dwp_units.specs.declared.unit.UnitSection.TheVariants as places
 
@@ -268,8 +267,7 @@ module _ (inputs : List (List ℕ)) (state : State) (made : InProgress)
     format = all_kept_by test _ made.rows (rw begun at format);
     encodings = all_kept_by test _ made.rows (rw begun at encodings);
     many = λ many. let few = count_by-le-length test made.rows in
-        rw begun (many-long made sound.laid
-        (omega (arith, many, few, length-filter test made.rows)));
+        rw begun (many-long made sound.laid (omega (arith, many, few, length-filter test made.rows)));
   }
 
 -- a state that has taken an input has begun a package
@@ -277,7 +275,7 @@ none-taken : (inputs : List (List ℕ)) (old new : State) → AreTaken inputs ol
     → new.begun ≡ None → (inputs ≡ []) × (old.begun ≡ None)
 none-taken [] old new are none = (refl, sym (ap (λ (s : State). s.begun) are.1) ∙ none)
 none-taken (bytes ∷ rest) old new are none =
-    let t = takes bytes old.begun _ (begun-then bytes (record old { targets = are.0 }) _ are.2) in
+    let t = takes bytes old.begun _ (begun-now bytes (record old { targets = are.0 }) _ are.2) in
     let was = (none-taken rest are.1 new are.3 none).1 in
     absurd (grind (arith, t.does, was))
 
@@ -304,8 +302,7 @@ unfinished inputs state error are sound format encodings h =
     by (Some made) is k =
         let known = chosen-known inputs state made is (rw is at sound) format encodings in
         inr (elim (step-failed (index_tests (compilations made.rows)) _ error k) [
-          | inl first ↦ index-failed inputs state error _
-              (known (λ row. is_compilation row.id)) first
+          | inl first ↦ index-failed inputs state error _ (known (λ row. is_compilation row.id)) first
           | inr second ↦ index-failed inputs state error _
               (known (λ row. not (is_compilation row.id))) second.2
         ])

@@ -1,7 +1,7 @@
-use Rattle.thorin.proofs.Terms.{IsPackageOf, Ok, start, subst, sym, taken, units_in, ◌≡◌}
+use Rattle.thorin.proofs.Terms.{begun-now, IsPackageOf, Ok, start, subst, sym, taken, units_in, ◌≡◌}
 use Rattle.thorin_again.specs.Again.{HaveEncodingOf, MeansWhereTaken}
 use Rattle.thorin.proofs.GroupJoins.{sound-taken}
-use Rattle.thorin.proofs.Running.{as-written, begun-then, read-text}
+use Rattle.thorin.proofs.Running.{as-written, read-text}
 use Rattle.thorin.proofs.TakenAgain.{plain-encoding}
 use Rattle.thorin.proofs.again.refused_packages_mean_what_is_read.Goals as goal
 
@@ -10,7 +10,7 @@ returns-clause-taken c accepted state bytes before after are w have other took =
     let units = units_in state in
     let sound = sound-taken c.inputs_are_joined.ensures.sound accepted start state tt are in
     let j = c.inputs_are_joined.ensures.joins bytes before.begun after.begun other
-    (begun-then bytes before after took) in
+    (begun-now bytes before after took) in
     record {
       meant = j.units;
       meaning = j.meaning;
