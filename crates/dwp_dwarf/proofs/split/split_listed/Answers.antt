@@ -1,6 +1,3 @@
-use Rattle.dwp_dwarf.specs.Split.{split_in}
-use Rattle.std.proofs.Common.{arith}
-use Rattle.std.proofs.lemmas.Grind.{common_steps}
 use Rattle.dwp_dwarf.proofs.Terms
 use Terms.{◌+◌, ap, attribute_of, attributes, attributes_of, drop, drop_more, map, specification_of}
 use Terms.{SplitAttributes, sym, ◌∙◌}
@@ -21,11 +18,3 @@ loop-specification-preserved g c =
     ∙ sym (after-first format (attributes_of input c.loop-specification.found)
     (attribute_of input c.in_ok-attribute.attribute) rest)
     ∙ (rw (dropped, c.in_ok-attribute.ensures) at c.loop-specification.invariant)
-
-pub returns : goal.returns
-unfolding split_in
-returns g c = grind (arith, common_steps)
-
-pub returns-in_err-attribute : goal.returns-in_err-attribute
-unfolding split_in
-returns-in_err-attribute g c = grind (arith, common_steps)

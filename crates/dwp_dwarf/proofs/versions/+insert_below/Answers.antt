@@ -1,5 +1,3 @@
-use Rattle.std.proofs.Common.{arith}
-use Rattle.std.proofs.lemmas.Grind.{common_steps}
 use Rattle.dwp_dwarf.proofs.Terms.{rules, ◌∙◌}
 use Rattle.dwp_dwarf.proofs.Keys.{if_map, if_both}
 use Rattle.dwp_dwarf.proofs.NewVersions.{value_here, others_here, value_beside, others_beside}
@@ -33,6 +31,3 @@ returns-clause-others t c = if_both c.add-2.result (λ added above now.
     (rw c.with_side.ensures at now) (λ k apart. rw c.side.ensures at
     (c.in_ok-side.ensures.others k (λ e. apart (e ∙ c.half.ensures)))))
     c.add-2.ensures.above c.add-2.ensures.node
-
-pub returns-clause-grows : goal.returns-clause-grows
-returns-clause-grows c = grind (arith, common_steps)
