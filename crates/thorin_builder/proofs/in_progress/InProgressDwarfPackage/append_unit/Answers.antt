@@ -1,7 +1,5 @@
-use Rattle.thorin_builder.proofs.Terms.{arith, at_least, common_steps, take-append-le}
-use Rattle.thorin_builder.proofs.Terms.{take-append_seam, ◌∙◌}
+use Rattle.thorin_builder.proofs.Terms.{at_least, take-append-le, take-append_seam, ◌∙◌}
 use Rattle.thorin_builder.proofs.in_progress.InProgressDwarfPackage.append_unit.Goals as goal
-use Rattle.thorin_join.specs.State.{with_new_unit}
 
 pub returns-in-Ok-clause-extends : goal.returns-in-Ok-clause-extends
 returns-in-Ok-clause-extends c before h = record {
@@ -24,7 +22,3 @@ returns-in-Err-clause-extends c before h = record {
   ) h.rows;
   differing = h.differing;
 }
-
-pub invariant_of-self-in-Ok : goal.invariant_of-self-in-Ok
-unfolding with_new_unit
-invariant_of-self-in-Ok c = grind (arith, common_steps)

@@ -1,7 +1,5 @@
 use Rattle.thorin_builder.proofs.Extending.{strings-extend}
 use Rattle.thorin_builder.proofs.in_progress.InProgressDwarfPackage.try_again.Goals as goal
-use Rattle.std.proofs.Common.{arith}
-use Rattle.std.proofs.lemmas.Grind.{common_steps}
 
 pub returns-in_err-parts-clause-extends : goal.returns-in_err-parts-clause-extends
 returns-in_err-parts-clause-extends c = strings-extend c.parts_of.ensures.kept
@@ -20,6 +18,3 @@ returns-clause-extends c = strings-extend c.parts_of.ensures.kept
 
 pub returns-in_err-copied-clause-extends : goal.returns-in_err-copied-clause-extends
 returns-in_err-copied-clause-extends c = strings-extend c.parts_of.ensures.kept
-
-pub returns-clause-found : goal.returns-clause-found
-returns-clause-found c = grind (arith, common_steps)

@@ -1,6 +1,6 @@
 use Rattle.thorin_builder.proofs.Terms
 use Terms.{begun_of, Bool, building, common, cond, Encoding, InProgressDwarfPackage, le-ltb, lt-ltb}
-use Terms.{not, Option, own_after, rules, State, sym, taken, with_own, ◌∙◌, ◌≡◌}
+use Terms.{not, Option, own_after, rules, State, sym, with_own, ◌∙◌, ◌≡◌}
 use Rattle.std.specs.Prelude.{is_some}
 use Rattle.thorin_builder.proofs.AddedAgain.{joined-later, taken-as}
 use Rattle.thorin_builder.proofs.package.DwarfPackage.add_bytes.Goals as goal
@@ -52,7 +52,3 @@ returns-clause-later g c =
     rw (← c.self.view_is) (joined-later c.args.bytes.now old now c.in_ok-encoding.ensures.extends
     (c.inputs_are_joined.ensures.joins c.args.bytes.now old now c.self.invariant.1
     c.in_ok-encoding.ensures.meaning))
-
-pub returns-clause-meaning : goal.returns-clause-meaning
-unfolding taken
-returns-clause-meaning g c = search rules

@@ -67,6 +67,3 @@ returns-in-Err-Failed-Memory-clause-taken g c =
 pub returns-in-Err-Declined-clause-taken : goal.returns-in-Err-Declined-clause-taken
 returns-in-Err-Declined-clause-taken g c =
     record { read = Err Memory; within = tt; accepted = []; taken = (refl, (refl, refl)) }
-
-pub returns-in-Skip-clause-known : goal.returns-in-Skip-clause-known
-returns-in-Skip-clause-known g c = search rules

@@ -1,7 +1,7 @@
 use Rattle.thorin_builder.proofs.Terms
 use Terms.{[], accepted_of, AreTaken, came, Err, err_from_is_err_and, inl, inr, Io, IsTaken, List}
-use Terms.{Memory, Ok, on_ok_weaker, Outcome}
-use Terms.{refl, rules, State, TakesReferredFile, TakesSkeleton, ℕ}
+use Terms.{Memory, Ok, on_ok_weaker, Outcome, refl, rules, State, TakesReferredFile, TakesSkeleton}
+use Terms.{ℕ}
 use Rattle.thorin_builder.proofs.AddedAgain.{are-taken-later, target-kept, taken-found}
 use Rattle.thorin_builder.proofs.Running.{on-ok-taken}
 use Rattle.thorin_builder.proofs.package.DwarfPackage.add_skeleton.Given.{Over}
@@ -92,6 +92,3 @@ pub returns-in-None-clause-taken : goal.returns-in-None-clause-taken
 returns-in-None-clause-taken g c =
     took g (goal.at.returns-in-None-clause-taken g c).In_ok-add_target _ _
     c.add_referred.ensures.taken
-
-pub returns-in-None-clause-unread : goal.returns-in-None-clause-unread
-returns-in-None-clause-unread g c = search rules

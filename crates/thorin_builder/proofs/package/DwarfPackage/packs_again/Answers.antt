@@ -1,5 +1,5 @@
 use Rattle.thorin_builder.proofs.Terms
-use Terms.{building, Encoding, None, Option, refl, rules, Some, State, sym, true, ◌∙◌, ◌≡◌}
+use Terms.{building, Encoding, None, Option, refl, Some, State, sym, true, ◌∙◌, ◌≡◌}
 use Rattle.std.specs.Option.{is_some}
 use Rattle.thorin_again.specs.OwnUnits.{HasOneEncoding, HoldsOwn}
 use Rattle.thorin_builder.proofs.package.DwarfPackage.packs_again.Goals as goal
@@ -15,12 +15,3 @@ pub returns-then-is_some-clause-encoding : goal.returns-then-is_some-clause-enco
 returns-then-is_some-clause-encoding g c =
     λ h. rw (← c.self.view_is) (one-of (building c.self.inside).state _ refl
     (sym c.is_some.ensures ∙ c.if-is_some.true) c.self.invariant.2)
-
-pub returns-else-is_some-clause-encoding : goal.returns-else-is_some-clause-encoding
-returns-else-is_some-clause-encoding g c = search rules
-
-pub returns-else-is_some-clause-exact : goal.returns-else-is_some-clause-exact
-returns-else-is_some-clause-exact g c = search rules
-
-pub returns-then-is_some-clause-exact : goal.returns-then-is_some-clause-exact
-returns-then-is_some-clause-exact g c = search rules
