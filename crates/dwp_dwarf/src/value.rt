@@ -42,13 +42,7 @@ pub(crate) enum BlockLength {
     Leb,
 }
 
-/// The forms (DWARF 5, 7.5.6; the GNU forms of split DWARF and of supplementary files).
-pub(crate) const ADDR: u64 = 0x01;
-
-pub(crate) const BLOCK2: u64 = 0x03;
-
-pub(crate) const BLOCK4: u64 = 0x04;
-
+/// Forms whose values are read (DWARF 5, 7.5.6; a GNU form of split DWARF).
 pub(crate) const DATA2: u64 = 0x05;
 
 pub(crate) const DATA4: u64 = 0x06;
@@ -57,61 +51,23 @@ pub(crate) const DATA8: u64 = 0x07;
 
 pub(crate) const STRING: u64 = 0x08;
 
-pub(crate) const BLOCK: u64 = 0x09;
-
-pub(crate) const BLOCK1: u64 = 0x0a;
-
 pub(crate) const DATA1: u64 = 0x0b;
-
-pub(crate) const FLAG: u64 = 0x0c;
-
-pub(crate) const SDATA: u64 = 0x0d;
 
 pub(crate) const STRP: u64 = 0x0e;
 
 pub(crate) const UDATA: u64 = 0x0f;
 
-pub(crate) const REF_ADDR: u64 = 0x10;
-
-pub(crate) const REF1: u64 = 0x11;
-
-pub(crate) const REF2: u64 = 0x12;
-
-pub(crate) const REF4: u64 = 0x13;
-
-pub(crate) const REF8: u64 = 0x14;
-
-pub(crate) const REF_UDATA: u64 = 0x15;
-
 pub(crate) const INDIRECT: u64 = 0x16;
 
 pub(crate) const SEC_OFFSET: u64 = 0x17;
-
-pub(crate) const EXPRLOC: u64 = 0x18;
 
 pub(crate) const FLAG_PRESENT: u64 = 0x19;
 
 pub(crate) const STRX: u64 = 0x1a;
 
-pub(crate) const ADDRX: u64 = 0x1b;
-
-pub(crate) const REF_SUP4: u64 = 0x1c;
-
-pub(crate) const STRP_SUP: u64 = 0x1d;
-
-pub(crate) const DATA16: u64 = 0x1e;
-
 pub(crate) const LINE_STRP: u64 = 0x1f;
 
-pub(crate) const REF_SIG8: u64 = 0x20;
-
 pub(crate) const IMPLICIT_CONST: u64 = 0x21;
-
-pub(crate) const LOCLISTX: u64 = 0x22;
-
-pub(crate) const RNGLISTX: u64 = 0x23;
-
-pub(crate) const REF_SUP8: u64 = 0x24;
 
 pub(crate) const STRX1: u64 = 0x25;
 
@@ -121,48 +77,47 @@ pub(crate) const STRX3: u64 = 0x27;
 
 pub(crate) const STRX4: u64 = 0x28;
 
-pub(crate) const ADDRX1: u64 = 0x29;
-
-pub(crate) const ADDRX2: u64 = 0x2a;
-
-pub(crate) const ADDRX3: u64 = 0x2b;
-
-pub(crate) const ADDRX4: u64 = 0x2c;
-
-pub(crate) const GNU_ADDR_INDEX: u64 = 0x1f01;
-
 pub(crate) const GNU_STR_INDEX: u64 = 0x1f02;
 
-pub(crate) const GNU_REF_ALT: u64 = 0x1f20;
-
-pub(crate) const GNU_STRP_ALT: u64 = 0x1f21;
-
-/// How the value of a form is laid out.
+/// How the value of a form is laid out (DWARF 5, 7.5.6; the GNU forms of split DWARF and of
+/// supplementary files).
 fn layout_of(form: u64, encoding: Encoding) -> Option<Layout>
     ensures { result ≡ layout_of encoding form }
 {
     let offset = Layout::Fixed(encoding.format.offset_size() as u8);
     let address = Layout::Fixed(encoding.address_size);
     Some(match form {
-        FLAG_PRESENT | IMPLICIT_CONST => Layout::Fixed(0),
-        DATA1 | FLAG | REF1 | STRX1 | ADDRX1 => Layout::Fixed(1),
-        DATA2 | REF2 | STRX2 | ADDRX2 => Layout::Fixed(2),
-        STRX3 | ADDRX3 => Layout::Fixed(3),
-        DATA4 | REF4 | REF_SUP4 | STRX4 | ADDRX4 => Layout::Fixed(4),
-        DATA8 | REF8 | REF_SIG8 | REF_SUP8 => Layout::Fixed(8),
-        DATA16 => Layout::Fixed(16),
-        ADDR => address,
-        STRP | SEC_OFFSET | STRP_SUP | LINE_STRP | GNU_REF_ALT | GNU_STRP_ALT => offset,
-        REF_ADDR if encoding.version == 2 => address,
-        REF_ADDR => offset,
-        BLOCK1 => Layout::Block(BlockLength::One),
-        BLOCK2 => Layout::Block(BlockLength::Two),
-        BLOCK4 => Layout::Block(BlockLength::Four),
-        BLOCK | EXPRLOC => Layout::Block(BlockLength::Leb),
-        STRING => Layout::Text,
-        SDATA => Layout::Signed,
-        UDATA | REF_UDATA | STRX | ADDRX | LOCLISTX | RNGLISTX | GNU_ADDR_INDEX | GNU_STR_INDEX =>
-            Layout::Unsigned,
+        // flag_present, implicit_const
+        0x19 | 0x21 => Layout::Fixed(0),
+        // data1, flag, ref1, strx1, addrx1
+        0x0b | 0x0c | 0x11 | 0x25 | 0x29 => Layout::Fixed(1),
+        // data2, ref2, strx2, addrx2
+        0x05 | 0x12 | 0x26 | 0x2a => Layout::Fixed(2),
+        // strx3, addrx3
+        0x27 | 0x2b => Layout::Fixed(3),
+        // data4, ref4, ref_sup4, strx4, addrx4
+        0x06 | 0x13 | 0x1c | 0x28 | 0x2c => Layout::Fixed(4),
+        // data8, ref8, ref_sig8, ref_sup8
+        0x07 | 0x14 | 0x20 | 0x24 => Layout::Fixed(8),
+        // data16
+        0x1e => Layout::Fixed(16),
+        // addr, and ref_addr in version 2
+        0x01 => address,
+        0x10 if encoding.version == 2 => address,
+        // ref_addr, strp, sec_offset, strp_sup, line_strp, GNU_ref_alt, GNU_strp_alt
+        0x10 | 0x0e | 0x17 | 0x1d | 0x1f | 0x1f20 | 0x1f21 => offset,
+        // block1, block2, block4
+        0x0a => Layout::Block(BlockLength::One),
+        0x03 => Layout::Block(BlockLength::Two),
+        0x04 => Layout::Block(BlockLength::Four),
+        // block, exprloc
+        0x09 | 0x18 => Layout::Block(BlockLength::Leb),
+        // string
+        0x08 => Layout::Text,
+        // sdata
+        0x0d => Layout::Signed,
+        // udata, ref_udata, strx, addrx, loclistx, rnglistx, GNU_addr_index, GNU_str_index
+        0x0f | 0x15 | 0x1a | 0x1b | 0x22 | 0x23 | 0x1f01 | 0x1f02 => Layout::Unsigned,
         _ => return None,
     })
 }
