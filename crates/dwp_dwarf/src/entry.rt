@@ -6,8 +6,7 @@ ghost use Rattle.dwp_base.specs.Reading.{Answers, Reads};
 ghost use Rattle.dwp_units.specs.Units.{unit_of};
 ghost use Rattle.dwp_dwarf.specs.Abbreviations.{pairs_in};
 ghost use Rattle.dwp_dwarf.specs.Declarations.{specification_of, declaration_of, table_of};
-ghost use Rattle.dwp_dwarf.specs.Entries.{attribute_at, entry, root_at};
-ghost use Rattle.dwp_dwarf.specs.Entries.{number_of, place_of};
+ghost use Rattle.dwp_dwarf.specs.Entries.{attribute_at, entry, root_at, number_of, place_of};
 ghost use Rattle.dwp_dwarf.specs.Attributes.{attribute_of, attribute_seen, attributes_left};
 ghost use Rattle.dwp_dwarf.specs.Attributes.{entry_of, root_of};
 

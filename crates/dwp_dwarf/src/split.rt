@@ -6,8 +6,7 @@ ghost use Rattle.dwp_dwarf.specs.Attributes.{attribute_of, entry_of};
 ghost use Rattle.dwp_dwarf.specs.Declarations.{specification_of};
 ghost use Rattle.dwp_dwarf.specs.Entries.{attributes};
 ghost use Rattle.dwp_dwarf.specs.Split as spec;
-ghost use Rattle.dwp_dwarf.specs.Split.{attributes_of, none_found, split_in};
-ghost use Rattle.dwp_dwarf.specs.Split.{with_attribute};
+ghost use Rattle.dwp_dwarf.specs.Split.{attributes_of, none_found, split_in, with_attribute};
 
 use crate::abbrev::AttributeSpecification;
 use crate::entry::{Attribute, RootEntry, read_attribute};
