@@ -2,8 +2,7 @@
 //! calls for executables are in `executables`.
 
 ghost use Rattle.std.specs.Prelude.{◌≡◌, ℕ, List, map, filter, length, IsTrue, IfOk, IfErr, OnOk};
-ghost use Rattle.std.specs.Prelude.{true};
-ghost use Rattle.std.specs.Prelude.{OnErr, IfSome, Option, []};
+ghost use Rattle.std.specs.Prelude.{true, OnErr, IfSome, Option, []};
 ghost use Rattle.dwp_bytes.specs.declared.encoding.Encoding.{Encoding as OwnEncoding};
 ghost use Rattle.thorin_errors.specs.Answers.{Gives};
 ghost use Rattle.std.specs.Path.{path_bytes};
