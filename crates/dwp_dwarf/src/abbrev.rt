@@ -4,9 +4,9 @@ ghost use Rattle.std.specs.Prelude.{◌≡◌, ℕ, Ok, Some, IfOk};
 ghost use Rattle.dwp_base.specs.Reading.{Answers, Reads};
 ghost use Rattle.dwp_bytes.specs.Input.{Input};
 ghost use Rattle.dwp_bytes.specs.Leb.{uleb_at};
-ghost use Rattle.dwp_dwarf.specs.Abbreviations.{constant_at, specification_at, past_specifications};
-ghost use Rattle.dwp_dwarf.specs.Abbreviations.{tag_at, children_at, declaration_at};
-ghost use Rattle.dwp_dwarf.specs.Abbreviations.{declaration, is_last, Declaration};
+ghost use Rattle.dwp_dwarf.specs.Abbreviations.{specification_at, past_specifications, tag_at};
+ghost use Rattle.dwp_dwarf.specs.Abbreviations.{children_at, declaration_at, declaration, is_last};
+ghost use Rattle.dwp_dwarf.specs.Abbreviations.{Declaration};
 ghost use Rattle.dwp_dwarf.specs.Grammar.{next_at};
 ghost use Rattle.dwp_dwarf.specs.Offsets.{from_at};
 ghost use Rattle.dwp_dwarf.specs.Declarations.{specification_of, declaration_of, table_of};
@@ -68,19 +68,9 @@ fn read_number<R: Reader>(reader: &mut R) -> Result<u64, ReadError>
     }
 }
 
-#[tactic(auto, unfolding(crate::specs::Abbreviations::constant_at))]
-fn skip_constant<R: Reader>(reader: &mut R, form: u64) -> Result<(), ReadError>
-    ensures { Reads (λ x. x) result (R.input reader.old) (R.input reader.new) (constant_at form) }
-{
-    if form == IMPLICIT_CONST {
-        reader.read_sleb128()?;
-    }
-    Ok(())
-}
-
 /// The next attribute and its form.
 #[inline(always)]
-#[tactic(auto, unfolding(crate::specs::Abbreviations::specification_at))]
+#[tactic(auto, unfolding(crate::specs::Abbreviations::specification_at, crate::specs::Abbreviations::constant_at))]
 pub(crate) fn read_specification<R: Reader>(
     reader: &mut R,
 ) -> Result<AttributeSpecification, ReadError>
@@ -90,7 +80,9 @@ pub(crate) fn read_specification<R: Reader>(
     let mut at = *reader;
     let name = read_number(&mut at)?;
     let form = read_number(&mut at)?;
-    skip_constant(&mut at, form)?;
+    if form == IMPLICIT_CONST {
+        at.read_sleb128()?;
+    }
     *reader = at;
     Ok(AttributeSpecification { name, form })
 }

@@ -1,7 +1,6 @@
 //! Maps from numbers, among them one whose versions share what they have alike.
 
-ghost use Rattle.std.specs.Prelude.{◌≡◌, ◌≢◌, ◌≤◌, ◌<◌, ◌-◌, ◌/◌, ℕ, [], length, true, false, Some};
-ghost use Rattle.std.specs.Prelude.{IfSome};
+ghost use Rattle.std.specs.Prelude.{◌≡◌, ◌≢◌, ◌≤◌, ◌<◌, ℕ, length, true, false, Some, IfSome};
 ghost use Rattle.std.specs.Ordering.{nat_cmp};
 ghost use Rattle.std.specs.BTreeMap.{get};
 ghost use Rattle.dwp_dwarf.specs.Versions.{node_of, side_of, with_side, half, older, copy_of};
@@ -41,13 +40,6 @@ pub(crate) struct Versions {
 
 /// The nodes on a way, at most: one for each bit of a key, and one below them.
 const LEVELS: u32 = 65;
-
-/// What a version without a node has.
-const EMPTY: Node = Node {
-    value: 0,
-    even: 0,
-    odd: 0,
-};
 
 impl Versions {
     /// The version 0 alone. No memory is taken.
@@ -140,7 +132,11 @@ fn copy_of(nodes: &[Node], version: u32) -> Node
             even: older(version, node.even),
             odd: older(version, node.odd),
         },
-        None => EMPTY,
+        None => Node {
+            value: 0,
+            even: 0,
+            odd: 0,
+        },
     }
 }
 
