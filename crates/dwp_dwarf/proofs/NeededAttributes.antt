@@ -1,22 +1,19 @@
 -- Attributes whose values have no bytes have no number and name no place, so the attributes that
 -- are needed tell what all tell.
 use Rattle.dwp_dwarf.proofs.Terms
-use Terms.{◌&&◌, ◌>>=◌, [], add-zero, ap, arith, attribute_at, attributes, Bool, by-bool, cond}
-use Terms.{DebugAttribute, Encoding, eqb, eqb-true, false, find, first_number, Fixed, Format, front}
-use Terms.{has_bytes, if◌then◌else◌, Input, is_needed, is_none, is_unmet, layout_of, le-ltb, length}
-use Terms.{List, met, named_form_at, named_number, needed, neither, None, none_met, number_or, Ok}
-use Terms.{Option, past_value, ReadError, refl, Result, skip_at, Some, Specification, split_at}
-use Terms.{split_in, SplitAttributes, sym, value_at, ℕ, ◌∙◌, ◌∷◌, ◌≡◌}
+use Terms.{◌>>=◌, [], add-zero, ap, arith, attribute_at, attributes, by-bool, DebugAttribute}
+use Terms.{Encoding, eqb, eqb-true, false, first_number, Fixed, Format, front, has_bytes, Input}
+use Terms.{is_needed, is_none, is_unmet, layout_of, le-ltb, length, List, met, named_form_at}
+use Terms.{named_number, needed, neither, None, none_met, number_or, Ok, Option, past_value}
+use Terms.{ReadError, refl, Result, skip_at, Some, Specification, split_at, split_in}
+use Terms.{SplitAttributes, sym, value_at, ℕ, ◌∙◌, ◌∷◌, ◌≡◌}
 use Rattle.std.proofs.Math.Nat.{sub_self}
 use Rattle.dwp_dwarf.specs.Entries.{number_of, place_of}
 use Rattle.dwp_dwarf.specs.declared.needed.UnmetNames.{UnmetNames}
 use Rattle.dwp_units.proofs.Readings.{after-zero, bind-bind, bind_alike, by-result}
 use Rattle.dwp_dwarf.proofs.Values.{named_form-cases, attribute_lies}
-use Rattle.std.proofs.lemmas.List.Folds.{find-append}
 use Rattle.std.specs.Option.{option_or}
-use Rattle.dwp_dwarf.specs.Split.{split_attributes, with_attribute, all_read, base_in, first_base}
-use Rattle.dwp_dwarf.specs.Split.{is_attribute, none_found, DW_AT_dwo_name, DW_AT_GNU_dwo_name}
-use Rattle.dwp_dwarf.specs.Split.{DW_AT_comp_dir, DW_AT_str_offsets_base}
+use Rattle.dwp_dwarf.specs.Split.{split_attributes, with_attribute, all_read, none_found}
 
 -- ---- an attribute whose value has no bytes
 
@@ -40,19 +37,17 @@ empty_read encoding s i named layout =
 pub is_empty : (encoding : Encoding) (s : Specification) (i : Input) → has_bytes s ≡ false
     → IsEmpty encoding s i
 unfolding number_of place_of
-is_empty encoding s i none = by-bool _ (eqb s.form 0x19)
-    (λ e. let is = eqb-true _ _ e in record {
-      read = empty_read encoding s i (rw (named_form-cases s.form i, is) refl) (rw is refl);
-      numberless = rw is refl;
-      placeless = λ format. rw is refl;
-    })
-    (λ other. by-bool _ (eqb s.form 0x21)
-    (λ e. let is = eqb-true _ _ e in record {
-      read = empty_read encoding s i (rw (named_form-cases s.form i, is) refl) (rw is refl);
-      numberless = rw is refl;
-      placeless = λ format. rw is refl;
-    })
-    (λ e. let never = rw (other, e) at none in absurd cc))
+is_empty encoding s i none = record {
+  read = by-bool _ (eqb s.form 0x19)
+      (λ e. let is = eqb-true _ _ e in
+      empty_read encoding s i (rw (named_form-cases s.form i, is) refl) (rw is refl))
+      (λ other. by-bool _ (eqb s.form 0x21)
+      (λ e. let is = eqb-true _ _ e in
+      empty_read encoding s i (rw (named_form-cases s.form i, is) refl) (rw is refl))
+      (λ e. let never = rw (other, e) at none in absurd cc));
+  numberless = grind arith;
+  placeless = λ format. grind arith;
+}
 
 -- ---- the first number
 
@@ -90,28 +85,10 @@ abbrev pub after : Format → SplitAttributes → List (Result DebugAttribute Re
 after format before rest = all_read rest >>= λ attributes.
     Ok (joined before (split_attributes format attributes))
 
-or-assoc : {T : Type 0} (x y z : Option T) → option_or x (option_or y z) ≡ option_or
-    (option_or x y) z
-or-assoc x y z = grind arith
-
-or-none : {T : Type 0} (x : Option T) → option_or x None ≡ x
-or-none x = grind arith
-
-or-find : {T : Type 0} (x : Option T) (p : T → Bool) (a : T) (rest : List T)
-    → option_or x (find p (a ∷ rest)) ≡ option_or (option_or x (find p (a ∷ []))) (find p rest)
-or-find x p a rest = ap (option_or x) (find-append p (a ∷ []) rest) ∙ or-assoc x
-    (find p (a ∷ [])) (find p rest)
-
 joined-first : (format : Format) (before : SplitAttributes) (a : DebugAttribute)
     (rest : List DebugAttribute) → joined before (split_attributes format (a ∷ rest)) ≡ joined
     (with_attribute format before a) (split_attributes format rest)
-joined-first format before a rest =
-    rw (
-      or-find before.dwo_name (is_attribute DW_AT_dwo_name) a rest,
-      or-find before.gnu_dwo_name (is_attribute DW_AT_GNU_dwo_name) a rest,
-      or-find before.comp_dir (is_attribute DW_AT_comp_dir) a rest,
-      or-assoc before.str_offsets_base (base_in format a) (first_base format rest),
-    )
+joined-first format before a rest = grind arith
 
 pub after-first : (format : Format) (before : SplitAttributes) (a : DebugAttribute)
     (rest : List (Result DebugAttribute ReadError)) → after format before (Ok a ∷ rest) ≡ after
@@ -129,41 +106,16 @@ unmet_of before = record {
   comp_dir = is_none before.comp_dir;
 }
 
-none_or : {T : Type 0} (x : Option T) (b : Bool) (a : T) → is_none (option_or x
-    (cond b (Some a) None)) ≡ (if b then false else is_none x)
-none_or x b a = grind arith
-
 -- an attribute takes its name out
 unmet_behind : (format : Format) (before : SplitAttributes) (a : DebugAttribute)
     → unmet_of (with_attribute format before a) ≡ met (unmet_of before) a.name
-unmet_behind format before a = rw (
-  none_or before.dwo_name (eqb a.name DW_AT_dwo_name) a,
-  none_or before.gnu_dwo_name (eqb a.name DW_AT_GNU_dwo_name) a,
-  none_or before.comp_dir (eqb a.name DW_AT_comp_dir) a,
-)
+unmet_behind format before a = grind arith
 
 -- an attribute that isn't the first of its name counts for nothing
-not_first : {T : Type 0} (x : Option T) (b : Bool) (a : T) → (b && is_none x) ≡ false
-    → option_or x (cond b (Some a) None) ≡ x
-not_first x b a e = grind arith
-
-no_place : (b : Bool) (place : Option ℕ) → place ≡ None
-    → (if b then place else None) ≡ None
-no_place b place e = grind arith
-
 passed_over : (format : Format) (before : SplitAttributes) (a : DebugAttribute)
     → place_of format a ≡ None → is_unmet (unmet_of before) a.name ≡ false
     → with_attribute format before a ≡ before
-passed_over format before a none known =
-    let first = neither (eqb a.name DW_AT_dwo_name && is_none before.dwo_name) _ known in
-    let second = neither (eqb a.name DW_AT_GNU_dwo_name && is_none before.gnu_dwo_name) _ first.1 in
-    rw (
-      not_first before.dwo_name (eqb a.name DW_AT_dwo_name) a first.0,
-      not_first before.gnu_dwo_name (eqb a.name DW_AT_GNU_dwo_name) a second.0,
-      not_first before.comp_dir (eqb a.name DW_AT_comp_dir) a second.1,
-      no_place (eqb a.name DW_AT_str_offsets_base) (place_of format a) none,
-      or-none before.str_offsets_base,
-    ) refl
+passed_over format before a none known = grind (arith, none, known)
 
 -- what is found is found among those that are needed
 after_needed : (format : Format) (encoding : Encoding) (before : SplitAttributes)

@@ -1,14 +1,11 @@
 -- A new version has what the older one has but for one key, and older versions stay.
 use Rattle.dwp_dwarf.proofs.Terms
-use Terms.{◌%◌, ◌++◌, ◌-◌, ◌<◌, [], ap, append-nil, append_assoc, arith, by-bool, cond, eq-eqb, eqb}
-use Terms.{eqb-false, eqb-true, length, length-append, List, lt-ltb, ltb, ltb-true, ne_eqb, Node}
-use Terms.{None, Option, refl, slice_get, Some, suc, sym, zero, ℕ, ◌∙◌, ◌∷◌, ◌≡◌, ◌≢◌, ◌≤◌}
+use Terms.{◌%◌, ◌++◌, ◌-◌, ◌<◌, [], ap, append_assoc, arith, by-bool, cond, eq-eqb, eqb, eqb-false}
+use Terms.{eqb-true, length, length-append, List, lt-ltb, ne_eqb, Node, None, Option, refl}
+use Terms.{slice_get, Some, suc, sym, zero, ℕ, ◌∙◌, ◌∷◌, ◌≡◌, ◌≢◌, ◌≤◌}
 use Rattle.std.proofs.lemmas.Option.{slice_get_within}
 use Rattle.dwp_dwarf.specs.Versions.{node_of, held, side_of, with_side, half, older, copy_by}
 use Rattle.dwp_dwarf.specs.Versions.{copy_of, value_below, value_by, Grows}
-
-pub grows_none : (nodes : List Node) → Grows nodes nodes
-grows_none nodes = record { more = []; is = sym (append-nil nodes) }
 
 pub grows_then : {a b c : List Node} → Grows a b → Grows b c → Grows a c
 grows_then {a} p q = record {
@@ -33,8 +30,7 @@ node_stays zero g p = refl
 node_stays {old} (suc i) g p = rw g.is (get_append old g.more i (omega arith))
 
 older_within : (version other : ℕ) → older version other ≤ version
-older_within version other = by-bool _ (ltb other version)
-    (λ e. rw e (omega (arith, ltb-true other version e))) (λ e. rw e (omega arith))
+older_within version other = grind arith
 
 -- ---- what a version has, by its node
 
@@ -70,11 +66,10 @@ value_stays {old = old} (suc n) {version = version} key g p = rw (node_stays ver
 
 copy_side : (version key : ℕ) (node : Node) → side_of (copy_by version (Some node)) key ≡
     older version (side_of node key)
-copy_side version key node =
-    by-bool _ (eqb (key % 2) 0) (λ e. rw e refl) (λ e. rw e refl)
+copy_side version key node = grind arith
 
 none_side : (version key : ℕ) → side_of (copy_by version None) key ≡ 0
-none_side version key = by-bool _ (eqb (key % 2) 0) (λ e. rw e refl) (λ e. rw e refl)
+none_side version key = grind arith
 
 copy_within : (nodes : List Node) (version key : ℕ)
     → side_of (copy_of nodes version) key ≤ length nodes
@@ -152,15 +147,11 @@ side_alike : (node : Node) (k j : ℕ) → k % 2 ≡ j % 2 → side_of node k �
 side_alike node k j e = ap (λ (m : ℕ). cond (eqb m 0) node.even node.odd) e
 
 value_with : (node : Node) (key low : ℕ) → (with_side node key low).value ≡ node.value
-value_with node key low = by-bool _ (eqb (key % 2) 0) (λ e. rw e refl) (λ e. rw e refl)
+value_with node key low = grind arith
 
 side_with : (node : Node) (key low other : ℕ) → side_of (with_side node key low) other
     ≡ cond (eqb (other % 2) (key % 2)) low (side_of node other)
-side_with node key low other = by-bool _ (eqb (key % 2) 0)
-    (λ e. rw (eqb-true _ _ e) (by-bool _ (eqb (other % 2) 0) (λ f. rw f refl) (λ f. rw f refl)))
-    (λ e. let odd : key % 2 ≡ 1 = omega (arith, eqb-false _ _ e) in
-    rw odd (by-bool _ (eqb (other % 2) 0) (λ f. rw (eqb-true _ _ f) refl)
-    (λ f. let last : other % 2 ≡ 1 = omega (arith, eqb-false _ _ f) in rw last refl)))
+side_with node key low other = grind arith
 
 module _ {old mid new : List Node} (levels version added low key : ℕ) (copy : Node)
     (some : levels ≢ 0) (there : key ≢ 0) (copied : copy ≡ copy_of old version)

@@ -1,9 +1,9 @@
 -- What stands at an offset of a section.
 use Rattle.dwp_dwarf.proofs.Terms
-use Terms.{◌<◌, arith, Err, from_at, Input, le-ltb, length, lt-ltb, ltb, ltb-false}
-use Terms.{OffsetOutOfRange, Ok, refl, skip_at, ℕ, ◌≡◌, ◌≤◌}
+use Terms.{◌<◌, Err, from_at, Input, le-ltb, length, lt-ltb, ltb, ltb-false, OffsetOutOfRange, Ok}
+use Terms.{refl, skip_at, ℕ, ◌≡◌, ◌≤◌}
 use Rattle.dwp_bytes.specs.Input.{after}
-use Rattle.dwp_units.proofs.Readings.{value_gives, error_gives, test_gives, after-zero}
+use Rattle.dwp_units.proofs.Readings.{value_gives, error_gives, test_gives}
 
 -- past the end nothing stands
 pub past_end : (place : ℕ) (section : Input) → length section.bytes < place → from_at place section
@@ -16,10 +16,6 @@ pub from_within : (offset : ℕ) (section : Input) → offset ≤ length section
     → from_at offset section ≡ Ok (after offset section)
 unfolding from_at skip_at
 from_within offset section fits = rw (le-ltb (length section.bytes) offset fits) refl
-
--- at the section's start its first table begins
-pub from_start : (i : Input) → from_at 0 i ≡ Ok i
-from_start i = rw (after-zero i) at (from_within 0 i (omega arith))
 
 pub from_is : (offset : ℕ) (section i : Input) → from_at offset section ≡ Ok i
     → (offset ≤ length section.bytes) × (i ≡ after offset section)

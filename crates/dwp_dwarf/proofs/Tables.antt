@@ -3,9 +3,9 @@
 use Rattle.dwp_dwarf.proofs.Terms
 use Terms.{◌++◌, ◌<◌, ◌>>=◌, [], ap, arith, Bool, by-bool, byte_at, cond, Declaration, declaration}
 use Terms.{declaration_at, eq-eqb, eqb, eqb-false, eqb-true, Err, false, Goes, IfSome, Input}
-use Terms.{leb_at, length, List, lt-ltb, ltb, ne_eqb, next_at, None, Ok, Option, pairs_in}
-use Terms.{past_specifications, ReadError, refl, Result, Some, Specification, subst, suc, sym, take}
-use Terms.{uleb_at, UnexpectedEof, zero, ℕ, ◌↔◌, ◌∙◌, ◌∷◌, ◌≡◌, ◌≢◌}
+use Terms.{leb_at, length, List, ne_eqb, next_at, None, Ok, Option, pairs_in, past_specifications}
+use Terms.{ReadError, refl, Result, Some, Specification, subst, suc, sym, take, uleb_at}
+use Terms.{UnexpectedEof, zero, ℕ, ◌↔◌, ◌∙◌, ◌∷◌, ◌≡◌, ◌≢◌}
 use Rattle.dwp_dwarf.specs.Abbreviations.{constant_at, specification_at, specifications_within}
 use Rattle.dwp_dwarf.specs.Abbreviations.{specifications_at, is_last, tag_at, children_at}
 use Rattle.dwp_units.specs.AbbreviationCodes.{code_at}
@@ -18,21 +18,14 @@ use Rattle.dwp_units.proofs.Readings.{Reads, then_reads, value_reads, error_read
 use Rattle.dwp_units.proofs.Readings.{some_reads, reads_byte, reads_uleb, reads_sleb, shorter}
 use Rattle.dwp_units.proofs.Readings.{takes_then, Takes, goes, by-result, told_there}
 use Rattle.dwp_base.proofs.Steps.{bind-was}
-use Rattle.std.proofs.Common.{slice_index, ◌^◌}
+use Rattle.std.proofs.Common.{slice_index}
 use Rattle.std.specs.List.{AllByRecursion}
 
 -- a byte below 128 is a number
-byte_first : (i : Input) (x : ℕ × Input) → byte_at i ≡ Ok x → x.0 ≡ slice_index i.bytes 0
-unfolding byte_at
-byte_first i x is = by-bool _ (ltb (length i.bytes) 1) (λ none. let no = rw none at is in cc)
-    (λ some. let yes = rw some at is in cc)
-
 pub one_byte : (i new : Input) (b : ℕ) → byte_at i ≡ Ok (b, new) → slice_index i.bytes 0 < 128
     → uleb_at i ≡ Ok (b, new)
-unfolding uleb_at leb_at
-one_byte i new b is low =
-    let less : b < 128 = omega (arith, byte_first i (b, new) is, low) in
-    rw (is, lt-ltb b 128 less, lt-ltb b (2 ^ 64) (omega (arith, less))) refl
+unfolding uleb_at leb_at byte_at
+one_byte i new b is low = grind arith
 
 -- and where none is left there is no number
 pub no_byte : (i : Input) (e : ReadError) → byte_at i ≡ Err e → uleb_at i ≡ Err e

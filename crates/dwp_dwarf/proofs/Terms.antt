@@ -1,19 +1,18 @@
 -- The names that proofs of this crate cite most, passed on from one place. Declares nothing.
-pub use Rattle.std.proofs.Common.{BTreeMap, Bool, Err, IfSome, List, None, Ok, OnOk, Option, Result}
-pub use Rattle.std.proofs.Common.{Some, [], add-zero, ap, append-nil, append_assoc, arith, cond}
-pub use Rattle.std.proofs.Common.{drop, eq-eqb, eqb, eqb-true, false, find, if◌then◌else◌, is_none}
-pub use Rattle.std.proofs.Common.{is_ok, is_some, le-ltb, leb-true, length, length-append}
-pub use Rattle.std.proofs.Common.{length-drop, length-take, lt-ltb, ltb, ltb-false, ltb-true, map}
-pub use Rattle.std.proofs.Common.{nat_cmp, ne_eqb, ok_or, refl, rules, slice_get, subst, suc, sym}
-pub use Rattle.std.proofs.Common.{take, true, vec_len, zero, ℕ, ◌%◌, ◌&&◌, ◌++◌, ◌+◌, ◌-◌, ◌<◌, ◌↔◌}
-pub use Rattle.std.proofs.Common.{◌∙◌, ◌∷◌, ◌≡◌, ◌≢◌, ◌≤◌}
+pub use Rattle.std.proofs.Common.{BTreeMap, Bool, Err, IfSome, List, None, Ok, Option, Result, Some}
+pub use Rattle.std.proofs.Common.{[], add-zero, ap, append_assoc, arith, cond, drop, eq-eqb, eqb}
+pub use Rattle.std.proofs.Common.{eqb-true, false, is_none, le-ltb, leb-true, length, length-append}
+pub use Rattle.std.proofs.Common.{length-drop, length-take, lt-ltb, ltb, ltb-false, map, nat_cmp}
+pub use Rattle.std.proofs.Common.{ne_eqb, ok_or, refl, rules, slice_get, subst, suc, sym, take}
+pub use Rattle.std.proofs.Common.{true, vec_len, zero, ℕ, ◌%◌, ◌++◌, ◌+◌, ◌-◌, ◌<◌, ◌↔◌, ◌∙◌, ◌∷◌}
+pub use Rattle.std.proofs.Common.{◌≡◌, ◌≢◌, ◌≤◌}
 pub use Rattle.std.proofs.lemmas.Bool.{eqb-false}
 pub use Rattle.std.proofs.lemmas.Grind.{common_steps}
 pub use Rattle.std.proofs.lemmas.List.{drop-take, drop_more}
 pub use Rattle.std.proofs.lemmas.Result.{err_from_is_err_and}
 pub use Rattle.std.specs.BTreeMap.{get}
 pub use Rattle.dwp_base.proofs.Bools.{by-bool, neither}
-pub use Rattle.dwp_base.specs.Reading.{Answers, ◌>>=◌}
+pub use Rattle.dwp_base.specs.Reading.{◌>>=◌}
 pub use Rattle.dwp_bytes.specs.Input.{Goes, Input, front}
 unfoldable pub use Rattle.dwp_bytes.specs.Input.{byte_at, skip_at, split_at}
 unfoldable pub use Rattle.dwp_bytes.specs.Leb.{leb_at, uleb_at}
@@ -26,8 +25,8 @@ pub use Rattle.dwp_bytes.specs.declared.error.ReadError.TheVariants.{UnknownForm
 pub use Rattle.dwp_dwarf.specs.Abbreviations.{Declaration, Specification, past_specifications}
 unfoldable pub use Rattle.dwp_dwarf.specs.Abbreviations.{declaration, declaration_at, pairs_in}
 pub use Rattle.dwp_dwarf.specs.Attributes.{attribute_of, attribute_seen, attributes_left, entry_of}
-pub use Rattle.dwp_dwarf.specs.Chains.{RemembersPlaces, StandsAt}
-pub use Rattle.dwp_dwarf.specs.Declarations.{declaration_of, found_of, specification_of}
+pub use Rattle.dwp_dwarf.specs.Chains.{RemembersPlaces}
+pub use Rattle.dwp_dwarf.specs.Declarations.{declaration_of, specification_of}
 pub use Rattle.dwp_dwarf.specs.Entries.{DebugAttribute, DebugEntry, attributes, entry}
 unfoldable pub use Rattle.dwp_dwarf.specs.Entries.{attribute_at}
 pub use Rattle.dwp_dwarf.specs.Forms.{layout_of}
@@ -39,6 +38,5 @@ unfoldable pub use Rattle.dwp_dwarf.specs.Offsets.{from_at}
 pub use Rattle.dwp_dwarf.specs.Split.{SplitAttributes, attributes_of}
 unfoldable pub use Rattle.dwp_dwarf.specs.Split.{split_in}
 pub use Rattle.dwp_units.specs.Units.{Unit}
-pub use Rattle.dwp_dwarf.specs.declared.abbrev.Abbreviation.{Abbreviation}
 pub use Rattle.dwp_dwarf.specs.declared.value.Layout.TheVariants.{Fixed}
 pub use Rattle.dwp_dwarf.specs.declared.versions.Node.{Node}
