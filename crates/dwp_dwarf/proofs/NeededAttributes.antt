@@ -2,11 +2,10 @@
 -- are needed tell what all tell.
 use Rattle.dwp_dwarf.proofs.Terms
 use Terms.{◌>>=◌, [], add-zero, ap, arith, attribute_at, attributes, by-bool, DebugAttribute}
-use Terms.{Encoding, eqb, eqb-true, false, first_number, Fixed, Format, front, has_bytes, Input}
-use Terms.{is_needed, is_none, is_unmet, layout_of, le-ltb, length, List, met, named_form_at}
-use Terms.{named_number, needed, neither, None, none_met, number_or, Ok, Option, past_value}
-use Terms.{ReadError, refl, Result, skip_at, Some, Specification, split_at, split_in}
-use Terms.{SplitAttributes, sym, value_at, ℕ, ◌∙◌, ◌∷◌, ◌≡◌}
+use Terms.{Encoding, false, first_number, Fixed, Format, front, has_bytes, Input, is_needed}
+use Terms.{is_none, is_unmet, layout_of, le-ltb, length, List, met, named_form_at, needed, neither}
+use Terms.{None, none_met, Ok, past_value, ReadError, refl, Result, skip_at, Some, Specification}
+use Terms.{split_at, split_in, SplitAttributes, sym, value_at, ℕ, ◌∙◌, ◌∷◌, ◌≡◌}
 use Rattle.std.proofs.Math.Nat.{sub_self}
 use Rattle.dwp_dwarf.specs.Entries.{number_of, place_of}
 use Rattle.dwp_dwarf.specs.declared.needed.UnmetNames.{UnmetNames}
@@ -38,35 +37,22 @@ pub is_empty : (encoding : Encoding) (s : Specification) (i : Input) → has_byt
     → IsEmpty encoding s i
 unfolding number_of place_of
 is_empty encoding s i none = record {
-  read = by-bool _ (eqb s.form 0x19)
-      (λ e. let is = eqb-true _ _ e in
-      empty_read encoding s i (rw (named_form-cases s.form i, is) refl) (rw is refl))
-      (λ other. by-bool _ (eqb s.form 0x21)
-      (λ e. let is = eqb-true _ _ e in
-      empty_read encoding s i (rw (named_form-cases s.form i, is) refl) (rw is refl))
-      (λ e. let never = rw (other, e) at none in absurd cc));
+  read = empty_read encoding s i (grind (arith, named_form-cases s.form i)) (grind arith);
   numberless = grind arith;
   placeless = λ format. grind arith;
 }
 
 -- ---- the first number
 
-numberless_or : (name : ℕ) (a : DebugAttribute) (others : Result (Option ℕ) ReadError)
-    → number_of a ≡ None → number_or (named_number name a) others ≡ others
-numberless_or name a others none = grind arith
-
 -- it is among those that are needed
 pub first_needed : (name : ℕ) (encoding : Encoding) (unmet : UnmetNames) (ss : List Specification)
     (i : Input) → first_number name (attributes encoding (needed unmet ss) i)
     ≡ first_number name (attributes encoding ss i)
 first_needed name encoding unmet [] i = refl
-first_needed name encoding unmet (s ∷ ss) i = by-bool _ (is_needed unmet s)
-    (λ some. rw some (by-result _ (attribute_at encoding s i)
-    (λ x is. rw (is, first_needed name encoding (met unmet s.name) ss x.1) refl)
-    (λ e is. rw is refl)))
-    (λ none. let empty = is_empty encoding s i (neither _ _ none).0 in
-    rw (none, empty.read) (first_needed name encoding (met unmet s.name) ss i
-    ∙ sym (numberless_or name _ _ empty.numberless)))
+first_needed name encoding unmet (s ∷ ss) i =
+    let read = λ (h : has_bytes s ≡ false). (is_empty encoding s i h).read in
+    let none = λ (h : has_bytes s ≡ false). (is_empty encoding s i h).numberless in
+    grind (arith, read, none, first_needed name encoding (met unmet s.name) ss)
 
 -- ---- of each name that may name a split object the first attribute
 

@@ -1,8 +1,8 @@
 -- A new version has what the older one has but for one key, and older versions stay.
 use Rattle.dwp_dwarf.proofs.Terms
-use Terms.{◌%◌, ◌++◌, ◌-◌, ◌<◌, [], ap, append_assoc, arith, by-bool, cond, eq-eqb, eqb, eqb-false}
-use Terms.{eqb-true, length, length-append, List, lt-ltb, ne_eqb, Node, None, Option, refl}
-use Terms.{slice_get, Some, suc, sym, zero, ℕ, ◌∙◌, ◌∷◌, ◌≡◌, ◌≢◌, ◌≤◌}
+use Terms.{◌%◌, ◌++◌, ◌-◌, ◌<◌, [], ap, append_assoc, arith, by-bool, cond, eqb, eqb-true, length}
+use Terms.{length-append, List, lt-ltb, ne_eqb, Node, None, Option, refl, slice_get, Some, suc, sym}
+use Terms.{zero, ℕ, ◌∙◌, ◌∷◌, ◌≡◌, ◌≢◌, ◌≤◌}
 use Rattle.std.proofs.lemmas.Option.{slice_get_within}
 use Rattle.dwp_dwarf.specs.Versions.{node_of, held, side_of, with_side, half, older, copy_by}
 use Rattle.dwp_dwarf.specs.Versions.{copy_of, value_below, value_by, Grows}
@@ -39,8 +39,7 @@ pub one_level : (levels : ℕ) (nodes : List Node) (version key : ℕ) → level
     → value_below levels nodes version key ≡ value_by (node_of nodes version) key (λ node.
     value_below (levels - 1) nodes (older version (side_of node key)) (half key))
 unfolding value_below
-one_level zero nodes version key some = absurd (some refl)
-one_level (suc n) nodes version key some = let less : suc n - 1 ≡ n = omega arith in rw less refl
+one_level levels nodes version key some = grind arith
 
 pub none_below : (n : ℕ) (nodes : List Node) (version key : ℕ) → node_of nodes version ≡ None
     → value_below n nodes version key ≡ None
@@ -50,8 +49,7 @@ none_below (suc n) nodes version key e = rw e refl
 
 others_alike : (o : Option Node) (key : ℕ) (f g : Node → Option ℕ)
     → ((node : Node) → f node ≡ g node) → value_by o key f ≡ value_by o key g
-others_alike None key f g same = refl
-others_alike (Some node) key f g same = ap (cond (eqb key 0) (held node.value)) (same node)
+others_alike o key f g same = grind (arith, same)
 
 -- older versions stay
 pub value_stays : {old new : List Node} (n : ℕ) {version : ℕ} (key : ℕ) → Grows old new
@@ -73,14 +71,10 @@ none_side version key = grind arith
 
 copy_within : (nodes : List Node) (version key : ℕ)
     → side_of (copy_of nodes version) key ≤ length nodes
-copy_within nodes zero key = omega (arith, none_side 0 key)
-copy_within nodes (suc i) key = of_node (slice_get nodes i) refl
-  where
-    of_node : (o : Option Node) → slice_get nodes i ≡ o
-        → side_of (copy_by (suc i) o) key ≤ length nodes
-    of_node None e = omega (arith, none_side (suc i) key)
-    of_node (Some node) e = let within = slice_get_within nodes i node e in
-        omega (arith, copy_side (suc i) key node, older_within (suc i) (side_of node key))
+copy_within nodes zero key = grind (arith, none_side 0 key)
+copy_within nodes (suc i) key =
+    let within = slice_get_within nodes i in
+    grind (arith, none_side (suc i) key, within, copy_side (suc i) key, older_within (suc i))
 
 -- what a node has whose sides are older
 abbrev node_has : ℕ → List Node → Node → ℕ → Option ℕ
@@ -89,15 +83,10 @@ node_has levels nodes node key = cond (eqb key 0) (held node.value) (value_below
 
 by_copy : (levels : ℕ) (nodes : List Node) (version key : ℕ) → levels ≢ 0
     → value_below levels nodes version key ≡ node_has levels nodes (copy_of nodes version) key
-by_copy levels nodes version key some = one_level levels nodes version key some
-    ∙ of_node (node_of nodes version)
-  where
-    of_node : (o : Option Node) → value_by o key (λ node. value_below (levels - 1) nodes
-        (older version (side_of node key)) (half key))
-        ≡ node_has levels nodes (copy_by version o) key
-    of_node None = rw (none_side version key, none_below (levels - 1) nodes 0 (half key) refl)
-        (by-bool _ (eqb key 0) (λ e. rw e refl) (λ e. rw e refl))
-    of_node (Some node) = rw (copy_side version key node) refl
+by_copy levels nodes version key some =
+    let one = one_level levels nodes version key some in
+    let none = none_below (levels - 1) nodes 0 (half key) in
+    grind (arith, one, none_side version key, copy_side version key, none)
 
 -- a node that was added
 pub added_has : (levels : ℕ) (nodes : List Node) (added key : ℕ) (b : Node) → levels ≢ 0
@@ -116,11 +105,8 @@ others_by : (levels : ℕ) (old new : List Node) (version added other : ℕ) (b 
     ≡ value_below (levels - 1) old (side_of copy other) (half other))
     → value_below levels new added other ≡ value_below levels old version other
 others_by levels old new version added other b copy some is now less values sides =
-    let both : node_has levels new b other ≡ node_has levels old copy other =
-    by-bool _ (eqb other 0) (λ e. rw (e, values (eqb-true _ _ e)) refl)
-    (λ e. rw (e, sides (eqb-false _ _ e)) refl) in
-    added_has levels new added other b some now less ∙ (rw is at both)
-    ∙ sym (by_copy levels old version other some)
+    let here = added_has levels new added other b some now less in
+    grind (arith, here, by_copy levels old version other some, values, sides)
 
 -- where the node's own value is the new one
 pub value_here : (levels : ℕ) (new : List Node) (added key : ℕ) (b : Node) → levels ≢ 0 → key ≡ 0
@@ -160,11 +146,9 @@ module _ {old mid new : List Node} (levels version added low key : ℕ) (copy : 
   pub value_beside : {value : ℕ} → value_below (levels - 1) mid low (half key) ≡ Some value
       → value_below levels new added key ≡ Some value
   value_beside has =
-      let side : side_of (with_side copy key low) key ≡ low =
-      rw (eq-eqb (key % 2) (key % 2) refl) at (side_with copy key low key) in
-      added_has levels new added key (with_side copy key low) some now
-      (omega (arith, side, fits, above))
-      ∙ rw (ne_eqb key 0 there, side) (value_stays (levels - 1) (half key) behind fits ∙ has)
+      let here = added_has levels new added key (with_side copy key low) some now in
+      let stays = value_stays (levels - 1) (half key) behind fits in
+      grind (arith, side_with copy key low key, here, stays)
 
   pub others_beside : ((k : ℕ) → k ≢ half key
       → value_below (levels - 1) mid low k ≡ value_below (levels - 1) old (side_of copy key) k)

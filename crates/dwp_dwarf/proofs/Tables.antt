@@ -17,7 +17,6 @@ use Rattle.dwp_units.proofs.Readings.{bind-bind, bind-cond, size, goes_none, goe
 use Rattle.dwp_units.proofs.Readings.{Reads, then_reads, value_reads, error_reads, test_reads}
 use Rattle.dwp_units.proofs.Readings.{some_reads, reads_byte, reads_uleb, reads_sleb, shorter}
 use Rattle.dwp_units.proofs.Readings.{takes_then, Takes, goes, by-result, told_there}
-use Rattle.dwp_base.proofs.Steps.{bind-was}
 use Rattle.std.proofs.Common.{slice_index}
 use Rattle.std.specs.List.{AllByRecursion}
 
@@ -85,8 +84,7 @@ specifications-cases i = by_step list_steps i
 -- the end of a list that has one pair more
 pub past-other : (first : Specification) (r : Answer (List Specification))
     → ((r >>= before_others first) >>= λ list. Ok list.1) ≡ (r >>= λ list. Ok list.1)
-past-other first (Ok x) = refl
-past-other first (Err e) = refl
+past-other first r = grind arith
 
 pair_steps : Steps size pairs_within (λ others i. pairs_from (specification_at i) others)
 unfolding pairs_within
@@ -119,11 +117,7 @@ list_pairs i = pairs_are (size i) i
 -- a list that was passed over has the pairs that can be read there
 pub passed_list : (i j : Input) → past_specifications i ≡ Ok j
     → specifications_at i ≡ Ok (pairs_in i, j)
-passed_list i j e =
-    let list = bind-was (specifications_at i) (λ list. Ok list.1) j e in
-    let pairs : pairs_in i ≡ list.0.0 = (list_pairs i).gives list.0 list.1 in
-    let end : list.0.1 ≡ j = cc in
-    subst (λ (k : Input). specifications_at i ≡ Ok (pairs_in i, k)) end (rw pairs list.1)
+passed_list i j e = grind (arith, (list_pairs i).gives)
 
 -- ---- a declaration
 
@@ -213,13 +207,7 @@ pub known_is : (i : Input) (code tag : ℕ × Input) (children : Bool × Input)
     (x : (ℕ × Declaration) × Input) → code_at i ≡ Ok code → tag_at code.1 ≡ Ok tag
     → children_at tag.1 ≡ Ok children → next_at i ≡ Ok (Some x) → x.0.1 ≡ with_pairs tag.0 children
 unfolding next_at declaration_at
-known_is i code tag children x h t c e =
-    let known : Gives (Option Next) (next_at i) (λ o. IfSome o (λ y. y.0.1 ≡
-    with_pairs tag.0 children)) = rw h (test_gives (eqb code.0 0) (λ _. value_gives tt)
-    (λ _. rw (t, c) (then_gives (then_gives (list_pairs children.1) (λ list pairs.
-    value_gives {P = λ d. d.0 ≡ with_pairs tag.0 children} (rw pairs refl)))
-    (λ d is. value_gives is)))) in
-    known.gives (Some x) e
+known_is i code tag children x h t c e = grind (arith, (list_pairs children.1).gives)
 
 -- ---- a look-up
 
@@ -233,8 +221,7 @@ chosen wanted others (Some x) = cond (eqb x.0.0 wanted) (Ok (Some x.0.1)) (other
 
 chosen_alike : (wanted : ℕ) (f g : Input → Found) (o : Option Next)
     → ((x : Next) → o ≡ Some x → f x.1 ≡ g x.1) → chosen wanted f o ≡ chosen wanted g o
-chosen_alike wanted f g None same = refl
-chosen_alike wanted f g (Some x) same = rw (same x refl) refl
+chosen_alike wanted f g o same = grind (arith, same)
 
 look_up_steps : (wanted : ℕ) → Steps size (λ n i. declaration_within n wanted i)
     (λ others i. next_at i >>= chosen wanted others)
