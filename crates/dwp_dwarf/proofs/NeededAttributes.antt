@@ -10,7 +10,7 @@ use Rattle.std.proofs.Math.Nat.{sub_self}
 use Rattle.dwp_dwarf.specs.Entries.{number_of, place_of}
 use Rattle.dwp_dwarf.specs.declared.needed.UnmetNames.{UnmetNames}
 use Rattle.dwp_units.proofs.Readings.{after-zero, bind-bind, bind_alike, by-result}
-use Rattle.dwp_dwarf.proofs.Values.{named_form-cases, attribute_lies}
+use Rattle.dwp_dwarf.proofs.Values.{named_form_cases, attribute_lies}
 use Rattle.std.specs.Option.{option_or}
 use Rattle.dwp_dwarf.specs.Split.{split_attributes, with_attribute, all_read, none_found}
 
@@ -37,7 +37,7 @@ pub is_empty : (encoding : Encoding) (s : Specification) (i : Input) → has_byt
     → IsEmpty encoding s i
 unfolding number_of place_of
 is_empty encoding s i none = record {
-  read = empty_read encoding s i (grind (arith, named_form-cases s.form i)) (grind arith);
+  read = empty_read encoding s i (grind (arith, named_form_cases s.form i)) (grind arith);
   numberless = grind arith;
   placeless = λ format. grind arith;
 }

@@ -76,10 +76,10 @@ list_steps = record {
       (λ x e. rw (same x.1 (shorter reads_specification i x e)) refl);
 }
 
-pub specifications-cases : (i : Input)
+pub specifications_cases : (i : Input)
     → specifications_at i ≡ (specification_at i >>= after_first specifications_at)
 unfolding specifications_at
-specifications-cases i = by_step list_steps i
+specifications_cases i = by_step list_steps i
 
 -- the end of a list that has one pair more
 pub past-other : (first : Specification) (r : Answer (List Specification))
@@ -125,15 +125,15 @@ passed_list i j e = grind (arith, (list_pairs i).gives)
 list_takes : (n : ℕ) (i : Input) → size i < n → Gives (List Specification × Input)
     (specifications_at i) (λ x. Takes 1 i x.1 (λ j k. specifications_at j ≡ Ok (x.0, k)))
 list_takes zero i less = absurd (omega arith)
-list_takes (suc n) i less = rw (specifications-cases i) (then_gives (reads_specification.reads i)
+list_takes (suc n) i less = rw (specifications_cases i) (then_gives (reads_specification.reads i)
     (λ first t. test_gives (is_last first.0)
     (λ last. value_gives (record {
       goes = t.goes;
-      anyway = λ j rest. specifications-cases _ ∙ rw (t.anyway j rest, last) refl;
+      anyway = λ j rest. specifications_cases _ ∙ rw (t.anyway j rest, last) refl;
     }))
     (λ other. then_gives (list_takes n first.1 (omega (arith, goes_length t.goes)))
     (λ others u. value_gives (takes_then t u
-    (λ a b c p q. specifications-cases a ∙ rw (p, other, q) refl))))))
+    (λ a b c p q. specifications_cases a ∙ rw (p, other, q) refl))))))
 
 reads_within : (n : ℕ) → Reads 1 (List Specification) (specifications_within n)
 unfolding specifications_within

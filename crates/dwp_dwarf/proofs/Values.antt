@@ -44,11 +44,11 @@ named_steps = record {
       (cond (eqb x.0 0x21) (Err UnknownForm)) (same x (shorter reads_uleb s.1 x e))));
 }
 
-pub named_form-cases : (form : ℕ) (i : Input) → named_form_at form i ≡
+pub named_form_cases : (form : ℕ) (i : Input) → named_form_at form i ≡
     (cond (eqb form 0x16) (uleb_at i >>= λ x. cond (eqb x.0 0x21) (Err UnknownForm)
     (named_form_at x.0 x.1)) (Ok (form, i)))
 unfolding named_form_at
-named_form-cases form i = by_step named_steps (form, i)
+named_form_cases form i = by_step named_steps (form, i)
 
 -- a form that isn't the form indirect has no name before it
 abbrev NamesForm : ℕ → Input → ℕ × Input → Type 0

@@ -88,6 +88,7 @@ pub(crate) fn read_specification<R: Reader>(
 }
 
 /// What comes behind a list of attributes and its end.
+#[tactic(auto, using(crate::proofs::Tables::specifications_cases))]
 fn after_specifications<R: Reader>(mut at: R) -> Result<R, ReadError>
     ensures { Answers R.input result (past_specifications (R.input at)) }
 {

@@ -191,6 +191,7 @@ pub(crate) fn read_value<R: Reader>(
 }
 
 /// The form that a value really has, and what comes behind its names.
+#[tactic(auto, using(crate::proofs::Values::named_form_cases))]
 pub(crate) fn named_form<R: Reader>(mut at: R, form: u64) -> Result<(u64, R), ReadError>
     ensures { Answers (λ x. (x.0, R.input x.1)) result (named_form_at form (R.input at)) }
 {
