@@ -95,9 +95,9 @@ pair_steps = record {
       (λ x e. rw (e, same x.1 (shorter reads_specification i x e)) refl) (λ e h. rw h refl);
 }
 
-pub pairs-cases : (i : Input) → pairs_in i ≡ pairs_from (specification_at i) pairs_in
+pub pairs_cases : (i : Input) → pairs_in i ≡ pairs_from (specification_at i) pairs_in
 unfolding pairs_in
-pairs-cases i = by_step pair_steps i
+pairs_cases i = by_step pair_steps i
 
 -- a list that was read whole has these pairs
 pairs_are : (n : ℕ) (i : Input)

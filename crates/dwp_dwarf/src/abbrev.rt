@@ -127,7 +127,7 @@ fn read_children<R: Reader>(reader: &mut R) -> Result<bool, ReadError>
 }
 
 /// A declaration behind its code.
-#[tactic(auto, unfolding(crate::specs::Abbreviations::declaration_at))]
+#[tactic(auto, using(crate::proofs::Tables::passed_list), unfolding(crate::specs::Abbreviations::declaration_at))]
 fn read_declaration<R: Reader>(reader: &mut R) -> Result<Abbreviation<R>, ReadError>
     ensures { Reads (declaration_of R.input) result (R.input reader.old) (R.input reader.new)
         declaration_at }
@@ -145,6 +145,7 @@ fn read_declaration<R: Reader>(reader: &mut R) -> Result<Abbreviation<R>, ReadEr
 
 /// The declaration that stands there with its code, where one is known to: its list isn't gone
 /// over.
+#[tactic(auto, using(crate::proofs::Tables::known_is))]
 pub(crate) fn known_declaration<R: Reader>(mut at: R) -> Result<Abbreviation<R>, ReadError>
     ensures { IfOk result (λ found. (x : (ℕ × Declaration) × Input)
         → next_at (R.input at) ≡ Ok (Some x) → x.0.1 ≡ declaration_of R.input found) }

@@ -45,6 +45,7 @@ pub struct RootEntry<R> {
 }
 
 /// The next attribute and its form; None at the end of the list.
+#[tactic(auto, using(crate::proofs::Tables::pairs_cases))]
 pub(crate) fn next_specification<R: Reader>(
     specifications: &mut R,
 ) -> Option<AttributeSpecification>
