@@ -5,10 +5,9 @@ use Terms.{elf_of, Encoding, encoding_of, Endianness, Err, false, find, has_name
 use Terms.{input_meaning, inr, is-false, is-same, is_none, is_some, List, map, Meaning, None, Ok}
 use Terms.{Option, option_and_then, own_contribution, ParseFileKind, refl, Result, rules, same-ok}
 use Terms.{same-self, SectionKind, SectionMeaning, Some, Source, source_units, Str, sym, true}
-use Terms.{TypeUnit, UnitRead, Used, [], ℕ, ◌&&◌, ◌++◌, ◌>>=◌, ◌||◌, ◌∙◌, ◌∷◌, ◌≡◌, ◌⊎◌}
-use Rattle.thorin_input.specs.Used.{counts_once, elf_in, first, has_info, has_kind, input_file_of}
-use Rattle.thorin_input.specs.Used.{InputFile, opened, unusable, used_bytes, used_from, used_kind}
-use Rattle.thorin_input.specs.Used.{with_used}
+use Terms.{TypeUnit, UnitRead, Used, [], ℕ, ◌++◌, ◌>>=◌, ◌||◌, ◌∙◌, ◌∷◌, ◌≡◌, ◌⊎◌}
+use Rattle.thorin_input.specs.Used.{elf_in, first, has_info, has_kind, input_file_of, InputFile}
+use Rattle.thorin_input.specs.Used.{opened, unusable, used_bytes, used_from, used_kind, with_used}
 use Rattle.dwp_base.specs.Sections.{all_kinds, same_kind}
 use Rattle.dwp_index.specs.Index.{Index, range_in, Ranges}
 use Rattle.dwp_index.specs.Package.{index_in_section, is_outside, Package, package_of, part_of}
@@ -52,15 +51,7 @@ apart s j k h other =
 with-more : (s : SectionMeaning) (before next : List Used) (o : Option SectionKind)
     → with_used before s o ≡ Ok next
     → (next ≡ before) ⊎ ((u : Used) × (o ≡ Some u.kind) × (next ≡ before ++ u ∷ []))
-with-more s before next None h = inl (sym (same-ok before next h))
-with-more s before next (Some j) h =
-    by-choice _ (counts_once j && is_some (find (has_kind j) before)) _ _ (Ok next) h
-    (λ e. inl (sym (same-ok before next e)))
-    (λ e. let t = bind-was (used_bytes j s) _ next e in inr (
-      record { kind = j; bytes = t.0; address = s.address },
-      refl,
-      sym (same-ok _ next t.2),
-    ))
+with-more s before next o h = grind rules
 
 module _ (k : SectionKind) (bytes : List ℕ) where
   -- the first that was used has these bytes; else the first of those behind has

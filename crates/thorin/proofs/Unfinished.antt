@@ -6,8 +6,8 @@ use Terms.{ap, AreTaken, arith, begun-now, bind-was, Bool, by-bool, codes, conte
 use Terms.{drop, Each, Encoding, Endianness, Err, ErrorValue, filter, finish_test, Format}
 use Terms.{IndexEntry, inl, InProgress, inr, is_compilation, is_some, IsSound, IsSoundBegun, length}
 use Terms.{length-append, length-drop, length-take-le, LieInside, List, names_in, nat_le, nat_tests}
-use Terms.{None, not, Ok, ok_or, Option, refl, Result, SectionKind, Some, start, State, subst, sym}
-use Terms.{takes, tests_under, true, [], ℕ, ◌*◌, ◌+◌, ◌-◌, ◌<◌, ◌>>=◌, ◌^◌, ◌∙◌, ◌∷◌, ◌≡◌, ◌≤◌, ◌⊎◌}
+use Terms.{None, not, Ok, ok_or, Option, refl, Result, SectionKind, Some, start, State, subst}
+use Terms.{takes, tests_under, true, [], ℕ, ◌*◌, ◌+◌, ◌-◌, ◌<◌, ◌>>=◌, ◌^◌, ◌∷◌, ◌≡◌, ◌≤◌, ◌⊎◌}
 use Rattle.std.proofs.lemmas.List.Filters.{length-filter_both}
 use Rattle.dwp_bytes.specs.Input.{Input, number_at, section, split_at}
 use Rattle.dwp_units.specs.Units.{header_at, initial_length_at, Unit as Header, unit_at}
@@ -102,17 +102,12 @@ module _ {X : Type 0} (P : X → Type 0) (test : X → Result (Unit {0}) ErrorVa
   each-failed : (error : ErrorValue) (xs : List X) → Each P xs → each test xs ≡ Err error
       → (x : X) × P x × (test x ≡ Err error)
   each-failed error [] all h = absurd cc
-  each-failed error (x ∷ xs) all h = elim (step-failed (test x) (λ _. each test xs) error h) [
-    | inl here ↦ (x, all.0, here)
-    | inr later ↦ each-failed error xs all.1 later.2
-  ]
+  each-failed error (x ∷ xs) all h = grind (arith, each-failed error xs)
 
   each-passed : ((x : X) → test x ≡ Ok tt → P x) → (xs : List X) → each test xs ≡ Ok tt
       → Each P xs
   each-passed says [] h = tt
-  each-passed says (x ∷ xs) h =
-      let s = bind-was (test x) (λ _. each test xs) tt h in
-      (says x s.1, each-passed says xs s.2)
+  each-passed says (x ∷ xs) h = grind (arith, says x, each-passed says xs)
 
 -- ---- the tests of one row
 
@@ -273,11 +268,10 @@ module _ (inputs : List (List ℕ)) (state : State) (made : InProgress)
 -- a state that has taken an input has begun a package
 none-taken : (inputs : List (List ℕ)) (old new : State) → AreTaken inputs old new
     → new.begun ≡ None → (inputs ≡ []) × (old.begun ≡ None)
-none-taken [] old new are none = (refl, sym (ap (λ (s : State). s.begun) are.1) ∙ none)
+none-taken [] old new are none = grind (arith, are.1)
 none-taken (bytes ∷ rest) old new are none =
     let t = takes bytes old.begun _ (begun-now bytes (record old { targets = are.0 }) _ are.2) in
-    let was = (none-taken rest are.1 new are.3 none).1 in
-    absurd (grind (arith, t.does, was))
+    grind (arith, t.does, none-taken rest are.1 new are.3)
 
 target-failed : (state : State) (error : ErrorValue)
     → targets_test (names_in state.begun) state.targets ≡ Err error → LacksTarget state error
