@@ -1,13 +1,13 @@
 -- What a package means as an input is what a reader of packages finds in it.
 use Rattle.thorin.proofs.Terms
-use Terms.{ap, as_error, bind-was, both, by-bool, by-choice, Compilation, cond, DwarfObject, Elf}
-use Terms.{elf_of, Encoding, encoding_of, Endianness, Err, false, find, has_name, Indexes, inl}
+use Terms.{ap, as_error, bind-was, both, by-choice, Compilation, cond, DwarfObject, Elf, elf_of}
+use Terms.{Encoding, encoding_of, Endianness, Err, false, find, has_name, Indexes, inl}
 use Terms.{input_meaning, inr, is-false, is-same, is_none, is_some, List, map, Meaning, None, Ok}
 use Terms.{Option, option_and_then, own_contribution, ParseFileKind, refl, Result, rules, same-ok}
 use Terms.{same-self, SectionKind, SectionMeaning, Some, Source, source_units, Str, sym, true}
 use Terms.{TypeUnit, UnitRead, Used, [], ℕ, ◌++◌, ◌>>=◌, ◌||◌, ◌∙◌, ◌∷◌, ◌≡◌, ◌⊎◌}
 use Rattle.thorin_input.specs.Used.{elf_in, first, has_info, has_kind, input_file_of, InputFile}
-use Rattle.thorin_input.specs.Used.{opened, unusable, used_bytes, used_from, used_kind, with_used}
+use Rattle.thorin_input.specs.Used.{opened, used_bytes, used_from, used_kind, with_used}
 use Rattle.dwp_base.specs.Sections.{all_kinds, same_kind}
 use Rattle.dwp_index.specs.Index.{Index, range_in, Ranges}
 use Rattle.dwp_index.specs.Package.{index_in_section, is_outside, Package, package_of, part_of}
@@ -23,7 +23,6 @@ use Rattle.thorin_join.specs.Meaning.{contributions_by, meaning_by, meaning_with
 use Rattle.thorin_join.specs.Meaning.{placed_row, shared_kinds, source_meaning, unit_meaning}
 use Rattle.thorin.specs.MeaningRead.{has_index, lies_in, MeansByReader, unit_of_package}
 use Rattle.thorin.specs.MeaningRead.{unit_of_row, unit_with}
-use Rattle.std.proofs.Math.Bool.{and-false}
 use Rattle.std.proofs.lemmas.List.Folds.{find-append}
 use Rattle.thorin_input.proofs.Walking.{kind-full}
 use Rattle.dwp_elf_read.specs.declared.kind.FileKind.{FileKind}
@@ -63,20 +62,12 @@ module _ (k : SectionKind) (bytes : List ℕ) where
       (o : Option Used) → find (has_kind k) before ≡ o → with_used before s (used_kind s) ≡ Ok next
       → Expects (s ∷ ss) o → Expects ss (find (has_kind k) next)
   unfolding content_among used_bytes
-  one-more s ss before next (Some used) f w c = elim (with-more s before next (used_kind s) w) [
-    | inl same ↦ rw (same, f) c
-    | inr more ↦ rw (more.2, find-append, f) c
-  ]
+  one-more s ss before next (Some used) f w c =
+      grind (rules, with-more s before next (used_kind s), find-append (has_kind k) before)
   one-more s ss before next None f w c =
-      by-bool _ (is_of_kind k s)
-      (λ is. let t = bind-was (used_bytes k s) _ next (rw (used-of s k is, f, and-false) at w) in
-      rw (← same-ok _ next t.2, find-append, f, same-self k)
-      (same-ok t.0 bytes (sym t.1 ∙ ap (as_error unusable) (rw is at c))))
-      (λ other. elim (with-more s before next (used_kind s) w) [
-        | inl same ↦ rw (same, f) (rw other at c)
-        | inr more ↦ rw (more.2, find-append, f, apart s more.0.kind k more.1 other)
-            (rw other at c)
-      ])
+      let more = with-more s before next (used_kind s) w in
+      let other = λ (u : Used). apart s u.kind k in
+      grind (rules, more, find-append (has_kind k) before, used-of s k, other, same-self k)
 
   pub all-used : (ss : List SectionMeaning) (before after : List Used)
       → used_from before ss ≡ Ok after → Expects ss (find (has_kind k) before)

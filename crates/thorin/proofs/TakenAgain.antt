@@ -1,7 +1,7 @@
 -- Packages that are packed again, and inputs of one encoding, as packing has them.
 use Rattle.thorin.proofs.Terms
-use Terms.{ap, ArePackedAlone, AreTaken, arith, begun-now, bind-was, CanBePackedAgain, DwarfObject}
-use Terms.{Elf, elf_of, Encoding, encoding_of, Endianness, Err, ErrorValue, File, find, finish_test}
+use Terms.{ap, ArePackedAlone, AreTaken, arith, begun-now, CanBePackedAgain, DwarfObject, Elf}
+use Terms.{elf_of, Encoding, encoding_of, Endianness, Err, ErrorValue, File, find, finish_test}
 use Terms.{IfOk, inl, inr, is_missing, IsFinishedState, IsOfEncoding, IsPlainOf, IsSoundBegun}
 use Terms.{IsWritten, List, names_in, None, Ok, Option, refl, RefusesPackages, Result, Some, start}
 use Terms.{State, sym, taken, taken_each, Writes, written_elf, [], ℕ, ⊎_elim, ◌∙◌, ◌∷◌, ◌≡◌, ◌⊎◌}
@@ -47,9 +47,7 @@ targets-stay : (inputs : List (List ℕ)) (old new : State) → taken_each input
     → new.targets ≡ old.targets
 unfolding taken_each taken
 targets-stay [] old new h = grind arith
-targets-stay (bytes ∷ rest) old new h =
-    let next = bind-was (taken bytes old) _ new h in
-    targets-stay rest next.0 new next.2 ∙ grind (arith, next.1)
+targets-stay (bytes ∷ rest) old new h = grind (arith, targets-stay rest)
 
 -- why packages aren't packed into one, where each was taken
 unwritten-why : UnfinishedLaw → (packages : List (List ℕ)) (error : ErrorValue)
@@ -118,9 +116,6 @@ module _ (encoding : Encoding) (bytes : List ℕ) (p : IsPlainOf encoding bytes)
   pub plain-encoding : IsOfEncoding encoding bytes
   unfolding input_encoding
   plain-encoding = (
-    λ file object e h k l. let one = one-reading file object e h k l in rw (one.0, one.1) p.all,
-    λ e h.
-        let s1 = bind-was (opened bytes) _ e h in
-        let s2 = bind-was (input_file_of s1.0) _ e s1.2 in
-        (one-reading s1.0 s2.0 e s1.1 s2.1 s2.2).1,
+    λ file object e h k l. grind (arith, one-reading file object e h k l, p.all),
+    λ e h. grind (arith, one-reading),
   )
