@@ -1,8 +1,8 @@
 -- A new version has what the older one has but for one key, and older versions stay.
 use Rattle.dwp_dwarf.proofs.Terms
-use Terms.{◌%◌, ◌++◌, ◌-◌, ◌<◌, [], ap, append_assoc, arith, by-bool, cond, eqb, eqb-true, length}
-use Terms.{length-append, List, lt-ltb, ne_eqb, Node, None, Option, refl, slice_get, Some, suc, sym}
-use Terms.{zero, ℕ, ◌∙◌, ◌∷◌, ◌≡◌, ◌≢◌, ◌≤◌}
+use Terms.{◌%◌, ◌++◌, ◌-◌, ◌<◌, [], ap, append_assoc, arith, cond, eqb, length, length-append, List}
+use Terms.{lt-ltb, ne_eqb, Node, None, Option, refl, slice_get, Some, suc, sym, zero, ℕ, ◌∙◌, ◌∷◌}
+use Terms.{◌≡◌, ◌≢◌, ◌≤◌}
 use Rattle.std.proofs.lemmas.Option.{slice_get_within}
 use Rattle.dwp_dwarf.specs.Versions.{node_of, held, side_of, with_side, half, older, copy_by}
 use Rattle.dwp_dwarf.specs.Versions.{copy_of, value_below, value_by, Grows}
@@ -155,21 +155,14 @@ module _ {old mid new : List Node} (levels version added low key : ℕ) (copy : 
       → (other : ℕ) → other ≢ key
       → value_below levels new added other ≡ value_below levels old version other
   others_beside same other apart =
-      let whole = grows_length before in
-      let copy_fits = rw (← copied) at (copy_within old version other) in
-      let by = λ (side : ℕ) (is : side_of (with_side copy key low) other ≡ side)
-      (less : side < added). others_by levels old new version added other
-      (with_side copy key low) copy some copied now (rw is less) (λ _. value_with copy key low) in
-      by-bool _ (eqb (other % 2) (key % 2))
-      (λ e.
-      let alike = eqb-true _ _ e in
-      let side : side_of (with_side copy key low) other ≡ low =
-      rw e at (side_with copy key low other) in
-      by low side (omega arith) (λ more. rw (side, side_alike copy other key alike)
-      (value_stays (levels - 1) (half other) behind fits ∙ same (half other) (λ h.
-      apart (halves_apart key other there more (sym alike) h)))))
-      (λ e.
-      let side : side_of (with_side copy key low) other ≡ side_of copy other =
-      rw e at (side_with copy key low other) in
-      by (side_of copy other) side (omega arith) (λ _. rw side
-      (value_stays (levels - 1) (half other) (grows_then before behind) copy_fits)))
+      let fits_copy = rw (← copied) at (copy_within old version other) in
+      let by = others_by levels old new version added other (with_side copy key low) copy some copied
+      now in
+      let value = value_with copy key low in
+      let up = value_stays (levels - 1) (half other) behind fits in
+      let stays = value_stays (levels - 1) (half other) (grows_then before behind) fits_copy in
+      let halves = halves_apart key other there in
+      let side = side_with copy key low other in
+      let alike = side_alike copy other key in
+      let long = grows_length before in
+      grind (arith, long, fits_copy, side, by, value, up, stays, same (half other), halves, alike)

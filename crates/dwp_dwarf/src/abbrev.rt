@@ -145,7 +145,6 @@ fn read_declaration<R: Reader>(reader: &mut R) -> Result<Abbreviation<R>, ReadEr
 
 /// The declaration that stands there with its code, where one is known to: its list isn't gone
 /// over.
-#[tactic(auto, using(crate::proofs::Tables::known_is))]
 pub(crate) fn known_declaration<R: Reader>(mut at: R) -> Result<Abbreviation<R>, ReadError>
     ensures { IfOk result (λ found. (x : (ℕ × Declaration) × Input)
         → next_at (R.input at) ≡ Ok (Some x) → x.0.1 ≡ declaration_of R.input found) }
