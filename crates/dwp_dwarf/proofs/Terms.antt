@@ -7,7 +7,6 @@ pub use Rattle.std.proofs.Common.{ne_eqb, ok_or, refl, rules, slice_get, subst, 
 pub use Rattle.std.proofs.Common.{true, vec_len, zero, ℕ, ◌%◌, ◌++◌, ◌+◌, ◌-◌, ◌<◌, ◌↔◌, ◌∙◌, ◌∷◌}
 pub use Rattle.std.proofs.Common.{◌≡◌, ◌≢◌, ◌≤◌}
 pub use Rattle.std.proofs.lemmas.Bool.{eqb-false}
-pub use Rattle.std.proofs.lemmas.Grind.{common_steps}
 pub use Rattle.std.proofs.lemmas.List.{drop-take, drop_more}
 pub use Rattle.std.proofs.lemmas.Result.{err_from_is_err_and}
 pub use Rattle.std.specs.BTreeMap.{get}
@@ -33,7 +32,7 @@ pub use Rattle.dwp_dwarf.specs.Forms.{layout_of}
 unfoldable pub use Rattle.dwp_dwarf.specs.Forms.{named_form_at, past_value, value_at}
 unfoldable pub use Rattle.dwp_dwarf.specs.Grammar.{next_at}
 pub use Rattle.dwp_dwarf.specs.Needed.{ListsNeeded, is_needed, is_unmet, met, needed, none_met}
-pub use Rattle.dwp_dwarf.specs.Numbers.{first_number, has_bytes, named_number, number_or}
+pub use Rattle.dwp_dwarf.specs.Numbers.{first_number, has_bytes}
 unfoldable pub use Rattle.dwp_dwarf.specs.Offsets.{from_at}
 pub use Rattle.dwp_dwarf.specs.Split.{SplitAttributes, attributes_of}
 unfoldable pub use Rattle.dwp_dwarf.specs.Split.{split_in}
