@@ -65,9 +65,9 @@ still-extends {before = before} {p = p} {differing = differing} h grown more = r
   differing = still-kept before.differing p.differing differing h.differing more;
 }
 
-pub strings-extend : {p : InProgress} {strings : List (List ℕ)}
+pub strings_extend : {p : InProgress} {strings : List (List ℕ)}
     → take (length p.strings) strings ≡ p.strings → Extends p (record p { strings = strings })
-strings-extend {p = p} kept = grown-extends (λ before h. h) kept (take-length p.differing)
+strings_extend {p = p} kept = grown-extends (λ before h. h) kept (take-length p.differing)
 
 -- the steps of an input
 pub with_source-is : (source : Source) (p : InProgress) (parts : Contents

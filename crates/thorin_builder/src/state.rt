@@ -114,7 +114,7 @@ impl InProgressDwarfPackage {
     }
 
     /// Adds the units of an input, but an `Err` may leave more than there was.
-    #[tactic(auto, unfolding(thorin_join::specs::State::with_source, thorin_join::specs::State::abbreviations_test))]
+    #[tactic(auto, using(crate::proofs::Extending::strings_extend), unfolding(thorin_join::specs::State::with_source, thorin_join::specs::State::abbreviations_test))]
     fn try_add(&mut self, source: &Source<'_>) -> Result<bool, Error>
         ensures alike { IfOk result (λ alike. alike ≡ are_alike (view.source source.now)) }
         ensures meaning { Gives (λ _. in_progress_of self.new) result
@@ -173,7 +173,7 @@ impl InProgressDwarfPackage {
     #[tactic(auto, unfolding(thorin_join::specs::State::with_new_unit))]
     fn append_unit(
         &mut self,
-        row: IndexEntry,
+        mut row: IndexEntry,
         place: UnitSection,
         bytes: &[u8],
     ) -> Result<(), Error>
@@ -188,7 +188,6 @@ impl InProgressDwarfPackage {
             return Ok(());
         }
         let range = self.object.append(kind_of(place), bytes)?;
-        let mut row = row;
         match place {
             UnitSection::Info => row.debug_info = range,
             UnitSection::Types => row.debug_types = range,
@@ -264,7 +263,7 @@ fn index_of(
 #[tactic(auto, unfolding(thorin_join::specs::Builder::indexes_test))]
 pub(crate) fn finished(
     alloc: Global,
-    object: WritableObject,
+    mut object: WritableObject,
     strings: PackageStringTable,
     rows: &IndexRows,
 ) -> Result<WritableObject, Error>
@@ -278,7 +277,6 @@ pub(crate) fn finished(
     })) }
     ensures identifiers { OnOk result (IdentifiersFit rows.now) }
 {
-    let mut object = object;
     let order = object.endianness();
     let compilations = index_of(alloc, order, rows, Index::Compilations)?;
     let types = index_of(alloc, order, rows, Index::TypeUnits)?;
