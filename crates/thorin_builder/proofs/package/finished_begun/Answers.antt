@@ -1,5 +1,5 @@
 use Rattle.thorin_builder.proofs.Terms
-use Terms.{begun_of, DebugTypeSignature, Err, Error, File, IdentifiersFit, IfOk, in_progress_of}
+use Terms.{DebugTypeSignature, Err, Error, File, IdentifiersFit, IfOk, in_progress_of}
 use Terms.{InProgress, IsFinishedState, map, Ok, refl, Result, Some, State, ◌≡◌}
 use Rattle.std.specs.Prelude.{OnOk}
 use Rattle.thorin_join.specs.Builder.{IsFinished}

@@ -1,4 +1,4 @@
-use Rattle.thorin_builder.proofs.Terms.{begun_of, Error, File, finish_test, Gives, IfOk}
+use Rattle.thorin_builder.proofs.Terms.{building, Error, File, finish_test, Gives, IfOk}
 use Rattle.thorin_builder.proofs.Terms.{IsFinishedState, Ok, Result, rules, State, units_in, ◌≡◌}
 use Rattle.thorin_again.specs.OwnAccepted.{IsAcceptedByNewOnceWritten, IsAcceptedOnceWritten}
 use Rattle.thorin_join.specs.Join.{IsPackageOnceWritten}
@@ -21,11 +21,7 @@ returns-clause-finished g c = rw (← c.self.view_is) (c.finished_begun.ensures.
 
 pub returns-clause-packaged : goal.returns-clause-packaged
 returns-clause-packaged g c =
-    let state : State = record {
-      begun = begun_of c.self.inside.in_progress;
-      targets = c.self.inside.targets.keys;
-      own = c.self.inside.own;
-    } in
+    let state : State = (building c.self.inside).state in
     rw (← c.self.view_is) (by-law (λ of. IsPackageOnceWritten (units_in of))
     c.finished_begun.result.0 state
     (λ file. c.finished_packages_are_read.ensures state file c.self.invariant.1)
