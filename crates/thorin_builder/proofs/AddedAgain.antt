@@ -1,12 +1,12 @@
 -- What an input adds that adds no unit, however often it is taken.
 use Rattle.thorin_builder.proofs.Terms
-use Terms.{ap, append-nil, append_assoc, AreTaken, arith, begun_of, by-bool, bytes_eq, DwarfObject}
-use Terms.{Encoding, false, Global, held_units, in_progress_of, IndexEntry, inl, InProgress}
+use Terms.{append-nil, append_assoc, AreTaken, arith, begun_of, bytes_eq, DwarfObject, Encoding}
+use Terms.{false, Global, held_units, in_progress_of, IndexEntry, inl, InProgress}
 use Terms.{InProgressDwarfPackage, inr, IsLater, IsTaken, kept_more, le-ltb, length, List, lookup}
 use Terms.{map, map-append, Meaning, meaning_at, names_in, None, none-some, Ok, Option, own_after}
-use Terms.{own_encoding, part, refl, Remembers, rules, same_Some, Some, State, String, string_bytes}
-use Terms.{string_eq, sym, take-length, taken, true≢false, UnitlessInput, units_begun, units_of}
-use Terms.{with_input, with_more, ℕ, [], ◌++◌, ◌∙◌, ◌∷◌, ◌≡◌, ◌⊎◌}
+use Terms.{own_encoding, part, refl, Remembers, rules, Some, State, String, string_bytes, string_eq}
+use Terms.{sym, take-length, taken, true≢false, UnitlessInput, units_begun, units_of, with_input}
+use Terms.{with_more, ℕ, [], ◌∷◌, ◌≡◌, ◌⊎◌}
 use Rattle.thorin_join.proofs.Terms.{is_some, Joins}
 use Rattle.std.proofs.lemmas.Simd.{map-map}
 use Rattle.std.proofs.lemmas.Slice.Eq.{bytes_eq-Decides}
@@ -26,12 +26,8 @@ later-refl made = record {
 }
 
 later-trans : (a b c : InProgress) → IsLater a b → IsLater b c → IsLater a c
-later-trans a b c h k = record {
-  order = k.order ∙ h.order;
-  strings = kept_more a.strings b.strings c.strings h.strings k.strings;
-  more = h.more ++ k.more;
-  held = k.held ∙ ap (λ l. l ++ k.more) h.held ∙ append_assoc (held_units a) h.more k.more;
-}
+later-trans a b c h k =
+    grind (rules, kept_more a.strings b.strings c.strings, append_assoc (held_units a) h.more k.more)
 
 -- a package with what is remembered more
 abbrev pub with_again : UnitlessInput → InProgress → InProgress
@@ -95,12 +91,8 @@ module _ (offer : Offer) where
       (λ k. bytes_eq path (string_bytes k)) es ≡ Some again → IsTaken (offer path) again begun
   taken-found [] begun path again k h = absurd (none-some again h)
   taken-found (e ∷ es) begun path again k h =
-      by-bool _ (bytes_eq path (string_bytes e.0))
-      (λ same. rw (
-        (bytes_eq-Decides path (string_bytes e.0)).0 same,
-        ← same_Some e.1 again (rw same at h),
-      ) k.0)
-      (λ other. taken-found es begun path again k.1 (rw other at h))
+      let same = (bytes_eq-Decides path (string_bytes e.0)).0 in
+      grind (rules, k.0, same, taken-found es begun path again k.1)
 
   -- and with one more
   taken-more : (es : List (String Global × UnitlessInput)) (begun : Option InProgress)
@@ -109,12 +101,8 @@ module _ (offer : Offer) where
       → AreTaken offer (insert_entry string_eq es key again) begun
   taken-more [] begun key again k one = (one, tt)
   taken-more (e ∷ es) begun key again k one =
-      by-bool _ (string_eq key e.0)
-      (λ same. rw same (
-        rw (← (bytes_eq-Decides (string_bytes key) (string_bytes e.0)).0 same) one,
-        k.1,
-      ))
-      (λ other. rw other (k.0, taken-more es begun key again k.1 one))
+      let same = (bytes_eq-Decides (string_bytes key) (string_bytes e.0)).0 in
+      grind (rules, same, taken-more es begun key again k.1)
 
   -- and with what bytes that may be read at a path add
   pub taken-remembered : (old new : List (String Global

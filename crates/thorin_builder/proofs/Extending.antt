@@ -31,12 +31,8 @@ is_grown-refl o =
     record { class = refl; machine = refl; order = refl; contents = begins-refl o.contents }
 
 pub extends-refl : (p : InProgress) → Extends p p
-extends-refl p = record {
-  file = is_grown-refl p.file;
-  strings = take-length p.strings;
-  rows = take-length p.rows;
-  differing = take-length p.differing;
-}
+extends-refl p = let file = is_grown-refl p.file in
+    assumption (file, take-length p.strings, take-length p.rows, take-length p.differing)
 
 -- a file that grew, and more strings and signatures
 pub grown-extends : {p : InProgress} {f : File} {strings : List (List ℕ)} {differing : List ℕ}
@@ -58,16 +54,13 @@ pub still-extends : {before p : InProgress} {f : File} {differing : List ℕ} �
     → ((b : File) → IsGrown b p.file → IsGrown b f)
     → take (length p.differing) differing ≡ p.differing
     → Extends before (record p { file = f; differing = differing })
-still-extends {before = before} {p = p} {differing = differing} h grown more = record {
-  file = grown before.file h.file;
-  strings = h.strings;
-  rows = h.rows;
-  differing = still-kept before.differing p.differing differing h.differing more;
-}
+still-extends {before = before} {p = p} {differing = differing} h grown more =
+    let kept = still-kept before.differing p.differing differing h.differing more in
+    assumption (grown before.file h.file, kept)
 
-pub strings_extend : {p : InProgress} {strings : List (List ℕ)}
+pub strings-extend : {p : InProgress} {strings : List (List ℕ)}
     → take (length p.strings) strings ≡ p.strings → Extends p (record p { strings = strings })
-strings_extend {p = p} kept = grown-extends (λ before h. h) kept (take-length p.differing)
+strings-extend {p = p} kept = grown-extends (λ before h. h) kept (take-length p.differing)
 
 -- the steps of an input
 pub with_source-is : (source : Source) (p : InProgress) (parts : Contents

@@ -14,7 +14,6 @@ use Rattle.thorin_executable.specs.Skeletons.{Listed}
 use Rattle.thorin_builder.specs.Taking.{MayRead, TakesNamed, TakesSkeletons}
 use Rattle.thorin_builder.specs.Reading.{DeclinesNamed, error_in, IsRead, OnDeclined}
 use Rattle.thorin_builder.specs.declared.reader.NotTaken.{NotTaken}
-use Rattle.thorin_builder.specs.declared.reader.NotTaken.TheVariants.{Declined, Failed}
 use Rattle.thorin_errors.specs.Inputs.{input_error}
 use Rattle.thorin_join.proofs.Units.InRows.{keys-units}
 use Rattle.thorin_errors.specs.Errors.{Memory}
@@ -130,33 +129,26 @@ module _ {D : Type 0} (offered : Result (List ℕ) IoError → Type 0) (declines
     -- what its read may answer
     pub may-read : (why : NotTaken InputError D) → IsRead offered declines (Err why)
         → MayRead offered (Err (input_error_in why))
-    may-read (Failed (input.Io cause)) is = is
-    may-read (Failed input.Memory) is = tt
-    may-read (Declined why) is = tt
+    may-read why is = grind rules
 
     -- the reason for which it is declined
     pub unread-declined : (why : NotTaken InputError D) → IsRead offered declines (Err why)
         → OnDeclined {X = Unit {0}} (Err (unread why)) declines
-    unread-declined (Failed e) is = tt
-    unread-declined (Declined why) is = is
+    unread-declined why is = grind rules
 
 -- its error
 pub unread-error : {D : Type 0} (why : NotTaken InputError D)
     → error_in (unread why) ≡ input_error (input_error_in why)
-unread-error (Failed e) = refl
-unread-error (Declined why) = refl
+unread-error why = grind rules
 
 -- an input that is declined
 module _ {D : Type 0} where
   -- what is said of a call that took an input
   pub on-ok-taken : (result : Result (Unit {0}) (NotTaken Error D)) (outcome : Outcome)
       → outcome_of result ≡ outcome → (P : Type 0) → OnOk outcome P → OnOk result P
-  on-ok-taken (Ok x) outcome is P h = rw (← is) at h
-  on-ok-taken (Err why) outcome is P h = tt
+  on-ok-taken result outcome is P h = grind rules
 
   -- for a reason that is one of others
   pub declined-as : {P Q : D → Type 0} (result : Result (Unit {0}) (NotTaken Error D))
       → ((why : D) → P why → Q why) → OnDeclined result P → OnDeclined result Q
-  declined-as (Ok x) f h = tt
-  declined-as (Err (Failed e)) f h = tt
-  declined-as (Err (Declined why)) f h = f why h
+  declined-as result f h = grind (rules, f)

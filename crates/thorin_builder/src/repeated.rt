@@ -103,7 +103,6 @@ impl InProgressDwarfPackage {
 
     /// What an input adds whose sections, encoding and indexes are known, where that is no unit and
     /// no string. It may leave strings behind those before.
-    #[tactic(auto, using(crate::proofs::Extending::strings_extend))]
     fn try_again(&mut self, source: &Source<'_>) -> Result<Option<UnitlessInput>, Error>
         ensures found { IfOk result (λ found. IfSome found (λ again.
             AddsNoUnit (view.source source.now) again (in_progress_of self.old))) }
