@@ -76,10 +76,10 @@ joined-first : (format : Format) (before : SplitAttributes) (a : DebugAttribute)
     (with_attribute format before a) (split_attributes format rest)
 joined-first format before a rest = grind arith
 
-pub after-first : (format : Format) (before : SplitAttributes) (a : DebugAttribute)
+pub after_first : (format : Format) (before : SplitAttributes) (a : DebugAttribute)
     (rest : List (Result DebugAttribute ReadError)) → after format before (Ok a ∷ rest) ≡ after
     format (with_attribute format before a) rest
-after-first format before a rest = bind-bind (all_read rest) _ _
+after_first format before a rest = bind-bind (all_read rest) _ _
     ∙ bind_alike (all_read rest) _ _ (λ others _. ap Ok (joined-first format before a others))
 
 -- ---- those that are needed
@@ -113,7 +113,7 @@ after_needed format encoding before (s ∷ ss) i = by-bool _ (is_needed (unmet_o
     (λ some. rw some (by-result _ (attribute_at encoding s i)
     (λ x is.
     let name = ((attribute_lies encoding s i).gives x is).name in
-    let first = after-first format before x.0 in
+    let first = after_first format before x.0 in
     let rest = attributes encoding (needed (met (unmet_of before) s.name) ss) x.1 in
     let same : after format (with_attribute format before x.0) rest
     ≡ after format (with_attribute format before x.0) (attributes encoding ss x.1) =
@@ -127,7 +127,7 @@ after_needed format encoding before (s ∷ ss) i = by-bool _ (is_needed (unmet_o
     let unmet : met (unmet_of before) s.name ≡ unmet_of before =
     sym (unmet_behind format before (empty s i)) ∙ ap unmet_of same in
     rw (none, is.read, unmet) (after_needed format encoding before ss i
-    ∙ sym (after-first format before (empty s i) (attributes encoding ss i)
+    ∙ sym (after_first format before (empty s i) (attributes encoding ss i)
     ∙ ap (λ (b : SplitAttributes). after format b (attributes encoding ss i)) same)))
 
 -- what names the split object is found among the attributes that are needed

@@ -82,9 +82,9 @@ unfolding specifications_at
 specifications_cases i = by_step list_steps i
 
 -- the end of a list that has one pair more
-pub past-other : (first : Specification) (r : Answer (List Specification))
+pub past_other : (first : Specification) (r : Answer (List Specification))
     → ((r >>= before_others first) >>= λ list. Ok list.1) ≡ (r >>= λ list. Ok list.1)
-past-other first r = grind arith
+past_other first r = grind arith
 
 pair_steps : Steps size pairs_within (λ others i. pairs_from (specification_at i) others)
 unfolding pairs_within

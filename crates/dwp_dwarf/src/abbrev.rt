@@ -55,6 +55,7 @@ pub(crate) fn from_offset<R: Reader>(section: R, offset: u64) -> Result<R, ReadE
 
 /// A number of variable length. Most have one byte, which is looked at first.
 #[inline(always)]
+#[tactic(auto, using(crate::proofs::Tables::one_byte))]
 fn read_number<R: Reader>(reader: &mut R) -> Result<u64, ReadError>
     ensures { Reads (λ x. x) result (R.input reader.old) (R.input reader.new) uleb_at }
 {
@@ -88,7 +89,7 @@ pub(crate) fn read_specification<R: Reader>(
 }
 
 /// What comes behind a list of attributes and its end.
-#[tactic(auto, using(crate::proofs::Tables::specifications_cases))]
+#[tactic(auto, using(crate::proofs::Tables::specifications_cases, crate::proofs::Tables::past_other))]
 fn after_specifications<R: Reader>(mut at: R) -> Result<R, ReadError>
     ensures { Answers R.input result (past_specifications (R.input at)) }
 {

@@ -74,7 +74,7 @@ impl<R: Reader> SplitAttributes<R> {
 }
 
 /// Those of an entry, up to the first error.
-#[tactic(auto, unfolding(crate::specs::Split::split_in))]
+#[tactic(auto, using(crate::proofs::NeededAttributes::after_first), unfolding(crate::specs::Split::split_in))]
 pub(crate) fn split_read<R: Reader>(
     entry: RootEntry<R>,
     format: Format,
