@@ -5,13 +5,12 @@ pub use Rattle.std.proofs.Common.{not, Ok, Option, refl, Result, rules, Some, St
 pub use Rattle.std.proofs.Common.{string_eq, subst, suc, sym, take, true, true≢false, zero, ℕ, []}
 pub use Rattle.std.proofs.Common.{◌++◌, ◌+◌, ◌∙◌, ◌∷◌, ◌≡◌, ◌≢◌, ◌⊎◌}
 pub use Rattle.std.proofs.Math.Seq.{take-append-add, take-append_seam}
-pub use Rattle.thorin_join.proofs.Terms.{append-nil, append_assoc, by-bool, Contents, DwarfObject}
-pub use Rattle.thorin_join.proofs.Terms.{Encoding, ErrorValue, filter, first, IdentifiersFit}
-pub use Rattle.thorin_join.proofs.Terms.{IndexEntry, InProgress, input_file_of, kept_bytes, keys}
-pub use Rattle.thorin_join.proofs.Terms.{list_any, lookup, map-append, Meaning, meaning_at, New}
-pub use Rattle.thorin_join.proofs.Terms.{NewUnit, none-some, parts_of, same_name, same_Some, Source}
-pub use Rattle.thorin_join.proofs.Terms.{take-append-le, take-length, units_begun, units_in}
-pub use Rattle.thorin_join.proofs.Terms.{units_of, Used}
+pub use Rattle.thorin_join.proofs.Terms.{append-nil, append_assoc, Contents, DwarfObject, Encoding}
+pub use Rattle.thorin_join.proofs.Terms.{ErrorValue, filter, first, IdentifiersFit, IndexEntry}
+pub use Rattle.thorin_join.proofs.Terms.{InProgress, input_file_of, kept_bytes, keys, list_any}
+pub use Rattle.thorin_join.proofs.Terms.{lookup, map-append, Meaning, meaning_at, New, NewUnit}
+pub use Rattle.thorin_join.proofs.Terms.{none-some, parts_of, same_name, Source, take-append-le}
+pub use Rattle.thorin_join.proofs.Terms.{take-length, units_begun, units_in, units_of, Used}
 pub use Rattle.std.proofs.lemmas.List.{at_drop_more, drop_more, get_or_default}
 pub use Rattle.std.proofs.lemmas.Option.{get_or_from_slice_get, IfSome_then, slice_get_within}
 pub use Rattle.std.proofs.lemmas.Result.{err_from_is_err_and, IfOk-weaker, on_ok_weaker}
@@ -52,6 +51,5 @@ pub use Rattle.thorin_builder.specs.declared.in_progress.InProgressDwarfPackage.
 pub use Rattle.thorin_builder.specs.declared.repeated.UnitlessInput.{UnitlessInput}
 pub use Rattle.dwp_table.specs.declared.object.DebugTypeSignature.{DebugTypeSignature}
 pub use Rattle.thorin_input.proofs.NewUnitLemmas.{with_rows}
-pub use Rattle.std.proofs.lemmas.Grind.{common_steps}
 pub use Rattle.std.specs.Path.{path_bytes}
 pub use Rattle.thorin_builder.specs.RowsByIndex.{rows_in}
