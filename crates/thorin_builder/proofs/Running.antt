@@ -120,8 +120,8 @@ module _ (offer : Offer) (missing : MissingReferencedObjectBehaviour) (all : Lis
         (λ other. is (λ m. other (ap (λ f. Some (error_of f)) m))) refl (refl, (refl, refl))
 
 -- the names of a builder's units
-pub names-begun : (state : State) → keys (units_in state) ≡ names_in state.begun
-names-begun state = grind (rules, keys-units)
+pub names_begun : (state : State) → keys (units_in state) ≡ names_in state.begun
+names_begun state = grind (rules, keys-units)
 
 -- an input that wasn't read
 module _ {D : Type 0} (offered : Result (List ℕ) IoError → Type 0) (declines : D → Type 0)

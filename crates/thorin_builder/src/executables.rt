@@ -253,6 +253,7 @@ impl<'output, 'session: 'output, Sess: Session<RelocationEntry>> DwarfPackage<
     }
 
     /// Whether a unit is a compilation unit that the package has.
+    #[tactic(auto, using(crate::proofs::Running::names_begun, crate::proofs::Names::among_is))]
     fn is_there(&self, target: DwarfObject) -> bool
         ensures { result ≡ is_there target self.now.state }
     {

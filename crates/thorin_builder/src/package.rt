@@ -297,6 +297,7 @@ impl<'output, 'session: 'output, Sess: Session<RelocationEntry>> DwarfPackage<
     /// The units that the package contains, in order of acceptance. It takes no memory. A proof
     /// about a borrowed package learns here that the builder's invariant holds, which the laws of
     /// `thorin_join` ask for.
+    #[tactic(auto, using(crate::proofs::Running::names_begun))]
     pub fn contained_units(&self) -> &IndexSet<DwarfObject>
         ensures names { result.now.keys ≡ keys (units_in self.now.state) }
         ensures sound { IsSoundBegun self.now.state.begun }
@@ -343,6 +344,7 @@ impl<'output, 'session: 'output, Sess: Session<RelocationEntry>> DwarfPackage<
 
     /// The units that executables refer to and that aren't contained, in order of insertion. It
     /// takes no memory.
+    #[tactic(auto, using(crate::proofs::Running::names_begun))]
     pub fn missing_targets(&self) -> MissingTargets<'_>
         ensures { missing_left result
             ≡ filter (spec.is_missing (spec.names_in self.now.state.begun)) self.now.state.targets }
