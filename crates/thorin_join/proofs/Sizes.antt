@@ -84,13 +84,11 @@ module _ (source : Source) where
   sections-within : (sections : List Used) (us : Reads)
       → named_sections source sections ≡ Ok us → sum_by read_bytes us ≤ sum_by unit_bytes sections
   unfolding named_sections
-  sections-within [] us h = rw (← same-ok {E = ErrorValue} [] us h) (omega arith)
+  sections-within [] us h = grind arith
   sections-within (from ∷ rest) us h =
-      let a = bind-was (named_at source from (unit_section from.kind)) _ us h in
-      let b = bind-was (named_sections source rest) _ us a.2 in
-      let here = section-within from _ a.0 a.1 in
-      let later = sections-within rest b.0 b.1 in
-      grind (arith, b.2, sum_by-append read_bytes a.0 b.0, sum_by-cons unit_bytes from rest)
+      let here = section-within from (unit_section from.kind) in
+      let sums = sum_by-append read_bytes in
+      grind (arith, here, sections-within rest, sums, sum_by-cons unit_bytes from rest)
 
 -- what is added of them
 joining-within : (names : List DwarfObject) (us : Reads)

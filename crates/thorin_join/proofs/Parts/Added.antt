@@ -329,11 +329,9 @@ module _ (source : Source) where
       (if same_kind s.kind StrOffsets then named_by_section source s.bytes else [])
       (offsets_used s) next.1
       × (bytes_of_contents next.0 ≤ bytes_of_contents before.0 + part_bytes s)
-  step-brings before s next (inl (o, w)) =
-      let b = section-brings s.bytes before.1 w.written w.rewrites in
-      rw (w.is, o) (b.0, omega (arith, sum_by_push long before.0 (StrOffsets, w.written.0)))
-  step-brings before s next (inr plain) =
-      grind (arith, take-length before.1, sum_by_push long before.0)
+  step-brings before s next adds =
+      let brings = section-brings s.bytes before.1 in
+      grind (arith, brings, take-length before.1, sum_by_push long before.0)
 
   pub each-brings : (sections : List Used) (before after : Parts)
       → with_each_part source before sections ≡ Ok after → Bring before sections after
