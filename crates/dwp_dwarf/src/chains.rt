@@ -95,6 +95,7 @@ impl Chains {
     /// How many bytes of the section are left behind the declaration of a code that the table at an
     /// offset of it has. None where that isn't remembered, and where the table doesn't have the
     /// code.
+    #[tactic(auto, using(crate::proofs::Places::end_is))]
     pub(crate) fn left_behind<R: Reader>(
         &mut self,
         section: R,
@@ -141,6 +142,7 @@ impl Chains {
 
     /// The place of the declaration of a code that the table at an offset of the section has, where
     /// its attributes are listed or may be. None where the table isn't remembered.
+    #[tactic(auto, using(crate::proofs::Places::first_is))]
     pub(crate) fn first_of<R: Reader>(&self, section: R, offset: u64, code: u64) -> Option<u64>
         ensures { IfSome result (λ first. RemembersChains (R.input section) self.now
             → FirstAt (R.input section) offset code first) }
