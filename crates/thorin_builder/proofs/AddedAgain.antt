@@ -46,11 +46,11 @@ again-later bytes again (Some made) (Some now) h alone = record {
 }
 
 -- a package that was just begun, or one that stays
-pub begun-extends : (p : Option InProgressDwarfPackage) (now : Option InProgress)
+pub begun_extends : (p : Option InProgressDwarfPackage) (now : Option InProgress)
     → (is_some p ≡ false) ⊎ (now ≡ begun_of p) → ExtendsBegun (begun_of p) now
-begun-extends None now h = tt
-begun-extends (Some made) now (inl none) = absurd (true≢false none)
-begun-extends (Some made) now (inr same) = rw same (extends-refl (in_progress_of made))
+begun_extends None now h = tt
+begun_extends (Some made) now (inl none) = absurd (true≢false none)
+begun_extends (Some made) now (inr same) = rw same (extends-refl (in_progress_of made))
 
 -- a package that units were joined to
 abbrev own-bytes : DwarfObject × Meaning → DwarfObject × List ℕ
