@@ -2,8 +2,8 @@
 pub use Rattle.std.proofs.Common.{Err, List, None, Ok, Option, Some, [], add-one, ap, append-nil}
 pub use Rattle.std.proofs.Common.{append_assoc, arith, codes, drop, eqb, get_or, length}
 pub use Rattle.std.proofs.Common.{length-append, length-drop, length-take, refl, rules, suc, sym}
-pub use Rattle.std.proofs.Common.{take, take-add, take-take, take_all, zero, ℕ, ◌*◌, ◌++◌, ◌+◌, ◌-◌}
-pub use Rattle.std.proofs.Common.{◌<◌, ◌^◌, ◌∙◌, ◌∷◌, ◌≡◌, ◌≤◌}
+pub use Rattle.std.proofs.Common.{take, take-take, take_all, zero, ℕ, ◌*◌, ◌++◌, ◌+◌, ◌-◌, ◌<◌, ◌^◌}
+pub use Rattle.std.proofs.Common.{◌∙◌, ◌∷◌, ◌≡◌, ◌≤◌}
 pub use Rattle.std.proofs.lemmas.Bool.{cases_eq, eq-eqb, eqb-false}
 pub use Rattle.std.proofs.lemmas.Grind.{elements}
 pub use Rattle.std.proofs.lemmas.List.{flat_map_more, take_rest, with_items_is}
@@ -25,7 +25,7 @@ pub use Rattle.dwp_strings.specs.Ends.{IsFirstZero}
 pub use Rattle.dwp_strings.specs.Strings.{IsPlaced, IsZeroFree}
 pub use Rattle.thorin_errors.specs.Errors.{ErrorValue, NumberTooLarge}
 pub use Rattle.thorin_strings.specs.Known.{AreKnown, IsKnown}
-unfoldable pub use Rattle.thorin_strings.specs.Known.{offset_read}
+unfoldable pub use Rattle.thorin_strings.specs.Known.{fitting_read, offset_read}
 pub use Rattle.thorin_strings.specs.StringOffsets.{entry_bytes, offset_limit, string_read}
 unfoldable pub use Rattle.thorin_strings.specs.StringOffsets.{entry_at, fitting_offset, header_of}
 unfoldable pub use Rattle.thorin_strings.specs.StringOffsets.{named_at, offset_at, remapped}

@@ -31,7 +31,7 @@ pub struct Repeats {
     alloc: Global,
     pairs: Vec<(u64, u64)>,
     links: Vec<usize>,
-    cells: Vec<u32>,
+    pub(crate) cells: Vec<u32>,
 }
 
 impl Model for Repeats {
@@ -49,10 +49,7 @@ fn walk(links: &[usize], pairs: &[(u64, u64)], offset: u64) -> Result<u64, usize
     let mut at = offset as usize % TREES;
     let mut rest = offset / TREES as u64;
     for _ in 0..u64::BITS {
-        let number = match links.get(at) {
-            Some(number) => *number,
-            None => FREE,
-        };
+        let number = links.get(at).copied().unwrap_or(FREE);
         let Some(pair) = pairs.get(number.wrapping_sub(1)) else {
             break;
         };
@@ -75,21 +72,7 @@ fn look(cells: &[u32], pairs: &[(u64, u64)], offset: u64) -> Option<u64>
 {
     let number = *cells.get(offset as usize / CELL)?;
     let pair = pairs.get((number as usize).wrapping_sub(1))?;
-    if pair.0 != offset {
-        return None;
-    }
-    Some(pair.1)
-}
-
-/// Leads the cell of an offset to a pair; false where there is none or it is taken.
-fn lead_cell(cells: &mut [u32], offset: u64, number: usize) -> bool {
-    match cells.get_mut(offset as usize / CELL) {
-        Some(cell) if *cell == 0 && number < u32::MAX as usize => {
-            *cell = number as u32;
-            true
-        }
-        _ => false,
-    }
+    (pair.0 == offset).then_some(pair.1)
 }
 
 /// Makes the first links of the trees, where there are none.
@@ -133,12 +116,6 @@ impl Repeats {
         repeats
     }
 
-    /// Whether short strings are remembered too.
-    #[inline(always)]
-    pub(crate) fn has_cells(&self) -> bool {
-        !self.cells.is_empty()
-    }
-
     /// The offset in the table of the string at an offset, where that is remembered.
     pub(crate) fn find(&self, offset: u64) -> Option<u64>
         ensures { (section : List ℕ) (strings : List (List ℕ)) → AreKnown section strings self.now
@@ -175,9 +152,11 @@ impl Repeats {
     {
         let number = self.pairs.len() + 1;
         if !is_long {
-            if lead_cell(&mut self.cells, offset, number) {
-                self.pairs.push((offset, known))?;
+            match self.cells.get_mut(offset as usize / CELL) {
+                Some(cell) if *cell == 0 && number < u32::MAX as usize => *cell = number as u32,
+                _ => return Ok(()),
             }
+            self.pairs.push((offset, known))?;
             return Ok(());
         }
         plant(self.alloc, &mut self.links)?;
