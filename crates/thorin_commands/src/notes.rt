@@ -7,6 +7,7 @@ ghost use Rattle.thorin_commands.specs.Opened.{unit_count};
 ghost use Rattle.thorin_commands.specs.Warned.{TellsNamed};
 
 use crate::packing::{Packing, path_of};
+use crate::reading::Inputs;
 use crate::telling::{ReportOptions, unit_line};
 use dwp_bytes::RelocationEntry;
 use dwp_table::{DebugTypeSignature, DwarfObject, DwoId};
@@ -55,7 +56,7 @@ pub(crate) struct Notes {
     /// The path of the input.
     own: Cell<Option<String>>,
     /// The object that the input names and that was read last, unless it was taken.
-    pub(crate) named: Cell<Option<NamedObject>>,
+    named: Cell<Option<NamedObject>>,
     absent: Cell<AbsentUnits>,
     /// What is left compressed of the file that was read last.
     pub(crate) compression: Cell<Compression>,
@@ -80,8 +81,8 @@ struct Differing {
 
 /// An object that an executable names.
 #[derive(Drop)]
-pub(crate) struct NamedObject {
-    pub(crate) path: String,
+struct NamedObject {
+    path: String,
     /// Why it couldn't be read, if it couldn't.
     unread: Option<String>,
 }
@@ -154,6 +155,15 @@ impl Notes {
         });
     }
 
+    /// The path of the object that the input names and that was read last; none where none was, and
+    /// where it was taken. Asked for once.
+    pub(crate) fn last_named(&self) -> Option<String> {
+        match self.named.replace(None) {
+            Some(NamedObject { path, .. }) => Some(path),
+            None => None,
+        }
+    }
+
     /// Keeps the object of a unit that an executable names, once it was taken or passed over, and
     /// the unit where it isn't there.
     pub(crate) fn after_unit(&self, unit: DwarfObject, is_there: bool, now: Holding<'_>) {
@@ -167,17 +177,22 @@ impl Notes {
         }
         match unit {
             DwarfObject::Compilation(unit) if !is_there => {
-                let (path, unread) = match object {
-                    Some(NamedObject { path, unread }) => (Some(path), unread),
-                    None => (None, None),
-                };
-                let mut absent = self.absent_units();
-                let _ = absent.add(unit.0, executable.as_str(), path, unread);
-                self.absent.set(absent);
+                self.keep_absent(unit, executable.as_str(), object);
             }
             _ => {}
         }
         self.own.set(Some(executable));
+    }
+
+    /// Keeps a unit that isn't there once its object was taken, or passed over.
+    fn keep_absent(&self, unit: DwoId, executable: &str, object: Option<NamedObject>) {
+        let (path, unread) = match object {
+            Some(NamedObject { path, unread }) => (Some(path), unread),
+            None => (None, None),
+        };
+        let mut absent = self.absent_units();
+        let _ = absent.add(unit.0, executable, path, unread);
+        self.absent.set(absent);
     }
 
     /// The units that executables name and that weren't there once their objects were taken. Asked
@@ -186,26 +201,9 @@ impl Notes {
         self.absent.replace(AbsentUnits::new(self.alloc))
     }
 
-    /// Keeps what was taken, where it brought a unit, and what the package has now. Where there is
-    /// no memory for it, nothing is kept any more.
+    /// Keeps what was taken, and what the package has now.
     pub(crate) fn keep_taken(&self, taken: Origin<'_>, now: Holding<'_>) {
-        if let Some(mut origins) = self.origins.replace(None) {
-            let before = match origins.last() {
-                Some((before, _)) => *before,
-                None => 0,
-            };
-            let is_kept = if now.units > before {
-                match printed_origin(self.alloc, taken) {
-                    Ok(place) => origins.push((now.units, place)).is_ok(),
-                    Err(_) => false,
-                }
-            } else {
-                true
-            };
-            if is_kept {
-                self.origins.set(Some(origins));
-            }
-        }
+        self.keep_origin(taken, now.units);
         if !self.names {
             return;
         }
@@ -219,17 +217,44 @@ impl Notes {
         self.types.set(types);
     }
 
+    /// Keeps what was taken, where it brought a unit, and how many units the package has now. Where
+    /// there is no memory for it, nothing is kept any more.
+    fn keep_origin(&self, origin: Origin<'_>, count: usize) {
+        let Some(mut origins) = self.origins.replace(None) else {
+            return;
+        };
+        let before = match origins.last() {
+            Some((before, _)) => *before,
+            None => 0,
+        };
+        if count > before {
+            let Ok(place) = printed_origin(self.alloc, origin) else {
+                return;
+            };
+            if origins.push((count, place)).is_err() {
+                return;
+            }
+        }
+        self.origins.set(Some(origins));
+    }
+
+    /// What brought the unit at a place among the package's, as it is printed; none where that
+    /// isn't known.
+    pub(crate) fn origin_of(&self, place: usize) -> Option<String> {
+        let mut origin = String::new(self.alloc);
+        self.put_origin("", place, &mut origin).ok()?;
+        if origin.is_empty() {
+            return None;
+        }
+        Some(origin)
+    }
+
     /// Adds words and what brought the unit at a place to a line, where that is known: the first
     /// behind which the package has more units than stand before it. Their numbers grow.
     ///
     /// # Errors
     /// Want of memory.
-    pub(crate) fn put_origin(
-        &self,
-        words: &str,
-        place: usize,
-        line: &mut String,
-    ) -> Result<(), AllocError> {
+    fn put_origin(&self, words: &str, place: usize, line: &mut String) -> Result<(), AllocError> {
         let Some(origins) = self.origins.replace(None) else {
             return Ok(());
         };
@@ -339,8 +364,8 @@ pub(crate) fn place_of_refused<'o, 's: 'o, Sess: Session<RelocationEntry>>(
 /// The lines of all type units that differ, which are printed once the package is written, where
 /// that is asked for.
 #[tactic(auto, using(crate::proofs::Warned::without_names))]
-pub(crate) fn lines_of_differing<'o, 's: 'o, Sess: Session<RelocationEntry>>(
-    notes: &Notes,
+pub(crate) fn lines_of_differing<'o, 's: 'o, Sess: Session<RelocationEntry>, I: Inputs>(
+    inputs: &I,
     builder: &DwarfPackage<'o, 's, Sess>,
     options: ReportOptions,
 ) -> Result<String, AllocError>
@@ -358,7 +383,7 @@ pub(crate) fn lines_of_differing<'o, 's: 'o, Sess: Session<RelocationEntry>>(
         let more = if lines.len() < MOST {
             let unit = DwarfObject::TypeUnit(signature);
             let kept = builder.contained_units().get_index_of(&unit);
-            notes.difference(number, kept)?
+            inputs.notes().difference(number, kept)?
         } else {
             String::new(alloc)
         };

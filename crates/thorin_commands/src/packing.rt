@@ -13,11 +13,11 @@ ghost use Rattle.thorin_commands.specs.Packing.{out_of, Packs};
 ghost use Rattle.thorin_commands.specs.Packing.{AllApart, Fails, IsNoInput, asked, asks};
 ghost use Rattle.thorin_commands.specs.declared.packing.NoPackage.TheVariants.{Command};
 ghost use Rattle.thorin_print.specs.declared.output.Failure.TheVariants.{Memory};
-ghost use Rattle.thorin_commands.specs.Packing.{declines, paths_in, reads};
+ghost use Rattle.thorin_commands.specs.Packing.{declines, manner_of, paths_in, reads};
 ghost use Rattle.thorin_commands.specs.Warned.{PacksTelling, TellsTaken, names, others, path_of};
 
 use crate::making::packed_inputs;
-use crate::reading::InputFiles;
+use crate::reading::{InputFiles, Inputs};
 use crate::telling::{ReportOptions, print_error};
 use dwp_elf::WritableObject;
 use dwp_macros::KeptMacros;
@@ -84,7 +84,10 @@ impl Packing<'_, '_> {
             (None, Some([executable])) => format!(in alloc; "{executable}.dwp"),
             (None, _) => return Err(Failure::BadCommand),
         };
-        Ok(name?)
+        match name {
+            Ok(name) => Ok(name),
+            Err(AllocError) => Err(Failure::Memory),
+        }
     }
 
     /// Whether each type unit that differs is told of with the inputs that brought it and the one
@@ -248,6 +251,27 @@ fn packed<F: FileSystem, E: LineOutput>(
 {
     let list = inputs_of(alloc, packing)?;
     let inputs = InputFiles::new(alloc, files, packing)?;
+    packed_by(alloc, &inputs, packing, list.as_slice(), err)
+}
+
+/// What `packed` gives, by these inputs, of the list of what is asked for.
+#[tactic(auto, using(crate::proofs::Causes::told_for, crate::proofs::Causes::empty_for))]
+fn packed_by<I: Inputs, E: LineOutput>(
+    alloc: Global,
+    inputs: &I,
+    packing: &Packing<'_, '_>,
+    list: &[Input<'_>],
+    err: &mut E,
+) -> Result<(WritableObject, Vec<DebugTypeSignature>, String), NoPackage>
+    requires asked { map asked list.now ≡ asks packing.now }
+    requires opens { I.opens inputs.now ≡ packing.now.opens_archives }
+    requires manner { I.manner inputs.now ≡ manner_of packing.now }
+    requires warns { I.warns_of_macros inputs.now ≡ packing.now.warns_of_macros }
+    ensures ready { IfOk result (λ made. IsReady (I.offer inputs.now) packing.now
+        (E.contents err.old) (E.contents err.new) made.0 made.1.items (string_bytes made.2)) }
+    ensures told { IfErr result (Refuses E.contents E.failed err.new (IsCauseFor
+        (I.offer inputs.now) (I.declines inputs.now) packing.now)) }
+{
     let options = ReportOptions {
         alloc,
         verbose: packing.verbose,
@@ -255,13 +279,13 @@ fn packed<F: FileSystem, E: LineOutput>(
         partial: packing.partial,
         names: packing.tells_differences(),
     };
-    match packed_inputs(&inputs, list.as_slice(), options, err) {
+    match packed_inputs(inputs, list, options, err) {
         Ok((object, differing, named)) => {
             let mut lines = inputs.macro_warnings();
             lines.push_str(named.as_str())?;
             Ok((object, differing, lines))
         }
-        Err(NoPackage::Empty) if packing.lets_empty => packed_unsplit(alloc, &inputs, err),
+        Err(NoPackage::Empty) if packing.lets_empty => packed_unsplit(alloc, inputs, packing, err),
         Err(refusal) => Err(refusal),
     }
 }
@@ -269,25 +293,23 @@ fn packed<F: FileSystem, E: LineOutput>(
 /// The object to be written where nothing is split: an executable is taken as an object too, which
 /// has nothing to be packed.
 #[tactic(auto, using(crate::proofs::Whys::uncounted))]
-fn packed_unsplit<F: FileSystem, E: LineOutput>(
+fn packed_unsplit<I: Inputs, E: LineOutput>(
     alloc: Global,
-    inputs: &InputFiles<'_, F>,
+    inputs: &I,
+    packing: &Packing<'_, '_>,
     err: &mut E,
 ) -> Result<(WritableObject, Vec<DebugTypeSignature>, String), NoPackage>
-    requires allowed { inputs.now.packing.now.lets_empty ≡ true }
-    requires empty { IsCauseFor (reads inputs.now.packing.now (F.offer inputs.now.files.now))
-        (declines inputs.now.packing.now (F.offer inputs.now.files.now)) inputs.now.packing.now
+    requires allowed { packing.now.lets_empty ≡ true }
+    requires opens { I.opens inputs.now ≡ packing.now.opens_archives }
+    requires manner { I.manner inputs.now ≡ manner_of packing.now }
+    requires empty { IsCauseFor (I.offer inputs.now) (I.declines inputs.now) packing.now
         (Unfinished NoOutputObjectCreated) }
-    ensures made { IfOk result (λ made. IsMadeFor
-        (TellsTaken false false inputs.now.packing.now.partial)
-        (reads inputs.now.packing.now (F.offer inputs.now.files.now)) inputs.now.packing.now
-        (E.contents err.old) (E.contents err.new) made.0 made.1.items (string_bytes made.2)) }
+    ensures made { IfOk result (λ made. IsMadeFor (TellsTaken false false packing.now.partial)
+        (I.offer inputs.now) packing.now (E.contents err.old) (E.contents err.new) made.0
+        made.1.items (string_bytes made.2)) }
     ensures told { IfErr result (Refuses E.contents E.failed err.new (IsCauseFor
-        (reads inputs.now.packing.now (F.offer inputs.now.files.now))
-        (declines inputs.now.packing.now (F.offer inputs.now.files.now))
-        inputs.now.packing.now)) }
+        (I.offer inputs.now) (I.declines inputs.now) packing.now)) }
 {
-    let packing = inputs.packing;
     let Some(executable) = paths_in(packing.executables).first() else {
         return Err(NoPackage::Empty);
     };
@@ -328,6 +350,14 @@ pub(crate) fn path_of(input: Input<'_>) -> Option<Path<'_>>
         | Input::Executable(path, _)
         | Input::ExecutableSkippingNameless(path, _) => Some(path),
         Input::Bytes(_) => None,
+    }
+}
+
+/// The path of an input that is an executable.
+pub(crate) fn executable_of(input: Input<'_>) -> Option<Path<'_>> {
+    match input {
+        Input::Executable(path, _) | Input::ExecutableSkippingNameless(path, _) => Some(path),
+        Input::Object(_) | Input::Bytes(_) => None,
     }
 }
 

@@ -1,21 +1,22 @@
-//! The reader of the inputs of `pack`: files are read, decompressed, left with the macros that are
-//! kept, and tested for strings and sections that overlap.
+//! The reader of the inputs of `pack`, as a trait and of files: these are read, decompressed, left
+//! with the macros that are kept, and tested for strings and sections that overlap.
 
-ghost use Rattle.std.specs.Prelude.{◌≡◌, ◌⊎◌, IsTrue, IfOk, IfErr, string_bytes};
+ghost use Rattle.std.specs.Prelude.{◌≡◌, ◌⊎◌, Bool, false, IsTrue, IfOk, IfErr, string_bytes};
 ghost use Rattle.std.specs.Path.{path_bytes};
 ghost use Rattle.thorin_builder.specs.Reading.{OnDeclined, OnFailed};
 ghost use Rattle.thorin_sessions.specs.Sessions.{IsNoWantOfMemory};
 ghost use Rattle.thorin_errors.specs.declared.error.InputError.TheVariants.{Memory};
+ghost use Rattle.thorin_inputs.specs.Macros.{IsKeptOf};
 ghost use Rattle.thorin_inputs.specs.Plain as spec;
 ghost use Rattle.thorin_commands.specs.Naming.{IsUncounted};
 ghost use Rattle.thorin_commands.specs.Packing.{IsAmong, declines, manner_of, paths_in};
 ghost use Rattle.thorin_commands.specs.Packing.{read_through, reads};
-ghost use Rattle.thorin_commands.specs.Taken.{DeclinesBytes, IsPlainFor};
-ghost use Rattle.thorin_commands.specs.Taken.{IsReadInto, IsTakenFor, MayRepeat};
+ghost use Rattle.thorin_commands.specs.Taken.{DeclinesBytes, DeclinesPlain, IsPlainFor};
+ghost use Rattle.thorin_commands.specs.Taken.{IsReadInto, IsTakenFor, Manner, MayRepeat};
 ghost use Rattle.thorin_commands.specs.Warned.{TellsMacros};
 
 use crate::notes::{Holding, Notes};
-use crate::packing::{Packing, paths_in};
+use crate::packing::{Packing, executable_of, paths_in};
 use dwp_macros::{MacrosError, with_macros};
 use dwp_table::{DebugTypeSignature, DwarfObject};
 use std::alloc::{AllocError, Global};
@@ -30,13 +31,62 @@ use thorin_inputs::{
 use thorin_output::FileSystem;
 use thorin_print::Failure;
 
-/// Files as inputs. It declines those that would make the package larger than its files.
+/// What reads inputs, and tells of them. It declines those that would make the package larger than
+/// its files.
+pub(crate) trait Inputs: InputReader<Refusal = Growth> {
+    /// Begins an input. The objects that it names must be regular files: a read of another may wait
+    /// for ever.
+    fn begin(&self, input: Input<'_>);
+
+    // Whether archives are opened, how inputs are taken, and whether sections of macros are warned
+    // of.
+    ghost opens: { Self → Bool };
+
+    ghost manner: { Self → Manner };
+
+    ghost warns_of_macros: { Self → Bool };
+
+    /// Whether archives are opened.
+    fn opens_archives(&self) -> bool
+        ensures { result ≡ opens self.now };
+
+    /// What is taken for the content of an archive's member, as for a file; none where that is
+    /// taken as it is.
+    ///
+    /// # Errors
+    /// `Memory`; `Declined` as for a file.
+    fn member(&self, content: &[u8]) -> Result<Option<Vec<u8>>, NotTaken<InputError, Growth>>
+        ensures taken { IfOk result (λ taken. IsTakenFor (manner self.now) content.now
+            (spec.or_content content.now taken)) }
+        ensures declined { OnDeclined result (DeclinesBytes (manner self.now) content.now) }
+        ensures memory { OnFailed result (λ e. e ≡ Memory) };
+
+    /// Whether there is a regular file at a path.
+    fn is_regular(&self, path: &str) -> bool;
+
+    /// How many units the file at a path has, which is read for that; none where it is no regular
+    /// file.
+    ///
+    /// # Errors
+    /// `Input` where the read fails, `Memory`.
+    fn unit_count(&self, path: &str) -> Result<Option<usize>, Failure>
+        ensures { IfErr result IsUncounted };
+
+    /// The warnings of sections of macros, where these are asked for. Asked for once.
+    fn macro_warnings(&self) -> String
+        ensures { TellsMacros (warns_of_macros self.now) (string_bytes result) };
+
+    /// What is kept of the inputs for what is told of them.
+    fn notes(&self) -> &Notes;
+}
+
+/// Files as inputs.
 #[derive(Drop)]
 pub(crate) struct InputFiles<'f, F> {
     alloc: Global,
     pub(crate) files: &'f F,
     /// How they are read.
-    pub(crate) packing: &'f Packing<'f, 'f>,
+    packing: &'f Packing<'f, 'f>,
     /// The prefixes that others take the place of, and where the paths stand that the command line
     /// names, if there are any.
     pub(crate) prefixes: Prefixes<'f>,
@@ -45,8 +95,7 @@ pub(crate) struct InputFiles<'f, F> {
     is_executable: Cell<bool>,
     /// What was counted of the files that were read.
     repetitions: Cell<Repetitions>,
-    /// What is kept of the inputs for what is told of them.
-    pub(crate) notes: Notes,
+    notes: Notes,
     ghost maps: { prefixes.words.now ≡ paths_in packing.now.prefix_maps },
 }
 
@@ -78,29 +127,24 @@ impl<'f, F: FileSystem> InputFiles<'f, F> {
         })
     }
 
-    /// Begins an input. The objects that it names must be regular files: a read of another may wait
-    /// for ever.
-    pub(crate) fn begin(&self, input: Input<'_>) {
-        self.notes.begin(input);
-        self.is_executable
-            .set(!matches!(input, Input::Object(_) | Input::Bytes(_)));
-        let mut repetitions = self.repetitions.replace(Repetitions::new(self.alloc));
-        repetitions.begin();
-        self.repetitions.set(repetitions);
-    }
-
     /// Whether the command line names a path.
     fn is_given(&self, path: &str) -> bool
         ensures { IsTrue result → IsAmong (paths_in self.now.packing.now.inputs) path.now
             ⊎ IsAmong (paths_in self.now.packing.now.executables) path.now }
     {
-        let (inputs, executables) = (self.packing.inputs, self.packing.executables);
-        self.places.place_among(paths_in(inputs), path).is_some()
-            || self.places.place_among(paths_in(executables), path).is_some()
+        let inputs = paths_in(self.packing.inputs);
+        if let Some(_place) = self.places.place_among(inputs, path) {
+            return true;
+        }
+        let executables = paths_in(self.packing.executables);
+        if let Some(_place) = self.places.place_among(executables, path) {
+            return true;
+        }
+        false
     }
 
     /// Reads the file of a path that the input has, or that it names.
-    #[tactic(auto, using(crate::proofs::Taken::through_given, crate::proofs::Taken::through_mapped))]
+    #[tactic(auto, using(crate::proofs::Taken::through_none, crate::proofs::Taken::through_given, crate::proofs::Taken::through_mapped))]
     fn read(
         &self,
         is_own: bool,
@@ -112,6 +156,9 @@ impl<'f, F: FileSystem> InputFiles<'f, F> {
             room.new.items result }
         ensures memory { OnFailed result IsNoWantOfMemory }
     {
+        if paths_in(self.packing.prefix_maps).is_empty() {
+            return self.read_at(is_own, path, room);
+        }
         if is_own && self.is_given(path.path_text()) {
             return self.read_at(is_own, path, room);
         }
@@ -144,25 +191,28 @@ impl<'f, F: FileSystem> InputFiles<'f, F> {
             self.notes.keep_named(named, unread);
         }
         read?;
-        if self.packing.allows_overlap {
+        if self.packing.allows_overlap || self.admits_file(is_own, path.path_text(), room.len())? {
             return Ok(());
         }
-        // The input's own file may always be added; an object of an executable may be one that was
-        // read before by another path.
+        Err(NotTaken::Declined(Growth::Repetition))
+    }
+
+    /// Whether a file that was read may be added: the input's own always; an object of an
+    /// executable may be one that was read before by another path.
+    fn admits_file(&self, is_own: bool, path: &str, size: usize) -> Result<bool, AllocError>
+        ensures { IfOk result (λ admits. admits ≡ false → is_own ≡ false) }
+    {
         let mut repetitions = self.repetitions.replace(Repetitions::new(self.alloc));
         let admits = if is_own {
-            match repetitions.count_own(self.files.identity(path.path_text()), room.len()) {
+            match repetitions.count_own(self.files.identity(path), size) {
                 Ok(()) => Ok(true),
                 Err(e) => Err(e),
             }
         } else {
-            repetitions.admits_object(self.files.object_identity(path.path_text()), room.len())
+            repetitions.admits_object(self.files.object_identity(path), size)
         };
         self.repetitions.set(repetitions);
-        if admits? {
-            return Ok(());
-        }
-        Err(NotTaken::Declined(Growth::Repetition))
+        admits
     }
 
     /// The bytes of an input with plain sections, where that is asked for; none where they stay as
@@ -207,72 +257,46 @@ impl<'f, F: FileSystem> InputFiles<'f, F> {
         }
     }
 
-    /// What is taken for the content of a file, of an archive's member or of an object that is named
-    /// by a path; none where that is taken as it is.
+    /// Tests whether the strings of plain bytes overlap, where that isn't allowed. An executable
+    /// has none that are packed.
     ///
     /// # Errors
-    /// `Memory`; `Declined` where sections or strings overlap, or no file has what would be taken.
-    #[tactic(auto, unfolding(thorin_inputs::specs::Macros::IsKeptOf))]
-    pub(crate) fn taken(
+    /// `Memory`; `Declined` where they do.
+    fn test_strings(
         &self,
         is_executable: bool,
-        content: &[u8],
-        named: &str,
-        is_member: bool,
-    ) -> Result<Option<Vec<u8>>, NotTaken<InputError, Growth>>
-        ensures taken { IfOk result (λ taken. IsTakenFor (manner_of self.now.packing.now)
-            content.now (spec.or_content content.now taken)) }
+        plain: &[u8],
+    ) -> Result<(), NotTaken<InputError, Growth>>
         ensures declined { OnDeclined result
-            (DeclinesBytes (manner_of self.now.packing.now) content.now) }
+            (DeclinesPlain (manner_of self.now.packing.now) plain.now) }
         ensures memory { OnFailed result (λ e. e ≡ Memory) }
     {
-        let plain = self.plain(is_executable, content)?;
-        let bytes = or_content(content, &plain);
-        // An executable has no strings that are packed.
-        if !self.packing.allows_overlap && !is_executable && has_inner_strings(self.alloc, bytes)? {
-            return Err(NotTaken::Declined(Growth::Strings));
+        if self.packing.allows_overlap || is_executable {
+            return Ok(());
         }
-        self.notes.inspect(bytes, named, is_member)?;
-        match with_macros(self.alloc, bytes, self.packing.macros) {
-            Ok(Some(kept)) => Ok(Some(kept)),
-            Ok(None) => Ok(plain),
-            Err(MacrosError::Memory) => Err(NotTaken::Failed(InputError::Memory)),
-            Err(MacrosError::Unrepresentable) => Err(NotTaken::Declined(Growth::Macros)),
+        match has_inner_strings(self.alloc, plain) {
+            Ok(false) => Ok(()),
+            Ok(true) => Err(NotTaken::Declined(Growth::Strings)),
+            Err(AllocError) => Err(NotTaken::Failed(InputError::Memory)),
         }
     }
 
-    /// How many units the file at a path has, which is read for that; none where it is no regular
-    /// file.
+    /// Plain bytes with the macros that are kept alone; none where they stay as they are.
     ///
     /// # Errors
-    /// `Input` where the read fails, `Memory`.
-    pub(crate) fn unit_count(&self, path: &str) -> Result<Option<usize>, Failure>
-        ensures { IfErr result IsUncounted }
+    /// `Memory`; `Declined` where the others can't be left out.
+    #[tactic(auto, unfolding(thorin_inputs::specs::Macros::IsKeptOf))]
+    fn kept(&self, plain: &[u8]) -> Result<Option<Vec<u8>>, NotTaken<InputError, Growth>>
+        ensures kept { IfOk result (λ kept. IsKeptOf self.now.packing.now.macros plain.now
+            (spec.or_content plain.now kept)) }
+        ensures declined { OnDeclined result
+            (DeclinesPlain (manner_of self.now.packing.now) plain.now) }
+        ensures memory { OnFailed result (λ e. e ≡ Memory) }
     {
-        if !self.files.is_regular(path) {
-            return Ok(None);
-        }
-        let mut room = Vec::new(self.alloc);
-        match self.files.read_over(Path::new(path), &mut room) {
-            Ok(()) => {}
-            Err(InputError::Io(_)) => return Err(Failure::Input),
-            Err(InputError::Memory) => return Err(Failure::Memory),
-        }
-        if self.packing.decompresses {
-            decompress(self.alloc, &mut room, self.packing.allows_overlap)?;
-        }
-        Ok(count_units(room.as_slice()))
-    }
-
-    /// The warnings of sections of macros, where these are asked for. Asked for once.
-    #[tactic(auto, using(crate::proofs::Warned::no_macros))]
-    pub(crate) fn macro_warnings(&self) -> String
-        ensures { TellsMacros self.now.packing.now.warns_of_macros (string_bytes result) }
-    {
-        if self.packing.warns_of_macros {
-            self.notes.macros.take()
-        } else {
-            String::new(self.alloc)
+        match with_macros(self.alloc, plain, self.packing.macros) {
+            Ok(kept) => Ok(kept),
+            Err(MacrosError::Memory) => Err(NotTaken::Failed(InputError::Memory)),
+            Err(MacrosError::Unrepresentable) => Err(NotTaken::Declined(Growth::Macros)),
         }
     }
 }
@@ -292,10 +316,13 @@ impl<F: FileSystem> InputReader for InputFiles<'_, F> {
     ) -> Result<&'b [u8], NotTaken<InputError, Growth>> {
         let is_executable = is_own && self.is_executable.get();
         self.read(is_own, path, room)?;
+        let plain = self.plain(is_executable, room)?;
+        put_over(room, plain);
+        self.test_strings(is_executable, room)?;
         let named = if is_own { "" } else { path.path_text() };
-        if let Some(taken) = self.taken(is_executable, room, named, false)? {
-            *room = taken;
-        }
+        self.notes.inspect(room, named, false)?;
+        let kept = self.kept(room)?;
+        put_over(room, kept);
         Ok(room.as_slice())
     }
 
@@ -327,6 +354,79 @@ impl<F: FileSystem> InputReader for InputFiles<'_, F> {
             differing,
         };
         self.notes.after_unit(unit, is_there, now);
+    }
+}
+
+impl<F: FileSystem> Inputs for InputFiles<'_, F> {
+    ghost opens = { λ inputs. inputs.packing.now.opens_archives };
+
+    ghost manner = { λ inputs. manner_of inputs.packing.now };
+
+    ghost warns_of_macros = { λ inputs. inputs.packing.now.warns_of_macros };
+
+    fn opens_archives(&self) -> bool {
+        self.packing.opens_archives
+    }
+
+    fn member(&self, content: &[u8]) -> Result<Option<Vec<u8>>, NotTaken<InputError, Growth>> {
+        let plain = self.plain(false, content)?;
+        let bytes = or_content(content, &plain);
+        self.test_strings(false, bytes)?;
+        self.notes.inspect(bytes, "", true)?;
+        match self.kept(bytes)? {
+            Some(kept) => Ok(Some(kept)),
+            None => Ok(plain),
+        }
+    }
+
+    fn begin(&self, input: Input<'_>) {
+        self.notes.begin(input);
+        self.is_executable.set(executable_of(input).is_some());
+        let mut repetitions = self.repetitions.replace(Repetitions::new(self.alloc));
+        repetitions.begin();
+        self.repetitions.set(repetitions);
+    }
+
+    fn is_regular(&self, path: &str) -> bool {
+        self.files.is_regular(path)
+    }
+
+    fn unit_count(&self, path: &str) -> Result<Option<usize>, Failure> {
+        if !self.files.is_regular(path) {
+            return Ok(None);
+        }
+        let mut room = Vec::new(self.alloc);
+        match self.files.read_over(Path::new(path), &mut room) {
+            Ok(()) => {}
+            Err(InputError::Io(_)) => return Err(Failure::Input),
+            Err(InputError::Memory) => return Err(Failure::Memory),
+        }
+        if self.packing.decompresses {
+            decompress(self.alloc, &mut room, self.packing.allows_overlap)?;
+        }
+        Ok(count_units(room.as_slice()))
+    }
+
+    #[tactic(auto, using(crate::proofs::Warned::no_macros))]
+    fn macro_warnings(&self) -> String {
+        if self.packing.warns_of_macros {
+            self.notes.macros.take()
+        } else {
+            String::new(self.alloc)
+        }
+    }
+
+    fn notes(&self) -> &Notes {
+        &self.notes
+    }
+}
+
+/// Puts what is taken in place of a file, where it doesn't stay as it is.
+pub(crate) fn put_over(room: &mut Vec<u8>, taken: Option<Vec<u8>>)
+    ensures { room.new.items ≡ spec.or_content room.old.items taken }
+{
+    if let Some(taken) = taken {
+        *room = taken;
     }
 }
 

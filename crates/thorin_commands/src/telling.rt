@@ -12,20 +12,19 @@ ghost use Rattle.thorin_commands.specs.Warned.{TellUnsplitBy, TellsAdded, TellsU
 ghost use Rattle.thorin_commands.specs.Warned.{path_of, unit_line};
 
 use crate::making::Attempt;
-use crate::notes::{Notes, unit_count};
-use crate::packing::path_of;
-use crate::reading::InputFiles;
+use crate::notes::unit_count;
+use crate::packing::{executable_of, path_of};
+use crate::reading::Inputs;
 use dwp_bytes::RelocationEntry;
 use std::alloc::{AllocError, Global};
 use std::io::Write;
 use std::path::{AsPath, Path};
-use thorin::{DwarfPackage, Input, InputReader, NotTaken};
+use thorin::{DwarfPackage, Input, NotTaken};
 use thorin_errors::Error;
 use thorin_inputs::{
     Growth, Lack, count_units, has_types_alone, note_absent, note_alone, note_before, note_reason,
     note_refused, note_twice_in, place_of, reason,
 };
-use thorin_output::FileSystem;
 use thorin_print::{Failure, LineOutput, shown, tell_taken};
 use thorin_sessions::Session;
 use thorin_words::printed;
@@ -52,8 +51,8 @@ pub(crate) struct ReportOptions {
 /// how many the package has now. Of an object that is a regular file it tells how many units it
 /// has.
 #[tactic(auto, using(crate::proofs::Warned::not_verbose, crate::proofs::Warned::pathless, crate::proofs::Warned::added_told))]
-pub(crate) fn tell_added<F: FileSystem, E: LineOutput>(
-    files: &F,
+pub(crate) fn tell_added<I: Inputs, E: LineOutput>(
+    inputs: &I,
     attempt: Attempt<'_>,
     units: usize,
     options: ReportOptions,
@@ -71,7 +70,7 @@ pub(crate) fn tell_added<F: FileSystem, E: LineOutput>(
     };
     let name = path.path_text();
     let all = match attempt.input {
-        Input::Object(_) if files.is_regular(name) => count_units(attempt.room),
+        Input::Object(_) if inputs.is_regular(name) => count_units(attempt.room),
         _ => None,
     };
     let added = units.saturating_sub(attempt.before);
@@ -80,12 +79,12 @@ pub(crate) fn tell_added<F: FileSystem, E: LineOutput>(
 
 /// Why an input that was taken added no unit, if it added none, by the bytes that were read. Of
 /// what is no regular file it isn't told that type units were passed over.
-pub(crate) fn lack_of<F: FileSystem>(files: &F, input: Input<'_>, room: &[u8], added: usize) -> Lack
+pub(crate) fn lack_of<I: Inputs>(inputs: &I, input: Input<'_>, room: &[u8], added: usize) -> Lack
     ensures { result ≡ Types → added ≡ 0 }
 {
     match input {
         Input::Object(path) if added == 0 => {
-            if has_types_alone(room) && files.is_regular(path.path_text()) {
+            if has_types_alone(room) && inputs.is_regular(path.path_text()) {
                 Lack::Types
             } else {
                 Lack::of(room, false)
@@ -95,18 +94,25 @@ pub(crate) fn lack_of<F: FileSystem>(files: &F, input: Input<'_>, room: &[u8], a
     }
 }
 
+/// Why a regular file that was taken for an executable added no unit: it is read again for that.
+fn lack_at<I: Inputs>(alloc: Global, inputs: &I, input: Input<'_>, path: Path<'_>) -> Lack {
+    if !inputs.is_regular(path.path_text()) {
+        return Lack::Unknown;
+    }
+    let mut room = Vec::new(alloc);
+    inputs.begin(input);
+    match inputs.read_into(true, path, &mut room) {
+        Ok(bytes) => Lack::of(bytes, true),
+        Err(_) => Lack::Unknown,
+    }
+}
+
 /// Warns of each object whose type units were passed over. Where the package has no units and
 /// nothing is missing, of each other input too: none of them has split units. Where something is
 /// missing, of objects alone: some executable has split units.
 #[tactic(auto, using(crate::proofs::Warned::unsplit_unasked))]
-pub(crate) fn warn_unsplit<
-    'o,
-    's: 'o,
-    Sess: Session<RelocationEntry>,
-    F: FileSystem,
-    E: LineOutput,
->(
-    inputs: &InputFiles<'_, F>,
+pub(crate) fn warn_unsplit<'o, 's: 'o, Sess: Session<RelocationEntry>, I: Inputs, E: LineOutput>(
+    inputs: &I,
     builder: &DwarfPackage<'o, 's, Sess>,
     list: &[Input<'_>],
     lacks: &[Lack],
@@ -134,9 +140,9 @@ pub(crate) fn warn_unsplit<
 /// package has no units of any other too, but of an executable only where no executable has split
 /// units.
 #[tactic(auto, using(crate::proofs::Warned::unsplit_none))]
-fn warn_for<F: FileSystem, E: LineOutput>(
+fn warn_for<I: Inputs, E: LineOutput>(
     alloc: Global,
-    inputs: &InputFiles<'_, F>,
+    inputs: &I,
     input: Input<'_>,
     lack: Lack,
     count: usize,
@@ -150,7 +156,7 @@ fn warn_for<F: FileSystem, E: LineOutput>(
     let Some(path) = path_of(input) else {
         return Ok(());
     };
-    let is_executable = !matches!(input, Input::Object(_));
+    let is_executable = executable_of(input).is_some();
     match lack {
         Lack::Types => {}
         _ if count > 0 => return Ok(()),
@@ -158,18 +164,10 @@ fn warn_for<F: FileSystem, E: LineOutput>(
         _ => {}
     }
     let name = shown(alloc, path.path_text())?;
-    let mut room = Vec::new(alloc);
-    let lack = if !is_executable {
-        lack
-    } else if inputs.files.is_regular(path.path_text()) {
-        // A regular file that was taken for an executable is read again for that.
-        inputs.begin(input);
-        match inputs.read_into(true, path, &mut room) {
-            Ok(bytes) => Lack::of(bytes, true),
-            Err(_) => Lack::Unknown,
-        }
+    let lack = if is_executable {
+        lack_at(alloc, inputs, input, path)
     } else {
-        Lack::Unknown
+        lack
     };
     let why = format!(in alloc; "{lack}")?;
     let line = format!(in alloc; "warning: {name}: no split units{why}\n")?;
@@ -196,9 +194,9 @@ pub(crate) fn unit_line(
 ///
 /// # Errors
 /// `Line` or `Memory`.
-pub(crate) fn tell_refused<E: LineOutput>(
+pub(crate) fn tell_refused<I: Inputs, E: LineOutput>(
     alloc: Global,
-    notes: &Notes,
+    inputs: &I,
     input: Input<'_>,
     why: &NotTaken<Error, Growth>,
     before: Option<usize>,
@@ -207,27 +205,22 @@ pub(crate) fn tell_refused<E: LineOutput>(
     ensures told { OnOk result (Tells E.contents err.new (refusal_text why.now)) }
     ensures blamed { IfErr result (FailsBy (E.failed err.new)) }
 {
-    let object = notes.named.replace(None);
-    let named = match &object {
-        Some(object) => Some(object.path.as_str()),
-        None => None,
-    };
+    let named = inputs.notes().last_named();
     let place = match path_of(input) {
-        Some(path) => place_of(alloc, path.path_text(), named).ok(),
+        Some(path) => place_of(alloc, path.path_text(), named.as_deref()).ok(),
         None => None,
     };
-    tell_why(alloc, notes, why, place.as_deref(), before, err)
+    tell_why(alloc, inputs, why, place.as_deref(), before, err)
 }
 
-/// Prints why an input or a member of one was refused, its error or why it is declined, and a note
-/// on the place.
+/// Prints why an input or a member of one was refused, and a note on the place.
 ///
 /// # Errors
 /// `Line` or `Memory`.
 #[tactic(auto, using(crate::proofs::Lines::followed))]
-pub(crate) fn tell_why<E: LineOutput>(
+pub(crate) fn tell_why<I: Inputs, E: LineOutput>(
     alloc: Global,
-    notes: &Notes,
+    inputs: &I,
     why: &NotTaken<Error, Growth>,
     place: Option<&str>,
     before: Option<usize>,
@@ -236,15 +229,12 @@ pub(crate) fn tell_why<E: LineOutput>(
     ensures told { OnOk result (Tells E.contents err.new (refusal_text why.now)) }
     ensures blamed { IfErr result (FailsBy (E.failed err.new)) }
 {
-    match why {
-        NotTaken::Failed(error) => print_error(alloc, error, err)?,
-        NotTaken::Declined(growth) => put_error(alloc, growth.error(), err)?,
-    }
-    let mut lines = Vec::new(alloc);
+    tell_error(alloc, why, err)?;
+    let mut notes = Vec::new(alloc);
     if let Some(place) = place {
-        note_why(alloc, notes, why, place, before, &mut lines);
+        note_why(alloc, inputs, why, place, before, &mut notes);
     }
-    put_notes(lines.as_slice(), err);
+    put_notes(notes.as_slice(), err);
     Ok(())
 }
 
@@ -257,43 +247,58 @@ pub(crate) fn put_notes<E: LineOutput>(notes: &[u8], err: &mut E)
     }
 }
 
+/// Prints why an input or a member of one was refused: its error, or why it is declined.
+///
+/// # Errors
+/// `Line` or `Memory`.
+fn tell_error<E: LineOutput>(
+    alloc: Global,
+    why: &NotTaken<Error, Growth>,
+    err: &mut E,
+) -> Result<(), Failure>
+    ensures told { OnOk result (Tells E.contents err.new (refusal_text why.now)) }
+    ensures blamed { IfErr result (FailsBy (E.failed err.new)) }
+{
+    match why {
+        NotTaken::Failed(error) => print_error(alloc, error, err),
+        NotTaken::Declined(growth) => put_error(alloc, growth.error(), err),
+    }
+}
+
 /// Prints the note on what was refused, an input, an object that it names or a member of it:
 /// `before` is where among the package's units the one stands that it has too.
-fn note_why(
+fn note_why<I: Inputs>(
     alloc: Global,
-    notes: &Notes,
+    inputs: &I,
     why: &NotTaken<Error, Growth>,
     place: &str,
     before: Option<usize>,
-    lines: &mut Vec<u8>,
+    notes: &mut Vec<u8>,
 ) {
     match why {
-        NotTaken::Declined(growth) => note_reason(place, growth.note(), lines),
+        NotTaken::Declined(growth) => note_reason(place, growth.note(), notes),
         NotTaken::Failed(Error::ReadInput(cause)) => match reason(alloc, cause) {
-            Ok(reason) => note_reason(place, reason.as_str(), lines),
-            Err(_) => note_alone(place, lines),
+            Ok(reason) => note_reason(place, reason.as_str(), notes),
+            Err(_) => note_alone(place, notes),
         },
-        NotTaken::Failed(Error::MixedInputEncodings) => note_encodings(notes, Some(place), lines),
+        NotTaken::Failed(Error::MixedInputEncodings) => note_encodings(inputs, Some(place), notes),
         NotTaken::Failed(Error::DuplicateUnit(unit)) => match before {
-            Some(before) => {
-                let mut first = String::new(alloc);
-                match notes.put_origin("", before, &mut first) {
-                    Ok(()) if !first.is_empty() => {
-                        note_before(*unit, place, first.as_str(), lines);
-                    }
-                    _ => note_alone(place, lines),
-                }
-            }
-            None => note_twice_in(*unit, place, lines),
+            Some(before) => match inputs.notes().origin_of(before) {
+                Some(first) => note_before(*unit, place, first.as_str(), notes),
+                None => note_alone(place, notes),
+            },
+            None => note_twice_in(*unit, place, notes),
         },
-        NotTaken::Failed(error) => { note_refused(place, error, notes.compression.get(), lines) },
+        NotTaken::Failed(error) => {
+            note_refused(place, error, inputs.notes().compression.get(), notes)
+        },
     }
 }
 
 /// Prints a note for each encoding of the inputs, with the first input of each; of a place alone
 /// where there are not several.
-fn note_encodings<E: Write>(notes: &Notes, place: Option<&str>, err: &mut E) {
-    match (notes.encodings.notes(), place) {
+fn note_encodings<I: Inputs, E: Write>(inputs: &I, place: Option<&str>, err: &mut E) {
+    match (inputs.notes().encodings.notes(), place) {
         (Ok(Some(lines)), _) => {
             let _ = writeln!(err, "{lines}{ENCODINGS}");
         }
@@ -308,9 +313,9 @@ fn note_encodings<E: Write>(notes: &Notes, place: Option<&str>, err: &mut E) {
 /// # Errors
 /// `Line` or `Memory`.
 #[tactic(auto, using(crate::proofs::Lines::followed))]
-pub(crate) fn tell_unfinished<E: LineOutput>(
+pub(crate) fn tell_unfinished<I: Inputs, E: LineOutput>(
     alloc: Global,
-    notes: &Notes,
+    inputs: &I,
     error: &Error,
     err: &mut E,
 ) -> Result<(), Failure>
@@ -318,18 +323,18 @@ pub(crate) fn tell_unfinished<E: LineOutput>(
     ensures blamed { IfErr result (FailsBy (E.failed err.new)) }
 {
     print_error(alloc, error, err)?;
-    let mut lines = Vec::new(alloc);
+    let mut notes = Vec::new(alloc);
     match error {
         Error::MissingReferencedUnit(unit) => {
-            let absent = notes.absent_units();
+            let absent = inputs.notes().absent_units();
             if let Some(reason) = absent.reason(*unit) {
-                note_absent(reason, absent.others(), &mut lines);
+                note_absent(reason, absent.others(), &mut notes);
             }
         }
-        Error::MixedInputEncodings => note_encodings(notes, None, &mut lines),
+        Error::MixedInputEncodings => note_encodings(inputs, None, &mut notes),
         _ => {}
     }
-    put_notes(lines.as_slice(), err);
+    put_notes(notes.as_slice(), err);
     Ok(())
 }
 

@@ -1,6 +1,5 @@
-use Rattle.std.proofs.Common.{◌≡◌, Ok, rules}
+use Rattle.std.proofs.Common.{◌≡◌, Ok, refl, rules}
 use Rattle.std.proofs.lemmas.Result.{on_ok_weaker}
-use Rattle.thorin_commands.specs.Packing.{declines, reads}
 use Rattle.thorin_commands.proofs.Causes.{archive, bytes_refused, err_by, plain, reason_by}
 use Rattle.thorin_commands.proofs.Causes.{unread_told}
 use Rattle.thorin_commands.proofs.Opened.{took_object, took_archive}
@@ -27,22 +26,22 @@ returns-then-is_archive-clause-told g c = err_by g.E.LineOutput.contents g.E.Lin
 pub returns-else-is_archive-clause-took : goal.returns-else-is_archive-clause-took
 returns-else-is_archive-clause-took g c =
     on_ok_weaker c.settle.result (λ (e : c.take_input-outcome.result ≡ Ok tt).
-    took_object {bytes = c.in-Ok.bytes} c.requires c.in-Ok.ensures.read
-    (search (rules, c.is_archive.ensures, c.if-is_archive))
-    (rw e at c.take_input-outcome.ensures.taken)) c.settle.ensures.took
+    took_object c.requires c.in-Ok.ensures.read
+    (search (rules, c.is_archive.ensures, c.if-is_archive)) (record {
+      bytes = c.in-Ok.bytes;
+      is = refl;
+      took = rw e at c.take_input-outcome.ensures.taken;
+    })) c.settle.ensures.took
 
 pub returns-else-is_archive-clause-told : goal.returns-else-is_archive-clause-told
-returns-else-is_archive-clause-told g c =
-    let packing = c.args.inputs.now.packing.now in
-    let offer = g.F.FileSystem.offer c.args.inputs.now.files.now in
-    err_by g.E.LineOutput.contents g.E.LineOutput.failed
+returns-else-is_archive-clause-told g c = err_by g.E.LineOutput.contents g.E.LineOutput.failed
     c.settle.new.err
     (plain c.requires c.in-Ok.ensures.read
     (search (rules, c.is_archive.ensures, c.if-is_archive)))
     c.settle.result
     (err_by g.E.LineOutput.contents g.E.LineOutput.failed c.settle.new.err
-    (reason_by c.take_input-outcome.result (bytes_refused (reads packing offer)
-    (declines packing offer) c.in-Ok.bytes c.args.builder.now.state
+    (reason_by c.take_input-outcome.result (bytes_refused (g.I.InputReader.offer c.args.inputs.now)
+    (g.I.InputReader.declines c.args.inputs.now) c.in-Ok.bytes c.args.builder.now.state
     c.take_input-outcome.new.builder.state c.take_input-outcome.result
     c.take_input-outcome.ensures.taken c.take_input-outcome.ensures.declined))
     c.settle.result c.settle.ensures.told)

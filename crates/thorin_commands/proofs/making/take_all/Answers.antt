@@ -1,0 +1,36 @@
+use Rattle.std.proofs.lemmas.Result.{err_from_is_err_and}
+use Rattle.std.proofs.Common.{◌≡◌, [], rules}
+use Rattle.std.proofs.lemmas.List.{take_all, take_more}
+use Rattle.thorin.specs.declared.packing.Input.{Input}
+use Rattle.thorin.specs.declared.packing.Input.TheVariants.{Object}
+use Rattle.thorin_commands.proofs.Causes.{refuses_by, stops_at}
+use Rattle.thorin_commands.proofs.Warned.{taking_begins, taking_more}
+use Rattle.thorin_commands.proofs.making.take_all.Goals as goal
+
+abbrev none : Input
+none = Object (record { text = record { ref_ptr = (0, 0); now = [] } })
+
+pub loop-input-init : goal.loop-input-init
+loop-input-init g c =
+    let none : c.new-lacks.result.items ≡ [] = search rules in rw none taking_begins
+
+pub loop-input-preserved : goal.loop-input-preserved
+loop-input-preserved g c = taking_more
+    (take_more c.args.list.now c.loop-input.input-index none c.loop-input-test.true)
+    c.in-Ok.ensures.items
+    (rw (c.saturating_sub-added.ensures, c.unit_count.ensures, c.unit_count-before.ensures) at
+    c.lack_of.ensures)
+    c.loop-input.invariant c.in_ok-take.ensures.took c.in_ok-take.ensures.line
+
+pub returns-clause-took : goal.returns-clause-took
+returns-clause-took g c =
+    rw (take_all c.loop-input.input-index c.args.list.now c.loop-input-test.false) at
+    c.loop-input.invariant
+
+pub returns-in_err-take-clause-told : goal.returns-in_err-take-clause-told
+returns-in_err-take-clause-told g c =
+    let p = err_from_is_err_and c.from_residual.result c.from_residual.ensures.1 in
+    rw (p.1, p.2) (refuses_by g.E.LineOutput.contents g.E.LineOutput.failed c.take.new.err
+    (stops_at c.args.list.now
+    c.loop-input.input-index none c.loop-input-test.true c.loop-input.invariant.took)
+    c.in_err-take.field-0.0 c.in_err-take.ensures.told)
