@@ -90,9 +90,10 @@ pub record DebugData : Type 0 where
   pub debug_info : Input
   pub strings : Strings
 
--- those of an ELF file
-unfoldable pub debug_data : Elf → Result DebugData ErrorValue
-debug_data file = do
+-- those of the bytes of a file
+unfoldable pub debug_data_of : List ℕ → Result DebugData ErrorValue
+debug_data_of bytes = do
+  file ← as_error ParseObjectFile (elf_of bytes)
   debug_abbrev ← loaded_first file Abbrev
   debug_info ← loaded_first file Info
   debug_line_str ← loaded_first file LineStr
@@ -107,9 +108,3 @@ debug_data file = do
       debug_str_offsets = debug_str_offsets;
     };
   })
-
--- those of the bytes of a file
-unfoldable pub debug_data_of : List ℕ → Result DebugData ErrorValue
-debug_data_of bytes = do
-  file ← as_error ParseObjectFile (elf_of bytes)
-  debug_data file

@@ -212,33 +212,6 @@ fn load_first<'a, Sess: Session<RelocationEntry>>(
 }
 
 impl<'a> DebugData<SectionReader<'a>> {
-    /// Those of an ELF file: the first error of a section, in the order in which they are read.
-    #[tactic(auto, unfolding(crate::specs::Sections::debug_data))]
-    fn of_file<Sess: Session<RelocationEntry>>(
-        alloc: Global,
-        session: &'a Sess,
-        file: &ElfFile<'a>,
-    ) -> Result<Self, Error>
-        ensures { Gives (data_of ⟦<SectionReader<'a> as Reader>⟧.input) result
-            (spec.debug_data (elf file.now)) }
-    {
-        let debug_abbrev = load_first(alloc, session, file, DebugSection::Abbrev)?;
-        let debug_info = load_first(alloc, session, file, DebugSection::Info)?;
-        let debug_line_str = load_first(alloc, session, file, DebugSection::LineStr)?;
-        let debug_str = load_first(alloc, session, file, DebugSection::Str)?;
-        let debug_str_offsets = load_first(alloc, session, file, DebugSection::StrOffsets)?;
-        let strings = StringSections {
-            debug_str,
-            debug_line_str,
-            debug_str_offsets,
-        };
-        Ok(DebugData {
-            debug_abbrev,
-            debug_info,
-            strings,
-        })
-    }
-
     /// Those of the bytes of a file.
     ///
     /// # Errors
@@ -255,6 +228,20 @@ impl<'a> DebugData<SectionReader<'a>> {
             (spec.debug_data_of bytes.now) }
     {
         let file = ElfFile::parse(bytes).map_err(Error::ParseObjectFile)?;
-        Self::of_file(alloc, session, &file)
+        let debug_abbrev = load_first(alloc, session, &file, DebugSection::Abbrev)?;
+        let debug_info = load_first(alloc, session, &file, DebugSection::Info)?;
+        let debug_line_str = load_first(alloc, session, &file, DebugSection::LineStr)?;
+        let debug_str = load_first(alloc, session, &file, DebugSection::Str)?;
+        let debug_str_offsets = load_first(alloc, session, &file, DebugSection::StrOffsets)?;
+        let strings = StringSections {
+            debug_str,
+            debug_line_str,
+            debug_str_offsets,
+        };
+        Ok(DebugData {
+            debug_abbrev,
+            debug_info,
+            strings,
+        })
     }
 }
