@@ -119,28 +119,7 @@ fn object_path<R: Reader>(
     Ok(path_in(alloc, directory, name)?)
 }
 
-/// The index that an attribute has as its value.
-#[tactic(auto, unfolding(dwp_dwarf::specs::Strings::string_of))]
-fn string_index<R: Reader>(
-    format: Format,
-    base: u64,
-    attribute: &Attribute<R>,
-) -> Option<StringPlace>
-    ensures { IfSome result (IsStringAt format base (attribute_of R.input attribute.now)) }
-{
-    let mut value = attribute.value;
-    let index = match attribute.form {
-        DW_FORM_STRX | DW_FORM_GNU_STR_INDEX => value.read_uleb128().ok()?,
-        DW_FORM_STRX1 => u64::from(value.read_u8().ok()?),
-        DW_FORM_STRX2 => u64::from(value.read_u16().ok()?),
-        DW_FORM_STRX3 => u64::from(value.read_u24().ok()?),
-        DW_FORM_STRX4 => u64::from(value.read_u32().ok()?),
-        _ => return None,
-    };
-    Some(StringPlace::Indexed(format, base, index))
-}
-
-/// Where the string of an attribute stands.
+/// Where the string of an attribute stands; none where it is in the unit.
 #[tactic(auto, unfolding(dwp_dwarf::specs::Strings::string_of))]
 fn string_place<R: Reader>(
     format: Format,
@@ -150,11 +129,17 @@ fn string_place<R: Reader>(
     ensures { IfSome result (IsStringAt format base (attribute_of R.input attribute.now)) }
 {
     let mut value = attribute.value;
-    match attribute.form {
-        DW_FORM_STRP => Some(StringPlace::Str(value.read_offset(format).ok()?)),
-        DW_FORM_LINE_STRP => Some(StringPlace::LineStr(value.read_offset(format).ok()?)),
-        _ => string_index(format, base, attribute),
-    }
+    let index = match attribute.form {
+        DW_FORM_STRP => return Some(StringPlace::Str(value.read_offset(format).ok()?)),
+        DW_FORM_LINE_STRP => return Some(StringPlace::LineStr(value.read_offset(format).ok()?)),
+        DW_FORM_STRX | DW_FORM_GNU_STR_INDEX => value.read_uleb128().ok()?,
+        DW_FORM_STRX1 => u64::from(value.read_u8().ok()?),
+        DW_FORM_STRX2 => u64::from(value.read_u16().ok()?),
+        DW_FORM_STRX3 => u64::from(value.read_u24().ok()?),
+        DW_FORM_STRX4 => u64::from(value.read_u32().ok()?),
+        _ => return None,
+    };
+    Some(StringPlace::Indexed(format, base, index))
 }
 
 /// Where the strings of the path stand that an attribute of a root entry names; none where one of
