@@ -175,27 +175,9 @@ fn content<'a>(section: &Section<'a>, kind: DebugSection) -> Result<&'a [u8], Er
     section.data().map_err(Error::ObjectRead)
 }
 
-/// A reader of a section; its relocations are placed in the session.
-#[tactic(auto, using(crate::proofs::ByPlace::loaded_is), unfolding(crate::specs::Sections::loaded))]
-fn load<'a, Sess: Session<RelocationEntry>>(
-    alloc: Global,
-    session: &'a Sess,
-    file: &ElfFile<'a>,
-    section: &Section<'a>,
-    kind: DebugSection,
-) -> Result<SectionReader<'a>, Error>
-    requires { file_of section.now ≡ elf file.now }
-    ensures { Gives ⟦<SectionReader<'a> as Reader>⟧.input result
-        (spec.loaded (elf file.now) kind (meaning section.now)) }
-{
-    let bytes = content(section, kind)?;
-    let found = add_relocations(alloc, file, section)?;
-    let relocations = session.alloc_relocation(&found)?;
-    Ok(SectionReader::new(relocations, bytes, file.endianness()))
-}
-
-/// A reader of the section of a kind; of no bytes where there is none.
-#[tactic(auto, unfolding(crate::specs::Sections::loaded_first))]
+/// A reader of the section of a kind, its relocations placed in the session; of no bytes where
+/// there is none.
+#[tactic(auto, using(crate::proofs::ByPlace::loaded_is), unfolding(crate::specs::Sections::loaded, crate::specs::Sections::loaded_first))]
 fn load_first<'a, Sess: Session<RelocationEntry>>(
     alloc: Global,
     session: &'a Sess,
@@ -205,10 +187,13 @@ fn load_first<'a, Sess: Session<RelocationEntry>>(
     ensures { Gives ⟦<SectionReader<'a> as Reader>⟧.input result
         (spec.loaded_first (elf file.now) kind) }
 {
-    match find_section(file, kind) {
-        Some(section) => load(alloc, session, file, &section, kind),
-        None => Ok(SectionReader::new(&[], &[], file.endianness())),
-    }
+    let Some(section) = find_section(file, kind) else {
+        return Ok(SectionReader::new(&[], &[], file.endianness()));
+    };
+    let bytes = content(&section, kind)?;
+    let found = add_relocations(alloc, file, &section)?;
+    let relocations = session.alloc_relocation(&found)?;
+    Ok(SectionReader::new(relocations, bytes, file.endianness()))
 }
 
 impl<'a> DebugData<SectionReader<'a>> {
