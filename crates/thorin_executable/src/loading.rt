@@ -91,28 +91,17 @@ pub(crate) enum DebugSection {
 }
 
 impl DebugSection {
-    fn name(self) -> &'static str
-        ensures { result.now ≡ spec.debug_name_of self }
+    /// Its name, and the older one that it has where its content is compressed.
+    fn names(self) -> (&'static str, &'static str)
+        ensures own { result.0.now ≡ spec.debug_name_of self }
+        ensures older { result.1.now ≡ spec.compressed_debug_name_of self }
     {
         match self {
-            DebugSection::Abbrev => ".debug_abbrev",
-            DebugSection::Info => ".debug_info",
-            DebugSection::LineStr => ".debug_line_str",
-            DebugSection::Str => ".debug_str",
-            DebugSection::StrOffsets => ".debug_str_offsets",
-        }
-    }
-
-    /// The older name of a section whose content is compressed.
-    fn compressed_name(self) -> &'static str
-        ensures { result.now ≡ spec.compressed_debug_name_of self }
-    {
-        match self {
-            DebugSection::Abbrev => ".zdebug_abbrev",
-            DebugSection::Info => ".zdebug_info",
-            DebugSection::LineStr => ".zdebug_line_str",
-            DebugSection::Str => ".zdebug_str",
-            DebugSection::StrOffsets => ".zdebug_str_offsets",
+            DebugSection::Abbrev => (".debug_abbrev", ".zdebug_abbrev"),
+            DebugSection::Info => (".debug_info", ".zdebug_info"),
+            DebugSection::LineStr => (".debug_line_str", ".zdebug_line_str"),
+            DebugSection::Str => (".debug_str", ".zdebug_str"),
+            DebugSection::StrOffsets => (".debug_str_offsets", ".zdebug_str_offsets"),
         }
     }
 }
@@ -157,9 +146,10 @@ fn find_section<'a>(file: &ElfFile<'a>, kind: DebugSection) -> Option<Section<'a
     ensures found { option_map meaning result ≡ spec.section_read kind (elf file.now).sections }
     ensures in_file { IfSome result (λ s. file_of s ≡ elf file.now) }
 {
-    match find_named(file, kind.name()) {
+    let (name, older) = kind.names();
+    match find_named(file, name) {
         Some(section) => Some(section),
-        None => find_named(file, kind.compressed_name()),
+        None => find_named(file, older),
     }
 }
 
@@ -169,7 +159,8 @@ fn find_section<'a>(file: &ElfFile<'a>, kind: DebugSection) -> Option<Section<'a
 fn content<'a>(section: &Section<'a>, kind: DebugSection) -> Result<&'a [u8], Error>
     ensures { Gives (λ bytes. bytes.now) result (spec.debug_content kind (meaning section.now)) }
 {
-    if section.is_compressed() || section.is_called(kind.compressed_name()) {
+    let (_, older) = kind.names();
+    if section.is_compressed() || section.is_called(older) {
         return Err(Error::DecompressData(ReadError::Compressed));
     }
     section.data().map_err(Error::ObjectRead)
