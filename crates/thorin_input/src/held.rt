@@ -5,10 +5,9 @@ ghost use Rattle.std.specs.Map.{lookup};
 ghost use Rattle.thorin_input.specs.Held as spec;
 ghost use Rattle.thorin_input.specs.Names.{same_name};
 
-use dwp_base::SectionKind;
 use dwp_dwarf::UnitSection;
 use dwp_elf::WritableObject;
-use dwp_index::part_of;
+use dwp_index::{kind_of, part_of, place_of};
 use dwp_table::{DebugTypeSignature, DwarfObject};
 use indexmap::{IndexMap, IndexSet};
 use thorin_index::{IndexEntry, IndexRows};
@@ -31,15 +30,8 @@ pub struct Held<'p> {
 fn unit_bytes<'p>(object: &'p WritableObject, row: &IndexEntry) -> &'p [u8]
     ensures { result.now ≡ spec.unit_bytes object.now.contents row.now }
 {
-    match (row.id, row.contribution(SectionKind::Types)) {
-        (DwarfObject::TypeUnit(_), Some(range)) => {
-            part_of(object.content(SectionKind::Types), Some(range))
-        }
-        _ => part_of(
-            object.content(SectionKind::Info),
-            row.contribution(SectionKind::Info),
-        ),
-    }
+    let kind = kind_of(place_of(row.id, row.debug_types));
+    part_of(object.content(kind), row.contribution(kind))
 }
 
 impl<'p> Held<'p> {
