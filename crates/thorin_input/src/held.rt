@@ -25,15 +25,6 @@ pub struct Held<'p> {
     ghost named: { names.now.keys ≡ map (λ row. row.id) rows.now },
 }
 
-/// The bytes of the unit of a row: its range of types, where it is a type unit and has one, else of
-/// info.
-fn unit_bytes<'p>(object: &'p WritableObject, row: &IndexEntry) -> &'p [u8]
-    ensures { result.now ≡ spec.unit_bytes object.now.contents row.now }
-{
-    let kind = kind_of(place_of(row.id, row.debug_types));
-    part_of(object.content(kind), row.contribution(kind))
-}
-
 impl<'p> Held<'p> {
     /// The bytes of the unit of a name; none where the package has no such unit.
     pub fn bytes_of(&self, name: DwarfObject) -> Option<&'p [u8]>
@@ -44,7 +35,9 @@ impl<'p> Held<'p> {
         let Some(position) = self.names.get_index_of(&name) else {
             return None;
         };
-        Some(unit_bytes(self.object, &self.rows.entry(position)))
+        let row = self.rows.entry(position);
+        let kind = kind_of(place_of(row.id, row.debug_types));
+        Some(part_of(self.object.content(kind), row.contribution(kind)))
     }
 }
 

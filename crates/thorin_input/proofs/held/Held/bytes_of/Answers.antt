@@ -39,6 +39,15 @@ returns-in_default c =
 pub returns : goal.returns
 returns c =
     let held = c.args.self.now in
-    ap Some (c.unit_bytes.ensures ∙ ap (unit_bytes held.object.now.contents) c.entry.ensures)
-    ∙ held-at held.object.now.contents held.rows.now _ c.args.name held.named c.entry.result
+    let row = c.entry-row.result in
+    let bytes : c.part_of.result.now ≡ unit_bytes held.object.now.contents row = search (
+      rules,
+      c.part_of.ensures,
+      c.content.ensures,
+      c.contribution.ensures,
+      c.kind_of-kind.ensures,
+      c.place_of.ensures,
+    ) in
+    ap Some (bytes ∙ ap (unit_bytes held.object.now.contents) c.entry-row.ensures)
+    ∙ held-at held.object.now.contents held.rows.now _ c.args.name held.named row
     (Some c.in-Some.position) c.in-Some.ensures.index
