@@ -84,27 +84,6 @@ fn test_once(
     }
 }
 
-/// The name of a unit that was read in a section.
-#[tactic(auto, unfolding(crate::specs::NewUnits::name_for))]
-fn name_for<'a>(
-    source: &Source<'a>,
-    placed: &PlacedRows<'_, '_>,
-    tables: &mut RangeTables<'a>,
-    kind: SectionKind,
-    header: &UnitHeader<SliceReader<'a>>,
-) -> Result<DwarfObject, Error>
-    requires placed { ArePlacedIn (view.source source.now) kind placed.now }
-    requires tables { tables.old ≡ tables_in (view.source source.now).object }
-    ensures meaning { Gives (λ name. name) result (spec.name_for (view.source source.now) kind
-        (unit_of ⟦<SliceReader<'a> as Reader>⟧.input header.now)) }
-    ensures tables { tables.new ≡ tables.old }
-{
-    let (start, end) = abbreviations_for(source, tables.bytes(), placed, kind, header)?;
-    tables
-        .identifier(start, end, header)?
-        .ok_or(Error::NotSplitUnit)
-}
-
 impl<'a> NewUnits<'a> {
     /// The units that an input adds to what is there, or its first error: of a package a second
     /// section of units (`MultipleDebugInfoSection`, `MultipleDebugTypesSection`); unit by unit
@@ -191,7 +170,7 @@ impl<'a> NewUnits<'a> {
     }
 
     /// Adds the unit that was read next.
-    #[tactic(auto, unfolding(crate::specs::NewUnits::with_read))]
+    #[tactic(auto, unfolding(crate::specs::NewUnits::with_read, crate::specs::NewUnits::name_for))]
     fn add_read(
         &mut self,
         adding: &Adding<'_, 'a, '_>,
@@ -212,7 +191,11 @@ impl<'a> NewUnits<'a> {
     {
         let header = read.map_err(Error::ParseUnitHeader)?;
         let alike = self.alike & (header.encoding() == adding.source.encoding);
-        let name = name_for(adding.source, placed, tables, section.kind, &header)?;
+        let bytes = tables.bytes();
+        let (start, end) = abbreviations_for(adding.source, bytes, placed, section.kind, &header)?;
+        let name = tables
+            .identifier(start, end, &header)?
+            .ok_or(Error::NotSplitUnit)?;
         self.add_unit(adding, placed, section, name, &header)?;
         self.alike = alike;
         Ok(())
