@@ -52,17 +52,6 @@ fn place_for(name: DwarfObject, kind: SectionKind) -> UnitSection
     }
 }
 
-/// The kinds of section that units stand in.
-fn unit_section(kind: SectionKind) -> Option<UnitSection>
-    ensures { result ≡ spec.unit_section kind }
-{
-    match kind {
-        SectionKind::Info => Some(UnitSection::Info),
-        SectionKind::Types => Some(UnitSection::Types),
-        _ => None,
-    }
-}
-
 /// `MultipleDebugInfoSection` or `MultipleDebugTypesSection` where a package has a second section
 /// of info or of types.
 #[tactic(auto, unfolding(crate::specs::NewUnits::once_test))]
@@ -114,7 +103,7 @@ impl<'a> NewUnits<'a> {
         Ok(new)
     }
 
-    /// Adds the units of a section.
+    /// Adds the units of a section, where units stand in it.
     #[tactic(auto, unfolding(crate::specs::NewUnits::with_section))]
     fn add_section(
         &mut self,
@@ -131,9 +120,14 @@ impl<'a> NewUnits<'a> {
             ≡ (self.old.alike && section_has adding.now.source.now.encoding
             adding.now.source.now.object.order (view.used section.entry))) }
     {
-        match unit_section(section.kind) {
-            Some(place) => self.add_section_at(alloc, adding, met, section, place),
-            None => Ok(()),
+        match section.kind {
+            SectionKind::Info => {
+                self.add_section_at(alloc, adding, met, section, UnitSection::Info)
+            }
+            SectionKind::Types => {
+                self.add_section_at(alloc, adding, met, section, UnitSection::Types)
+            }
+            _ => Ok(()),
         }
     }
 
