@@ -106,11 +106,7 @@ impl<'a> InputObject<'a> {
         ensures { result ≡ (if encodings.is_plain (object self.now).sections && alike
             then Some encoding else None) }
     {
-        if self.plain && alike {
-            Some(encoding)
-        } else {
-            None
-        }
+        (self.plain & alike).then_some(encoding)
     }
 }
 
