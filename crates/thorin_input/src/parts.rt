@@ -19,7 +19,7 @@ use crate::source::Source;
 use dwp_base::SectionKind;
 use dwp_dwarf::Encoding;
 use dwp_elf::WritableObject;
-use dwp_table::{CONTRIBUTION_KINDS, column_of};
+use dwp_table::column_of;
 use std::alloc::Global;
 use thorin_errors::Error;
 use thorin_package_input::remap_packaged_offsets;
@@ -62,19 +62,15 @@ struct Gathering<'a> {
     repeats: Repeats,
 }
 
-/// Whether units have contributions to a section of this kind.
-fn is_of_units(kind: SectionKind) -> bool
-    ensures { result ≡ formats.is_of_units kind }
-{
-    CONTRIBUTION_KINDS.iter().any(|other| kind.is(*other))
-}
-
-/// Whether packages of an encoding's version have a section of this kind.
+/// Whether packages of an encoding's version have a section of this kind: one that units have
+/// contributions to where an index of that version has a column for it, any other in each version.
 fn is_in_format(encoding: Encoding, kind: SectionKind) -> bool
     ensures { result ≡ formats.is_in_format encoding kind }
 {
-    let version = encoding.dwarf_package_index_version();
-    !is_of_units(kind) || column_of(version, kind).is_some()
+    match kind {
+        SectionKind::Str | SectionKind::CuIndex | SectionKind::TuIndex => true,
+        _ => column_of(encoding.dwarf_package_index_version(), kind).is_some(),
+    }
 }
 
 /// Whether a section goes to the package whole and as it is.
