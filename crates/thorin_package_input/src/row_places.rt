@@ -79,8 +79,5 @@ pub(crate) fn range_of_row(
 ) -> Option<Contribution>
     ensures { result ≡ range_of_row index.now section number }
 {
-    match index.row(number) {
-        Ok(row) => row.range(section),
-        Err(_) => None,
-    }
+    index.row(number).ok()?.range(section)
 }
