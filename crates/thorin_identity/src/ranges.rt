@@ -161,24 +161,9 @@ impl<'a> RangeTables<'a> {
         ensures kept { self.new ≡ self.old }
     {
         match header.unit_type() {
-            UnitType::Compilation => self.by_tables(start, end, header),
-            unit_type => Ok(header_identifier(unit_type)),
+            UnitType::Compilation => {}
+            unit_type => return Ok(header_identifier(unit_type)),
         }
-    }
-
-    /// What `identifier` says of a unit that its root entry names, by the tables of the range.
-    fn by_tables(
-        &mut self,
-        start: usize,
-        end: usize,
-        header: &UnitHeader<SliceReader<'a>>,
-    ) -> Result<Option<DwarfObject>, Error>
-        ensures meaning { Gives (λ name. name) result (identity
-            (section self.old.0 (drop start (take end self.old.1)))
-            (unit_of ⟦<SliceReader<'a> as Reader>⟧.input header.now)) }
-        ensures memory { IfErr result (λ e. e ≢ Error.Memory) }
-        ensures kept { self.new ≡ self.old }
-    {
         let range = Part::within(start, end, self.bytes);
         let begun = if range.is(self.held) {
             self.begun

@@ -1,7 +1,7 @@
 use Rattle.std.proofs.Common.{rules, ◌∙◌, ap}
 use Rattle.dwp_bytes.specs.Input.{section}
 use Rattle.thorin_identity.proofs.Parts.{part_within}
-use Rattle.thorin_identity.proofs.ranges.RangeTables.by_tables.Goals as goal
+use Rattle.thorin_identity.proofs.ranges.RangeTables.identifier.Goals as goal
 
 pub returns-else-is-2-clause-meaning : goal.returns-else-is-2-clause-meaning
 returns-else-is-2-clause-meaning c =
