@@ -10,13 +10,13 @@ use Rattle.dwp_base.specs.declared.endian.Endianness.{Endianness}
 use Rattle.dwp_base.specs.declared.section.SectionKind.{SectionKind}
 use Rattle.dwp_base.specs.declared.section.SectionKind.TheVariants as kinds
 use Rattle.dwp_base.specs.Sections.{name_of, kind_named, all_kinds}
-use Rattle.dwp_elf_read.specs.declared.error.ReadError.TheVariants.{Compressed, SectionRange}
+use Rattle.dwp_elf_read.specs.declared.error.ReadError.TheVariants.{SectionRange}
 use Rattle.dwp_elf_read.specs.Elf.{Elf, SectionMeaning, SHT_NOBITS, has_compressed_flag}
 use Rattle.dwp_elf_read.specs.Elf.{has_name, has_older_name, is_named}
 use Rattle.dwp_elf_read.specs.View.{Placed, placed_sections}
 use Rattle.dwp_index.specs.Contents as contents
 use Rattle.dwp_index.specs.Contents.{is_of_kind}
-use Rattle.thorin_errors.specs.Errors.{ErrorValue, error_of, DecompressData, ObjectRead}
+use Rattle.thorin_errors.specs.Errors.{ErrorValue, error_of, ObjectRead}
 use Rattle.thorin_errors.specs.Answers.{Gives, MemoryAside, as_error}
 use Rattle.thorin_errors.specs.declared.error.Error.{Error}
 use Rattle.thorin_input.specs.Encodings.{is_index, is_plain}
@@ -44,12 +44,6 @@ kind-full s h = rw h (full s.name)
         option_and_then kind_named name
     full None = refl
     full (Some own) = refl
-
-pub bytes-compressed : (kind : SectionKind) (s : SectionMeaning)
-    → (has_compressed_flag s || has_older_name kind s.name) ≡ true
-    → used_bytes kind s ≡ Err (DecompressData Compressed)
-unfolding used_bytes contents.used_bytes
-bytes-compressed kind s h = rw h refl
 
 pub bytes-plain : (kind : SectionKind) (s : SectionMeaning)
     → (has_compressed_flag s || has_older_name kind s.name) ≡ false

@@ -50,6 +50,7 @@ fn used_kind(section: &Section<'_>) -> Option<SectionKind>
 
 /// The content of a section that is used: `DecompressData` where it is compressed, by its flag or
 /// by its name, `ObjectRead` where it is outside the file.
+#[tactic(auto, unfolding(crate::specs::Used::used_bytes, dwp_index::specs::Contents::used_bytes))]
 fn used_bytes<'a>(section: &Section<'a>, kind: SectionKind) -> Result<&'a [u8], Error>
     ensures { Gives (λ bytes. bytes.now) result (spec.used_bytes kind (meaning section.now)) }
 {
