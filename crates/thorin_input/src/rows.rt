@@ -25,7 +25,6 @@ use dwp_dwarf::{Encoding, Reader, SliceReader, UnitHeader, UnitType};
 use dwp_elf::WritableObject;
 use dwp_index::{UnitIndex, lies_inside};
 use dwp_table::{Bucketable, DwarfObject, DwoId};
-use std::alloc::Global;
 use thorin_errors::Error;
 use thorin_index::IndexEntry;
 use thorin_package_input::RowPlaces;
@@ -167,38 +166,13 @@ fn own_contribution<'a>(header: &UnitHeader<SliceReader<'a>>) -> Contribution
     }
 }
 
-/// The rows by place of both indexes of an input, in one of its sections.
+/// The rows by place of both indexes of an input, in a section of a kind.
 #[derive(Drop)]
 pub struct PlacedRows<'i, 'a> {
     /// Those of the compilation index.
     pub compilations: RowPlaces<'i, 'a>,
     /// Those of the type index.
     pub types: RowPlaces<'i, 'a>,
-}
-
-impl<'i, 'a> PlacedRows<'i, 'a> {
-    /// The rows by place in a section of a kind.
-    ///
-    /// # Errors
-    /// `Memory` alone.
-    pub fn new(
-        alloc: Global,
-        indexes: &'i Indexes<'a>,
-        kind: SectionKind,
-    ) -> Result<PlacedRows<'i, 'a>, Error>
-        ensures compilations { IfOk result (λ placed. placed.compilations
-            ≡ record { index = (view.indexes indexes.now).compilations; section = kind }) }
-        ensures types { IfOk result (λ placed.
-            placed.types ≡ record { index = (view.indexes indexes.now).types; section = kind }) }
-        ensures refused { IfErr result (λ e. e ≡ Error.Memory) }
-    {
-        let compilations = RowPlaces::new(alloc, indexes.compilations.as_ref(), kind)?;
-        let types = RowPlaces::new(alloc, indexes.types.as_ref(), kind)?;
-        Ok(PlacedRows {
-            compilations,
-            types,
-        })
-    }
 }
 
 /// The row number that looking a unit up gives, in a package that of the unit's row by place; none

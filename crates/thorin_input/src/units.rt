@@ -21,6 +21,7 @@ use std::alloc::Global;
 use thorin_errors::Error;
 use thorin_identity::RangeTables;
 use thorin_index::share;
+use thorin_package_input::RowPlaces;
 
 /// What the units that an input adds depend on: the input, where the whole of each of its sections
 /// comes to lie, and what the package has.
@@ -155,7 +156,13 @@ impl<'a> NewUnits<'a> {
             UnitSection::Info => met.info = true,
             UnitSection::Types => met.types = true,
         }
-        let placed = PlacedRows::new(alloc, &adding.source.indexes, section.kind)?;
+        let indexes = &adding.source.indexes;
+        let compilations = RowPlaces::new(alloc, indexes.compilations.as_ref(), section.kind)?;
+        let types = RowPlaces::new(alloc, indexes.types.as_ref(), section.kind)?;
+        let placed = PlacedRows {
+            compilations,
+            types,
+        };
         let reader = SliceReader::new(section.bytes, adding.source.object.order);
         for read in UnitHeaders::new(reader, place) {
             self.add_read(adding, &placed, &mut met.tables, section, read)?;
