@@ -145,40 +145,9 @@ fn rewritten_section(
     }
 }
 
-/// Adds a section of string offsets, rewritten. An `Err` may leave strings behind those before.
-#[tactic(auto, unfolding(crate::specs::Parts::with_offsets))]
-fn add_offsets<'a>(
-    alloc: Global,
-    gathering: &mut Gathering<'a>,
-    source: &Source<'a>,
-    named: &[u8],
-    bytes: &[u8],
-    strings: &mut PackageStringTable,
-) -> Result<(), Error>
-    requires named { named.now ≡ first Str (view.source source.now).object.sections }
-    requires known { AreKnown named.now strings.old gathering.old.repeats }
-    ensures meaning { Gives (λ _. (map view.part gathering.new.parts.items, strings.new)) result
-        (spec.with_offsets (view.source source.now) (
-          map view.part gathering.old.parts.items,
-          strings.old,
-        ) bytes.now) }
-    ensures kept { take (length strings.old) strings.new ≡ strings.old }
-    ensures known { AreKnown named.now strings.new gathering.new.repeats }
-{
-    if !source.object.has_strings {
-        return Err(Error::MissingRequiredSection(SectionKind::Str.name()));
-    }
-    let written = rewritten_section(alloc, source, named, bytes, strings, &mut gathering.repeats)?;
-    gathering.parts.push(Part {
-        kind: SectionKind::StrOffsets,
-        bytes: PartBytes::Rewritten(written),
-    })?;
-    Ok(())
-}
-
 /// Adds what a section adds: `RepeatedSection`, `SectionOutsideFormat`, `MissingRequiredSection`,
-/// and the errors of string offsets.
-#[tactic(auto, unfolding(crate::specs::Parts::with_part))]
+/// and the errors of string offsets. An `Err` may leave strings behind those before.
+#[tactic(auto, unfolding(crate::specs::Parts::with_part, crate::specs::Parts::with_offsets))]
 fn add_part<'a>(
     alloc: Global,
     gathering: &mut Gathering<'a>,
@@ -204,7 +173,16 @@ fn add_part<'a>(
         return Err(Error::SectionOutsideFormat(section.kind.name()));
     }
     if section.kind.is(SectionKind::StrOffsets) {
-        return add_offsets(alloc, gathering, source, named, section.bytes, strings);
+        if !source.object.has_strings {
+            return Err(Error::MissingRequiredSection(SectionKind::Str.name()));
+        }
+        let repeats = &mut gathering.repeats;
+        let written = rewritten_section(alloc, source, named, section.bytes, strings, repeats)?;
+        gathering.parts.push(Part {
+            kind: SectionKind::StrOffsets,
+            bytes: PartBytes::Rewritten(written),
+        })?;
+        return Ok(());
     }
     if is_copied(section.kind) {
         gathering.parts.push(Part {
