@@ -1,7 +1,7 @@
 //! The paths of split objects. The path that came last is kept with where its strings stand: many
 //! units may name one path.
 
-ghost use Rattle.std.specs.Prelude.{◌≡◌, option_map, string_bytes, IsTrue, IfOk, IfSome, OnErr};
+ghost use Rattle.std.specs.Prelude.{◌≡◌, string_bytes, IsTrue, IfOk, IfSome, OnErr};
 ghost use Rattle.dwp_dwarf.specs.Attributes.{attribute_of};
 ghost use Rattle.dwp_dwarf.specs.Sections.{strings_of};
 ghost use Rattle.dwp_dwarf.specs.Split.{attributes_of};
@@ -85,16 +85,6 @@ fn text<R: Reader>(string: &R) -> Result<&str, Error>
     }
 }
 
-/// A string that may be absent as text.
-fn text_if<R: Reader>(string: &Option<R>) -> Result<&str, Error>
-    ensures { Gives (λ text. text.now) result (spec.text_if (option_map R.input string.now)) }
-{
-    match string {
-        Some(string) => text(string),
-        None => Ok(""),
-    }
-}
-
 /// The path of the split object that an attribute of a root entry names: `GimliRead` where a string
 /// can't be read or isn't UTF-8. A directory whose string can't be read is absent.
 #[tactic(auto, unfolding(crate::specs::Paths::object_path))]
@@ -115,7 +105,10 @@ fn object_path<R: Reader>(
         Some(directory) => attr_string(strings, format, base, directory).ok(),
         None => None,
     };
-    let directory = text_if(&directory)?;
+    let directory = match &directory {
+        Some(directory) => text(directory)?,
+        None => "",
+    };
     Ok(path_in(alloc, directory, name)?)
 }
 
