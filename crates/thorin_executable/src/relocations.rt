@@ -13,7 +13,7 @@ ghost use Rattle.thorin_executable.specs.Relocations.{with_relocations};
 
 use dwp_bytes::{Relocation, RelocationEntry};
 use dwp_elf_read::{ElfFile, RawRelocation, Section};
-use std::alloc::{AllocError, Global};
+use std::alloc::Global;
 use std::collections::BTreeMap;
 use thorin_errors::Error;
 
@@ -48,7 +48,14 @@ pub fn add_relocations(
     for raw in target.relocations() {
         add_relocation(alloc, executable, target, &raw?, &mut found)?;
     }
-    Ok(listed(alloc, &found)?)
+    let mut list = Vec::with_capacity(alloc, found.len())?;
+    for (offset, relocation) in &found {
+        list.push(RelocationEntry {
+            offset: *offset,
+            relocation: *relocation,
+        })?;
+    }
+    Ok(list)
 }
 
 /// Adds what a relocation makes of the number at its place to those found; a second at a place is
@@ -108,22 +115,4 @@ fn name_at(alloc: Global, target: &Section, place: usize) -> Result<String, Erro
         Ok(name) => Ok(String::from_str(alloc, name)?),
         Err(error) => Err(Error::NamelessSection(error, place)),
     }
-}
-
-/// The relocations that were found, in order of place.
-fn listed(
-    alloc: Global,
-    found: &BTreeMap<usize, Relocation>,
-) -> Result<Vec<RelocationEntry>, AllocError>
-    ensures entries { IfOk result (λ list. map pair_of list.items ≡ found.now.entries) }
-    ensures ascends { IfOk result (λ list. IsTrue (ascends list.items)) }
-{
-    let mut list = Vec::with_capacity(alloc, found.len())?;
-    for (offset, relocation) in found {
-        list.push(RelocationEntry {
-            offset: *offset,
-            relocation: *relocation,
-        })?;
-    }
-    Ok(list)
 }
