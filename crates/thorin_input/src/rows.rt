@@ -1,7 +1,7 @@
 //! The rows that units get: each unit's contribution to each section of its input, tested, and put
 //! where the section comes to lie in the package.
 
-ghost use Rattle.std.specs.Prelude.{◌≡◌, length, take, drop, map, None, IfOk, IfErr};
+ghost use Rattle.std.specs.Prelude.{◌≡◌, take, drop, map, None, IfOk, IfErr};
 ghost use Rattle.std.specs.Prelude.{if◌then◌else◌};
 ghost use Rattle.dwp_base.specs.declared.section.SectionKind.TheVariants.{Abbrev};
 ghost use Rattle.dwp_units.specs.Units.{unit_of};
@@ -40,21 +40,6 @@ pub struct Whole {
     ghost no_types: { row.debug_types ≡ None },
 }
 
-/// How many bytes parts add to the section of a kind. `Memory` where no memory could hold them.
-fn added(parts: &[Part<'_>], kind: SectionKind) -> Result<usize, Error>
-    ensures size { IfOk result (λ size.
-        size ≡ length (joined_parts kind (map view.part parts.now))) }
-    ensures refused { IfErr result (λ e. e ≡ Error.Memory) }
-{
-    let mut size = 0_usize;
-    for part in parts {
-        if part.kind.is(kind) {
-            size = size.checked_add(part.bytes().len()).ok_or(Error::Memory)?;
-        }
-    }
-    Ok(size)
-}
-
 /// Where the whole of a section that units share comes to lie once parts are put; None for any
 /// other section. `Memory` where no memory could hold it.
 fn whole_contribution(
@@ -71,7 +56,12 @@ fn whole_contribution(
     if !is_shared(kind) {
         return Ok(None);
     }
-    let size = added(parts, kind)?;
+    let mut size = 0_usize;
+    for part in parts {
+        if part.kind.is(kind) {
+            size = size.checked_add(part.bytes().len()).ok_or(Error::Memory)?;
+        }
+    }
     if size == 0 {
         return Ok(None);
     }

@@ -3,6 +3,3 @@ use Rattle.thorin_input.proofs.rows.whole_contribution.Goals as goal
 
 pub returns-clause-fits : goal.returns-clause-fits
 returns-clause-fits c = search rules
-
-pub returns-clause-range : goal.returns-clause-range
-returns-clause-range c = search rules

@@ -1,7 +1,7 @@
 use Rattle.std.proofs.Common.{◌≡◌, ◌+◌, map, drop, length}
 use Rattle.thorin_input.specs.Parts.{joined_parts}
 use Rattle.thorin_input.specs.View.{part}
-use Rattle.thorin_input.proofs.rows.added.Given as goal
+use Rattle.thorin_input.proofs.rows.whole_contribution.Given as goal
 
 -- the size so far and that of the parts that are left are that of all
 abbrev pub invariant-loop-part : goal.invariant-loop-part
