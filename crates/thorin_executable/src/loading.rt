@@ -115,23 +115,15 @@ pub(crate) struct DebugData<R> {
     pub strings: StringSections<R>,
 }
 
-/// Whether a section has a name, and isn't empty.
-#[tactic(auto, unfolding(crate::specs::Sections::is_used))]
-fn is_used(section: &Section<'_>, name: &str) -> bool
-    ensures { result ≡ spec.is_used name.now (meaning section.now) }
-{
-    !section.is_empty() && section.is_called(name)
-}
-
 /// The first section of a name that isn't empty.
-#[tactic(auto, using(dwp_base::proofs::Finds::find_hit, dwp_base::proofs::Finds::find_miss, dwp_base::proofs::Finds::slice_get_none))]
+#[tactic(auto, using(dwp_base::proofs::Finds::find_hit, dwp_base::proofs::Finds::find_miss, dwp_base::proofs::Finds::slice_get_none), unfolding(crate::specs::Sections::is_used))]
 fn find_named<'a>(file: &ElfFile<'a>, name: &str) -> Option<Section<'a>>
     ensures found { option_map meaning result ≡ find (spec.is_used name.now) (elf file.now).sections }
     ensures in_file { IfSome result (λ s. file_of s ≡ elf file.now) }
 {
     for i in 0..file.section_count() {
         if let Some(section) = file.section(i) {
-            if is_used(&section, name) {
+            if !section.is_empty() & section.is_called(name) {
                 return Some(section);
             }
         }
