@@ -38,16 +38,6 @@ struct Taken<'a> {
         ≡ list_any (spec.has_kind kinds.TuIndex) (map view.used sections.items) },
 }
 
-/// The kind of a section that isn't empty.
-fn used_kind(section: &Section<'_>) -> Option<SectionKind>
-    ensures { result ≡ spec.used_kind (meaning section.now) }
-{
-    if section.is_empty() {
-        return None;
-    }
-    section.section_kind()
-}
-
 /// The content of a section that is used: `DecompressData` where it is compressed, by its flag or
 /// by its name, `ObjectRead` where it is outside the file.
 #[tactic(auto, unfolding(crate::specs::Used::used_bytes, dwp_index::specs::Contents::used_bytes))]
@@ -75,12 +65,16 @@ impl<'a> Taken<'a> {
     }
 
     /// Adds a section, where it is used.
+    #[tactic(auto, using(crate::proofs::Walking::kind_empty, crate::proofs::Walking::kind_full))]
     fn add(&mut self, section: &Section<'a>) -> Result<(), Error>
         ensures { Gives (λ _. map view.used self.new.sections.items) result
             (spec.with_used (map view.used self.old.sections.items) (meaning section.now)
             (spec.used_kind (meaning section.now))) }
     {
-        let Some(kind) = used_kind(section) else {
+        if section.is_empty() {
+            return Ok(());
+        }
+        let Some(kind) = section.section_kind() else {
             return Ok(());
         };
         if self.is_repeated(kind) {
