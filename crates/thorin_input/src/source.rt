@@ -239,10 +239,7 @@ impl<'i, 'a> ContributionAdjustor<'i, 'a> {
 fn looked_up(index: Option<&UnitIndex<'_>>, identifier: u64) -> Option<u32>
     ensures { result ≡ adjusting.looked_up (option_copied index.entry) identifier }
 {
-    match index {
-        None => None,
-        Some(index) => index.find(identifier),
-    }
+    index?.find(identifier)
 }
 
 /// A range of a section, from the place on where the section begins.
