@@ -184,7 +184,7 @@ impl<'i, 'a> ContributionAdjustor<'i, 'a> {
     ///
     /// # Errors
     /// Those of `adjust`.
-    #[tactic(auto, unfolding(crate::specs::Adjusting::adjusted, crate::specs::Adjusting::row_of))]
+    #[tactic(auto, unfolding(crate::specs::Adjusting::adjusted, crate::specs::Adjusting::row_of, crate::specs::Adjusting::moved))]
     pub fn adjust_row(
         &self,
         unit: DwarfObject,
@@ -208,9 +208,16 @@ impl<'i, 'a> ContributionAdjustor<'i, 'a> {
             Err(error) => return Err(Error::RowNotInIndex(error, number)),
         };
         if own.has_column(self.section) {
-            return match row.range(self.section) {
-                None => Ok(None),
-                Some(range) => moved(self.section, identifier, range, whole),
+            return match (row.range(self.section), whole) {
+                (None, _) => Ok(None),
+                (Some(range), Some(whole))
+                    if range.size <= whole.size && range.offset.0 <= whole.size - range.size => {
+                    Ok(Some(Contribution {
+                        offset: ContributionOffset(whole.offset.0 + range.offset.0),
+                        size: range.size,
+                    }))
+                }
+                _ => Err(Error::BadContribution(self.section.name(), identifier)),
             };
         }
         match (other, whole) {
@@ -240,26 +247,4 @@ fn looked_up(index: Option<&UnitIndex<'_>>, identifier: u64) -> Option<u32>
     ensures { result ≡ adjusting.looked_up (option_copied index.entry) identifier }
 {
     index?.find(identifier)
-}
-
-/// A range of a section, from the place on where the section begins.
-#[tactic(auto, unfolding(crate::specs::Adjusting::moved))]
-fn moved(
-    section: SectionKind,
-    identifier: u64,
-    range: Contribution,
-    whole: Option<Contribution>,
-) -> Result<Option<Contribution>, Error>
-    requires { ForSome whole (λ c. c.offset.0 + c.size < 2 ^ 64) }
-    ensures { GivesExactly result (adjusting.moved section identifier range whole) }
-{
-    match whole {
-        Some(whole) if range.size <= whole.size && range.offset.0 <= whole.size - range.size => {
-            Ok(Some(Contribution {
-                offset: ContributionOffset(whole.offset.0 + range.offset.0),
-                size: range.size,
-            }))
-        }
-        _ => Err(Error::BadContribution(section.name(), identifier)),
-    }
 }
