@@ -1,9 +1,9 @@
 //! The units that an input adds to a package, each with its row.
 
-ghost use Rattle.std.specs.Prelude.{◌≡◌, ◌&&◌, option_map, Some, None, IfOk, OnOk};
+ghost use Rattle.std.specs.Prelude.{◌≡◌, ◌&&◌, option_map, None, IfOk, OnOk};
 ghost use Rattle.dwp_units.specs.Units.{unit_of, unit_seen};
 ghost use Rattle.thorin_errors.specs.Answers.{Gives};
-ghost use Rattle.thorin_input.specs.Encodings.{has_encoding, all_have, section_has, are_alike};
+ghost use Rattle.thorin_input.specs.Encodings.{has_encoding, section_has, are_alike};
 ghost use Rattle.thorin_input.specs.NewUnits as spec;
 ghost use Rattle.thorin_input.specs.UnitView.{ArePlacedIn, adding_of, held_in, met_of, new_of};
 ghost use Rattle.thorin_input.specs.View.{tables_in};
@@ -105,7 +105,7 @@ impl<'a> NewUnits<'a> {
     }
 
     /// Adds the units of a section, where units stand in it.
-    #[tactic(auto, unfolding(crate::specs::NewUnits::with_section))]
+    #[tactic(auto, unfolding(crate::specs::NewUnits::with_section, crate::specs::NewUnits::with_section_at, crate::specs::NewUnits::with_each_read))]
     fn add_section(
         &mut self,
         alloc: Global,
@@ -121,36 +121,11 @@ impl<'a> NewUnits<'a> {
             ≡ (self.old.alike && section_has adding.now.source.now.encoding
             adding.now.source.now.object.order (view.used section.entry))) }
     {
-        match section.kind {
-            SectionKind::Info => {
-                self.add_section_at(alloc, adding, met, section, UnitSection::Info)
-            }
-            SectionKind::Types => {
-                self.add_section_at(alloc, adding, met, section, UnitSection::Types)
-            }
-            _ => Ok(()),
-        }
-    }
-
-    /// Adds the units of a section of units.
-    #[tactic(auto, unfolding(crate::specs::NewUnits::with_section_at, crate::specs::NewUnits::with_each_read))]
-    fn add_section_at(
-        &mut self,
-        alloc: Global,
-        adding: &Adding<'_, 'a, '_>,
-        met: &mut SeenSections<'a>,
-        section: UsedSection<'a>,
-        place: UnitSection,
-    ) -> Result<(), Error>
-        requires tables { met.old.tables ≡ tables_in (view.source adding.now.source.now).object }
-        ensures meaning { Gives (λ _.
-            (met_of met.new, new_of self.new)) result (spec.with_section_at (adding_of adding.now)
-            (view.used section.entry) place (met_of met.old, new_of self.old)) }
-        ensures tables { met.new.tables ≡ met.old.tables }
-        ensures alike { OnOk result (self.new.alike
-            ≡ (self.old.alike && all_have adding.now.source.now.encoding
-            adding.now.source.now.object.order section.entry.bytes.now (Some place))) }
-    {
+        let place = match section.kind {
+            SectionKind::Info => UnitSection::Info,
+            SectionKind::Types => UnitSection::Types,
+            _ => return Ok(()),
+        };
         test_once(adding, place, met)?;
         match place {
             UnitSection::Info => met.info = true,
