@@ -23,7 +23,7 @@ use crate::source::{ContributionAdjustor, Indexes, Source};
 use dwp_base::{ByKind, Contribution, ContributionOffset, Endianness, SectionKind};
 use dwp_dwarf::{Encoding, Reader, SliceReader, UnitHeader, UnitType};
 use dwp_elf::WritableObject;
-use dwp_index::{UnitIndex, lies_inside};
+use dwp_index::lies_inside;
 use dwp_table::{Bucketable, DwarfObject, DwoId};
 use thorin_errors::Error;
 use thorin_index::IndexEntry;
@@ -204,41 +204,13 @@ pub fn test_row<'a>(
     }
 }
 
-/// Where the abbreviations of the row with that number begin and end; none where it has none.
-/// `BadContribution` where they are outside the section.
-#[tactic(auto, using(crate::proofs::Ends::part_of_range), unfolding(crate::specs::Rows::numbered_abbreviations, crate::specs::Rows::row_abbreviations))]
-fn numbered_abbreviations(
-    bytes: &[u8],
-    index: &Option<UnitIndex<'_>>,
-    number: Option<u32>,
-) -> Result<(usize, usize), Error>
-    ensures { Gives (λ range. drop range.0 (take range.1 bytes.now)) result
-        (spec.numbered_abbreviations bytes.now index.now number) }
-{
-    let (Some(index), Some(number)) = (index, number) else {
-        return Err(Error::UnitNotInIndex(0));
-    };
-    let row = match index.row(number) {
-        Ok(row) => row,
-        Err(e) => return Err(Error::RowNotInIndex(e, number)),
-    };
-    let Some(range) = row.range(SectionKind::Abbrev) else {
-        return Ok((0, 0));
-    };
-    if !lies_inside(bytes, range) {
-        return Err(Error::BadContribution(SectionKind::Abbrev.name(), 0));
-    }
-    let start = range.offset.0 as usize;
-    Ok((start, start + range.size as usize))
-}
-
 /// Where the part of the first section of abbreviations begins and ends that a unit's identity is
 /// read with: all of it, or for a compile unit of a package the range of its row by place.
 ///
 /// # Errors
-/// `UnitNotInIndex` where there is no such row, `BadContribution` where they are outside the
-/// section.
-#[tactic(auto, unfolding(crate::specs::Rows::abbreviations_for))]
+/// `UnitNotInIndex` where there is no such row, `RowNotInIndex` where its number is past the rows,
+/// `BadContribution` where they are outside the section.
+#[tactic(auto, using(crate::proofs::Ends::part_of_range), unfolding(crate::specs::Rows::abbreviations_for, crate::specs::Rows::numbered_abbreviations, crate::specs::Rows::row_abbreviations))]
 pub fn abbreviations_for<'a>(
     source: &Source<'a>,
     bytes: &[u8],
@@ -255,7 +227,21 @@ pub fn abbreviations_for<'a>(
 {
     if source.indexes.is_package() && matches!(header.unit_type(), UnitType::Compilation) {
         let number = placed.compilations.find(own_contribution(header));
-        numbered_abbreviations(bytes, &source.indexes.compilations, number)
+        let (Some(index), Some(number)) = (&source.indexes.compilations, number) else {
+            return Err(Error::UnitNotInIndex(0));
+        };
+        let row = match index.row(number) {
+            Ok(row) => row,
+            Err(e) => return Err(Error::RowNotInIndex(e, number)),
+        };
+        let Some(range) = row.range(SectionKind::Abbrev) else {
+            return Ok((0, 0));
+        };
+        if !lies_inside(bytes, range) {
+            return Err(Error::BadContribution(SectionKind::Abbrev.name(), 0));
+        }
+        let start = range.offset.0 as usize;
+        Ok((start, start + range.size as usize))
     } else {
         Ok((0, bytes.len()))
     }
