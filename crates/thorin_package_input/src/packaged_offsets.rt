@@ -1,10 +1,10 @@
 //! The string offsets of a finished package, rewritten into a table of strings: the ranges that its
 //! rows have, one after another.
 
-ghost use Rattle.std.specs.Prelude.{◌≡◌, ◌≢◌, length, map, take, OnOk, IfOk, IfErr};
+ghost use Rattle.std.specs.Prelude.{◌≡◌, ◌≢◌, length, map, take, OnOk, IfErr};
 ghost use Rattle.std.specs.Option.{option_copied};
 ghost use Rattle.thorin_errors.specs.Answers.{Gives};
-ghost use Rattle.thorin_package_input.specs.PackagedOffsets.{is_whole_range, offset_ranges};
+ghost use Rattle.thorin_package_input.specs.PackagedOffsets.{is_whole_range};
 ghost use Rattle.thorin_package_input.specs.PackagedOffsets.{packaged_offsets, ranges_test};
 ghost use Rattle.thorin_package_input.specs.PackagedOffsets.{rewritten_from, with_rows};
 ghost use Rattle.thorin_package_input.specs.RangeKeys.{range_at};
@@ -28,7 +28,7 @@ use thorin_strings::{PackageStringTable, Repeats, StringOffsets};
 /// section, shorter than its header, or its entries aren't whole) and `OverlappingStringOffsets` (a
 /// range begins inside the one before it); then what `remap_str_offsets_section` refuses a range
 /// for.
-#[tactic(auto, unfolding(crate::specs::PackagedOffsets::packaged_offsets))]
+#[tactic(auto, unfolding(crate::specs::PackagedOffsets::packaged_offsets, crate::specs::PackagedOffsets::offset_ranges))]
 pub fn remap_packaged_offsets(
     alloc: Global,
     strings: &mut PackageStringTable,
@@ -42,7 +42,17 @@ pub fn remap_packaged_offsets(
         strings.old) }
     ensures kept { take (length strings.old) strings.new ≡ strings.old }
 {
-    let ranges = offset_ranges(alloc, cu_index, tu_index)?;
+    // In order of place, then of size, none twice.
+    let mut keys = BTreeSet::new(alloc);
+    add_rows(&mut keys, cu_index)?;
+    add_rows(&mut keys, tu_index)?;
+    let mut ranges = Vec::with_capacity(alloc, keys.len())?;
+    for (offset, size) in keys {
+        ranges.push(Contribution {
+            offset: ContributionOffset(offset),
+            size,
+        })?;
+    }
     test_ranges(&ranges, section.encoding, section.offsets.len() as u64)?;
     rewritten(alloc, strings, &ranges, section)
 }
@@ -79,29 +89,6 @@ fn rewritten(
     }
     out.extend_from_slice(&offsets[at..])?;
     Ok(out)
-}
-
-/// The ranges of both indexes' rows in order of place, then of size, none twice.
-#[tactic(auto, unfolding(crate::specs::PackagedOffsets::offset_ranges))]
-fn offset_ranges(
-    alloc: Global,
-    cu_index: Option<&UnitIndex<'_>>,
-    tu_index: Option<&UnitIndex<'_>>,
-) -> Result<Vec<Contribution>, AllocError>
-    ensures { IfOk result (λ ranges. ranges.items
-        ≡ offset_ranges (option_copied cu_index.entry) (option_copied tu_index.entry)) }
-{
-    let mut keys = BTreeSet::new(alloc);
-    add_rows(&mut keys, cu_index)?;
-    add_rows(&mut keys, tu_index)?;
-    let mut ranges = Vec::with_capacity(alloc, keys.len())?;
-    for (offset, size) in keys {
-        ranges.push(Contribution {
-            offset: ContributionOffset(offset),
-            size,
-        })?;
-    }
-    Ok(ranges)
 }
 
 /// Adds place and size of the range of each row of an index.

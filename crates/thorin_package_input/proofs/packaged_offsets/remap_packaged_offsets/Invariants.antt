@@ -1,6 +1,6 @@
 use Rattle.std.proofs.Common.{◌≡◌, ◌++◌, map}
 use Rattle.thorin_package_input.specs.RangeKeys.{range_at}
-use Rattle.thorin_package_input.proofs.packaged_offsets.offset_ranges.Given as goal
+use Rattle.thorin_package_input.proofs.packaged_offsets.remap_packaged_offsets.Given as goal
 
 -- what is listed, and what is left
 abbrev pub invariant-loop-offset : goal.invariant-loop-offset
