@@ -103,14 +103,6 @@ fn has_part(parts: &[Part<'_>], kind: SectionKind) -> bool
     false
 }
 
-/// Whether an input may have one section of a kind alone.
-fn stands_once(source: &Source<'_>, kind: SectionKind) -> bool
-    ensures { result ≡ spec.stands_once (view.source source.now) kind }
-{
-    source.indexes.is_package()
-        || source.encoding.is_std_dwarf_package_format() && kind.is(SectionKind::StrOffsets)
-}
-
 /// String offsets that name their strings in the table: those of a package range by range. An `Err`
 /// may leave strings behind those before.
 #[tactic(auto, unfolding(crate::specs::InputStrings::rewritten))]
@@ -166,13 +158,17 @@ fn add_part<'a>(
     ensures kept { take (length strings.old) strings.new ≡ strings.old }
     ensures known { AreKnown named.now strings.new gathering.new.repeats }
 {
-    if stands_once(source, section.kind) && has_part(&gathering.parts, section.kind) {
+    // A package has one section of each kind, an object of DWARF 5 one of string offsets.
+    let is_offsets = section.kind.is(SectionKind::StrOffsets);
+    let stands_once = source.indexes.is_package()
+        | source.encoding.is_std_dwarf_package_format() & is_offsets;
+    if stands_once && has_part(&gathering.parts, section.kind) {
         return Err(Error::RepeatedSection(section.kind.name()));
     }
     if !is_in_format(source.encoding, section.kind) {
         return Err(Error::SectionOutsideFormat(section.kind.name()));
     }
-    if section.kind.is(SectionKind::StrOffsets) {
+    if is_offsets {
         if !source.object.has_strings {
             return Err(Error::MissingRequiredSection(SectionKind::Str.name()));
         }
