@@ -30,20 +30,22 @@ use Rattle.thorin_input.specs.declared.walk.Taken.{Taken}
 -- ---- one section
 
 -- the kind of a section without bytes, and of one that has some
-pub kind_empty : (s : SectionMeaning) → (eqb s.size 0 || eqb s.kind SHT_NOBITS) ≡ true
+pub kind-empty : (s : SectionMeaning) → (eqb s.size 0 || eqb s.kind SHT_NOBITS) ≡ true
     → used_kind s ≡ None
 unfolding used_kind is_of_kind
-kind_empty s h = rw h refl
+kind-empty s h = rw h refl
 
-pub kind_full : (s : SectionMeaning) → (eqb s.size 0 || eqb s.kind SHT_NOBITS) ≡ false
+pub kind-full : (s : SectionMeaning) → (eqb s.size 0 || eqb s.kind SHT_NOBITS) ≡ false
     → used_kind s ≡ option_and_then kind_named s.name
 unfolding used_kind is_of_kind
-kind_full s h = rw h (full s.name)
+kind-full s h = rw h (full s.name)
   where
     full : (name : Option (List ℕ)) → find (λ kind. true && has_name kind name) all_kinds ≡
         option_and_then kind_named name
     full None = refl
     full (Some own) = refl
+
+pub ruleset kinds_used = (kind-empty, kind-full)
 
 pub bytes-plain : (kind : SectionKind) (s : SectionMeaning)
     → (has_compressed_flag s || has_older_name kind s.name) ≡ false

@@ -65,7 +65,7 @@ impl<'a> Taken<'a> {
     }
 
     /// Adds a section, where it is used.
-    #[tactic(auto, using(crate::proofs::Walking::kind_empty, crate::proofs::Walking::kind_full))]
+    #[tactic(auto, using(crate::proofs::Walking::kinds_used))]
     fn add(&mut self, section: &Section<'a>) -> Result<(), Error>
         ensures { Gives (λ _. map view.used self.new.sections.items) result
             (spec.with_used (map view.used self.old.sections.items) (meaning section.now)

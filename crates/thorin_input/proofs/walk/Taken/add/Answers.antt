@@ -1,10 +1,10 @@
 use Rattle.std.proofs.Common.{arith, sym, ◌∙◌}
 use Rattle.std.proofs.lemmas.Grind.{common_steps}
 use Rattle.dwp_elf_read.specs.View.{section}
-use Rattle.thorin_input.proofs.Walking.{kind_full}
+use Rattle.thorin_input.proofs.Walking.{kind-full}
 use Rattle.thorin_input.proofs.walk.Taken.add.Goals as goal
 
 pub returns : goal.returns
 returns c =
-    let kind = kind_full (section c.args.section.now) cc ∙ sym c.in-Some.ensures in
+    let kind = kind-full (section c.args.section.now) cc ∙ sym c.in-Some.ensures in
     grind (arith, common_steps, kind)
