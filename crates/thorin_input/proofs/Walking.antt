@@ -25,7 +25,7 @@ use Rattle.thorin_input.specs.Used.{used_from, input_file_of}
 use Rattle.thorin_input.specs.View as view
 use Rattle.thorin_input.specs.declared.object.InputObject.{InputObject}
 use Rattle.thorin_input.specs.declared.object.UsedSection.{UsedSection}
-use Rattle.thorin_input.specs.declared.walk.Taken.{Taken}
+use Rattle.thorin_input.specs.declared.walk.UsedSections.{UsedSections}
 
 -- ---- one section
 
@@ -97,55 +97,55 @@ pub any-end : (test : SectionMeaning → Bool) (b : Bool) (l : List Placed)
 any-end test b l all e h = sym (or-false b) ∙ (rw e at h)
 
 -- the used sections so far, with those that are left; or the error of the first that can't be used
-abbrev pub taken : Taken → List Used
-taken t = map view.used t.sections.items
+abbrev pub used_in : UsedSections → List Used
+used_in t = map view.used t.sections.items
 
-abbrev pub GoesOn : Option Error → Taken → List SectionMeaning
+abbrev pub GoesOn : Option Error → UsedSections → List SectionMeaning
     → Result (List Used) ErrorValue → Type 0
-GoesOn None t rest all = used_from (taken t) rest ≡ all
+GoesOn None t rest all = used_from (used_in t) rest ≡ all
 GoesOn (Some e) t rest all = MemoryAside e (all ≡ Err (error_of e))
 
-pub taken-step : (t n : Taken) (answer : Result (Unit {0}) Error) (l rest : List Placed)
+pub used-step : (t n : UsedSections) (answer : Result (Unit {0}) Error) (l rest : List Placed)
     (p : Placed) (all : Result (List Used) ErrorValue) → l ≡ p ∷ rest
-    → Gives (λ _. taken n) answer (with_used (taken t) p.section (used_kind p.section))
+    → Gives (λ _. used_in n) answer (with_used (used_in t) p.section (used_kind p.section))
     → GoesOn None t (those l) all → GoesOn (result_err answer) n (those rest) all
 unfolding used_from
-taken-step t n (Ok _) l rest p all h next goes = rw (h, next) at goes
-taken-step t n (Err e) l rest p all h next goes = λ aside.
+used-step t n (Ok _) l rest p all h next goes = rw (h, next) at goes
+used-step t n (Err e) l rest p all h next goes = λ aside.
     let fails = next aside in sym (rw (h, fails) at goes)
 
 -- one more section, where none so far has an error
-pub taken-next : (fault : Option Error) (t n : Taken) (answer : Result (Unit {0}) Error)
+pub used-next : (fault : Option Error) (t n : UsedSections) (answer : Result (Unit {0}) Error)
     (l rest : List Placed) (p : Placed) (all : Result (List Used) ErrorValue)
     → is_some fault ≡ false → l ≡ p ∷ rest
-    → Gives (λ _. taken n) answer (with_used (taken t) p.section (used_kind p.section))
+    → Gives (λ _. used_in n) answer (with_used (used_in t) p.section (used_kind p.section))
     → GoesOn fault t (those l) all → GoesOn (result_err answer) n (those rest) all
-taken-next None t n answer l rest p all none h next goes =
-    taken-step t n answer l rest p all h next goes
-taken-next (Some e) t n answer l rest p all none h next goes = absurd (false≢true (sym none))
+used-next None t n answer l rest p all none h next goes =
+    used-step t n answer l rest p all h next goes
+used-next (Some e) t n answer l rest p all none h next goes = absurd (false≢true (sym none))
 
 -- an error stays
-pub taken-kept : (fault : Option Error) (t : Taken) (rest left : List SectionMeaning)
+pub used-kept : (fault : Option Error) (t : UsedSections) (rest left : List SectionMeaning)
     (all : Result (List Used) ErrorValue) → is_some fault ≡ true → GoesOn fault t rest all
     → GoesOn fault t left all
-taken-kept None t rest left all some goes = absurd (false≢true some)
-taken-kept (Some e) t rest left all some goes = goes
+used-kept None t rest left all some goes = absurd (false≢true some)
+used-kept (Some e) t rest left all some goes = goes
 
 -- what the whole walk gives
-pub walk-gives : (t : Taken) (order : Endianness) (strings abbreviations : Bool) (l : List Placed)
-    (file : Elf) → order ≡ file.order
+pub walk-gives : (t : UsedSections) (order : Endianness) (strings abbreviations : Bool)
+    (l : List Placed) (file : Elf) → order ≡ file.order
     → strings ≡ list_any (is_named (name_of kinds.Str)) file.sections
     → abbreviations ≡ list_any (is_named (name_of kinds.Abbrev)) file.sections → l ≡ []
     → GoesOn None t (those l) (used_from [] file.sections)
     → input_file_of file ≡ Ok (record {
       order = order;
-      sections = taken t;
+      sections = used_in t;
       has_strings = strings;
       has_abbreviations = abbreviations;
     })
 unfolding input_file_of used_from
 walk-gives t order strings abbreviations l file ho hs ha h goes =
-    let used : used_from [] file.sections ≡ Ok (taken t) = sym (rw h at goes) in
+    let used : used_from [] file.sections ≡ Ok (used_in t) = sym (rw h at goes) in
     rw (
       used,
       ho,

@@ -25,7 +25,7 @@ pub struct Walked<'a> {
 
 /// The used sections so far, and which of the kinds that count once are among them.
 #[derive(Drop)]
-struct Taken<'a> {
+struct UsedSections<'a> {
     sections: Vec<UsedSection<'a>>,
     strings: bool,
     compilations: bool,
@@ -50,7 +50,7 @@ fn used_bytes<'a>(section: &Section<'a>, kind: SectionKind) -> Result<&'a [u8], 
     section.data().map_err(Error::ObjectRead)
 }
 
-impl<'a> Taken<'a> {
+impl<'a> UsedSections<'a> {
     /// Whether only the first section of a kind counts, and there was one.
     fn is_repeated(&self, kind: SectionKind) -> bool
         ensures { result ≡ (spec.counts_once kind
@@ -104,7 +104,7 @@ impl<'a> Walked<'a> {
         let mut has_strings = false;
         let mut has_abbreviations = false;
         let mut fault = None;
-        let mut taken = Taken {
+        let mut used = UsedSections {
             sections: Vec::new(alloc),
             strings: false,
             compilations: false,
@@ -115,15 +115,15 @@ impl<'a> Walked<'a> {
             has_strings |= section.is_called(SectionKind::Str.name());
             has_abbreviations |= section.is_called(SectionKind::Abbrev.name());
             if fault.is_none() {
-                fault = taken.add(&section).err();
+                fault = used.add(&section).err();
             }
         }
-        let Taken {
+        let UsedSections {
             sections,
             compilations,
             types,
             ..
-        } = taken;
+        } = used;
         let input = match fault {
             Some(error) => Err(error),
             None => Ok(InputObject {

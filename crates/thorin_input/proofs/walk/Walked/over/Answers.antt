@@ -5,7 +5,7 @@ use Rattle.dwp_base.specs.Sections.{name_of}
 use Rattle.dwp_elf_read.specs.Elf.{is_named, is_of}
 use Rattle.dwp_elf_read.specs.View.{placed, sections_left, elf}
 use Rattle.thorin_input.proofs.Walking.{those, any-step, any-end, either-index, map-placed}
-use Rattle.thorin_input.proofs.Walking.{taken-next, taken-kept, walk-gives, walk-fails}
+use Rattle.thorin_input.proofs.Walking.{used-next, used-kept, walk-gives, walk-fails}
 use Rattle.thorin_input.proofs.walk.Walked.over.Goals as goal
 
 pub loop-section-init : goal.loop-section-init
@@ -39,7 +39,7 @@ loop-section-preserved-then-is_none c =
           (any-step (is_named (name_of Abbrev)) before.has_abbreviations _ _ p left
           ∙ so_far.abbreviations);
       used = rw c.err-fault.ensures.value
-          (taken-next before.fault before.taken c.add.new.self c.add.result _ _ p _
+          (used-next before.fault before.used c.add.new.self c.add.result _ _ p _
           (c.is_none.ensures ∙ ap not c.if-is_none.true) left c.add.ensures so_far.used);
     }
 
@@ -58,12 +58,12 @@ loop-section-preserved c =
       abbreviations = rw (c.is_called-has_abbreviations.ensures, c.name-in-loop-section.ensures)
           (any-step (is_named (name_of Abbrev)) before.has_abbreviations _ _ p left
           ∙ so_far.abbreviations);
-      used = taken-kept before.fault before.taken _ _ _
+      used = used-kept before.fault before.used _ _ _
           (c.is_none.ensures ∙ ap not c.if-is_none.false) so_far.used;
     }
 
 pub invariant_of-input : goal.invariant_of-input
-invariant_of-input c = let last = c.loop-section.taken in record {
+invariant_of-input c = let last = c.loop-section.used in record {
   no_index = rw (last.compilations_so_far, last.types_so_far)
       (ap not (either-index last.sections.items));
 }
@@ -86,7 +86,7 @@ returns-clause-input c =
       | goal.in-Some-fault w ↦ rw w.input-is
           (walk-fails w.in-Some-fault.error file (rw w.in-Some-fault.is at so_far.used))
       | goal.in-None-fault w ↦ rw w.input-is
-          (walk-gives last.taken _ _ _ _ file w.endianness.ensures
+          (walk-gives last.used _ _ _ _ file w.endianness.ensures
           (any-end (is_named (name_of Str)) last.has_strings _ file.sections left so_far.strings)
           (any-end (is_named (name_of Abbrev)) last.has_abbreviations _ file.sections left
           so_far.abbreviations) left (rw w.in-None-fault.is at so_far.used))

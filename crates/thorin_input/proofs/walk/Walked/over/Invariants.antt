@@ -20,6 +20,6 @@ invariant-loop-section l = record {
   abbreviations : (l.has_abbreviations || list_any (is_named (name_of Abbrev))
       (those (sections_left l.section-iterator))) ≡ list_any (is_named (name_of Abbrev))
       (elf l.file).sections;
-  used : GoesOn l.fault l.taken (those (sections_left l.section-iterator))
+  used : GoesOn l.fault l.used (those (sections_left l.section-iterator))
       (used_from [] (elf l.file).sections);
 }

@@ -1,5 +1,5 @@
 use Rattle.thorin_input.proofs.Walking.{found-any}
-use Rattle.thorin_input.proofs.walk.Taken.is_repeated.Goals as goal
+use Rattle.thorin_input.proofs.walk.UsedSections.is_repeated.Goals as goal
 
 pub returns-in-Str : goal.returns-in-Str
 returns-in-Str c = rw (c.in-Str.is, found-any) c.args.self.now.strings_so_far
