@@ -1,6 +1,6 @@
 //! Units whose abbreviations are ranges of one section (DWARF 5, 7.3.5).
 
-ghost use Rattle.std.specs.Prelude.{◌≡◌, ◌≢◌, ◌≤◌, IfErr, length, take, drop, true, false};
+ghost use Rattle.std.specs.Prelude.{◌≡◌, ◌≢◌, ◌≤◌, IfErr, length, take, drop, false};
 ghost use Rattle.dwp_bytes.specs.Input.{section};
 ghost use Rattle.dwp_units.specs.Units.{unit_of};
 ghost use Rattle.thorin_errors.specs.Answers.{Gives};
@@ -33,7 +33,7 @@ pub struct RangeTables<'a> {
 }
 
 /// A range of a section: where it begins and ends.
-#[derive(Clone, Copy)]
+#[derive(Clone, Copy, PartialEq)]
 struct Part {
     begin: usize,
     end: usize,
@@ -64,13 +64,6 @@ impl Part {
         let end = end.min(bytes.len());
         let begin = start.min(end);
         Part { begin, end }
-    }
-
-    /// Whether it is that one.
-    fn is(self, other: Part) -> bool
-        ensures { result ≡ true → self ≡ other }
-    {
-        self.begin == other.begin && self.end == other.end
     }
 
     /// It, or all of a section of so many bytes once ranges of too many were begun with.
@@ -165,13 +158,13 @@ impl<'a> RangeTables<'a> {
             unit_type => return Ok(header_identifier(unit_type)),
         }
         let range = Part::within(start, end, self.bytes);
-        let begun = if range.is(self.held) {
+        let begun = if range == self.held {
             self.begun
         } else {
             self.begun.saturating_add(range.end - range.begin)
         };
         let part = range.or_all(begun, self.bytes.len());
-        let is_new = !part.is(self.held);
+        let is_new = part != self.held;
         take_up(
             self.alloc,
             &mut self.cache,
@@ -181,7 +174,7 @@ impl<'a> RangeTables<'a> {
         );
         self.held = part;
         self.begun = begun;
-        if part.is(range) {
+        if part == range {
             dwo_identifier_remembering(&mut self.cache, header)
         } else {
             let (from, to) = (range.begin - part.begin, range.end - part.begin);
