@@ -1,6 +1,6 @@
 //! Units whose abbreviations are ranges of one section (DWARF 5, 7.3.5).
 
-ghost use Rattle.std.specs.Prelude.{◌≡◌, ◌≢◌, ◌≤◌, IfErr, length, take, drop, false};
+ghost use Rattle.std.specs.Prelude.{◌≡◌, ◌≢◌, ◌≤◌, IfErr, length, take, drop};
 ghost use Rattle.dwp_bytes.specs.Input.{section};
 ghost use Rattle.dwp_units.specs.Units.{unit_of};
 ghost use Rattle.thorin_errors.specs.Answers.{Gives};
@@ -94,23 +94,6 @@ impl Part {
     }
 }
 
-/// Begins with these abbreviations, unless they are those that are remembered.
-fn take_up<'a>(
-    alloc: Global,
-    cache: &mut AbbreviationCache<SliceReader<'a>>,
-    is_new: bool,
-    bytes: &'a [u8],
-    order: Endianness,
-)
-    requires { is_new ≡ false
-        → ⟦<SliceReader<'a> as Reader>⟧.input cache.old ≡ section order bytes.now }
-    ensures { ⟦<SliceReader<'a> as Reader>⟧.input cache.new ≡ section order bytes.now }
-{
-    if is_new {
-        *cache = AbbreviationCache::new(alloc, SliceReader::new(bytes, order));
-    }
-}
-
 impl<'a> RangeTables<'a> {
     /// Those of a section. Nothing is read yet, and no memory is taken.
     pub fn new(alloc: Global, bytes: &'a [u8], order: Endianness) -> RangeTables<'a>
@@ -164,15 +147,11 @@ impl<'a> RangeTables<'a> {
             self.begun.saturating_add(range.end - range.begin)
         };
         let part = range.or_all(begun, self.bytes.len());
-        let is_new = part != self.held;
-        take_up(
-            self.alloc,
-            &mut self.cache,
-            is_new,
-            part.of(self.bytes),
-            self.order,
-        );
-        self.held = part;
+        if part != self.held {
+            self.held = part;
+            let reader = SliceReader::new(part.of(self.bytes), self.order);
+            self.cache = AbbreviationCache::new(self.alloc, reader);
+        }
         self.begun = begun;
         if part == range {
             dwo_identifier_remembering(&mut self.cache, header)
