@@ -205,10 +205,7 @@ fn numbered_identifier(found: EntryNumber) -> Result<Option<DwarfObject>, Error>
     if found.tag != DW_TAG_COMPILE_UNIT && found.tag != DW_TAG_TYPE_UNIT {
         return Err(Error::TopLevelDieNotUnit);
     }
-    match found.number? {
-        Some(id) => Ok(Some(DwarfObject::Compilation(DwoId(id)))),
-        None => Ok(None),
-    }
+    Ok(found.number?.map(|id| DwarfObject::Compilation(DwoId(id))))
 }
 
 /// The identifier in an entry of a unit.
