@@ -77,16 +77,11 @@ fn root_attributes<R: Reader>(
         (spec.root_attributes (R.input debug_abbrev.old) (unit_of R.input header.now)) }
     ensures kept { debug_abbrev.new ≡ debug_abbrev.old }
 {
-    let (code, values) = match header.root_code() {
-        Ok(Some(read)) => read,
-        Ok(None) => return Err(Error::NoDie),
-        Err(error) => return Err(Error::ParseUnit(error)),
-    };
-    match debug_abbrev.split_in(header.abbrev_offset(), code, header.encoding(), values) {
-        Ok(Some(root)) => Ok(root),
-        Ok(None) => Err(Error::ParseUnit(ReadError::UnknownCode)),
-        Err(error) => Err(Error::ParseUnit(error)),
-    }
+    let (code, values) = header.root_code().map_err(Error::ParseUnit)?.ok_or(Error::NoDie)?;
+    debug_abbrev
+        .split_in(header.abbrev_offset(), code, header.encoding(), values)
+        .map_err(Error::ParseUnit)?
+        .ok_or(Error::ParseUnit(ReadError::UnknownCode))
 }
 
 /// The split unit that the unit that was read next stands for, if it does. The path of its object
