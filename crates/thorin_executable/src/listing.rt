@@ -248,15 +248,6 @@ impl<'a> NamedUnits<'a> {
     {
         self.last.text.as_str()
     }
-
-    /// The path, handed out. What comes next is no path that came before.
-    fn take_path(&mut self) -> String
-        ensures path { string_bytes result ≡ self.old.path }
-        ensures listed { self.new.listed ≡ self.old.listed }
-    {
-        self.last.places = None;
-        replace(&mut self.last.text, String::new(self.last.alloc))
-    }
 }
 
 /// Gives the split units that an executable names, one after another, and holds one path at a time.
@@ -322,9 +313,12 @@ impl<'a> SkeletonUnits<'a> {
         let Some(unit) = self.named.next()? else {
             return Ok(None);
         };
+        // The path is handed out: what comes next is no path that came before.
+        self.named.last.places = None;
+        let path = replace(&mut self.named.last.text, String::new(self.named.last.alloc));
         Ok(Some(Skeleton {
             target: unit.target,
-            path: self.named.take_path(),
+            path,
         }))
     }
 }
