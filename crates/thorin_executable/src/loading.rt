@@ -145,22 +145,10 @@ fn find_section<'a>(file: &ElfFile<'a>, kind: DebugSection) -> Option<Section<'a
     }
 }
 
-/// The content of a section: `DecompressData` where it is compressed, `ObjectRead` where it is
-/// outside the file.
-#[tactic(auto, unfolding(crate::specs::Sections::debug_content))]
-fn content<'a>(section: &Section<'a>, kind: DebugSection) -> Result<&'a [u8], Error>
-    ensures { Gives (λ bytes. bytes.now) result (spec.debug_content kind (meaning section.now)) }
-{
-    let (_, older) = kind.names();
-    if section.is_compressed() || section.is_called(older) {
-        return Err(Error::DecompressData(ReadError::Compressed));
-    }
-    section.data().map_err(Error::ObjectRead)
-}
-
 /// A reader of the section of a kind, its relocations placed in the session; of no bytes where
-/// there is none.
-#[tactic(auto, using(crate::proofs::ByPlace::loaded_is), unfolding(crate::specs::Sections::loaded, crate::specs::Sections::loaded_first))]
+/// there is none. `DecompressData` where it is compressed, `ObjectRead` where it is outside the
+/// file.
+#[tactic(auto, using(crate::proofs::ByPlace::loaded_is), unfolding(crate::specs::Sections::debug_content, crate::specs::Sections::loaded, crate::specs::Sections::loaded_first))]
 fn load_first<'a, Sess: Session<RelocationEntry>>(
     alloc: Global,
     session: &'a Sess,
@@ -173,7 +161,11 @@ fn load_first<'a, Sess: Session<RelocationEntry>>(
     let Some(section) = find_section(file, kind) else {
         return Ok(SectionReader::new(&[], &[], file.endianness()));
     };
-    let bytes = content(&section, kind)?;
+    let (_, older) = kind.names();
+    if section.is_compressed() || section.is_called(older) {
+        return Err(Error::DecompressData(ReadError::Compressed));
+    }
+    let bytes = section.data().map_err(Error::ObjectRead)?;
     let found = add_relocations(alloc, file, &section)?;
     let relocations = session.alloc_relocation(&found)?;
     Ok(SectionReader::new(relocations, bytes, file.endianness()))
