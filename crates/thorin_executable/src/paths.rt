@@ -79,10 +79,7 @@ fn path_in(alloc: Global, directory: &str, name: &str) -> Result<String, AllocEr
 fn text<R: Reader>(string: &R) -> Result<&str, Error>
     ensures { Gives (λ text. text.now) result (spec.text_of (R.input string.now)) }
 {
-    match str::from_utf8(string.to_slice()) {
-        Ok(text) => Ok(text),
-        Err(_) => Err(Error::GimliRead(ReadError::BadUtf8)),
-    }
+    str::from_utf8(string.to_slice()).map_err(|_| Error::GimliRead(ReadError::BadUtf8))
 }
 
 /// The path of the split object that an attribute of a root entry names: `GimliRead` where a string
