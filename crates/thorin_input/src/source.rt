@@ -63,15 +63,12 @@ fn test_version(
 ) -> Result<(), Error>
     ensures { Gives (λ _. tt) result (spec.version_test encoding kind index.now) }
 {
-    let Some(index) = index else {
-        return Ok(());
-    };
-    let version = index.version();
-    if encoding.is_compatible_dwarf_package_index_version(version) {
-        Ok(())
-    } else {
-        let expected = encoding.dwarf_package_index_version();
-        Err(Error::IncompatibleIndexVersion(kind.name(), expected, version))
+    match index {
+        Some(index) if !encoding.is_compatible_dwarf_package_index_version(index.version()) => {
+            let expected = encoding.dwarf_package_index_version();
+            Err(Error::IncompatibleIndexVersion(kind.name(), expected, index.version()))
+        }
+        _ => Ok(()),
     }
 }
 
