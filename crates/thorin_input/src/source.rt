@@ -107,7 +107,7 @@ impl<'a> Indexes<'a> {
             DwarfObject::Compilation(_) => &self.compilations,
             DwarfObject::TypeUnit(_) => &self.types,
         };
-        looked_up(index.as_ref(), name.index())
+        index.as_ref()?.find(name.index())
     }
 }
 
@@ -171,7 +171,10 @@ impl<'i, 'a> ContributionAdjustor<'i, 'a> {
         ensures { GivesExactly result (adjusted self.now unit whole) }
     {
         let (own, _) = self.indexes_for(unit);
-        let number = looked_up(own, unit.index());
+        let number = match own {
+            Some(own) => own.find(unit.index()),
+            None => None,
+        };
         self.adjust_row(unit, number, whole)
     }
 
@@ -237,11 +240,4 @@ impl<'i, 'a> ContributionAdjustor<'i, 'a> {
             DwarfObject::TypeUnit(_) => (self.tu_index, self.cu_index),
         }
     }
-}
-
-/// The row number that looking an identifier up gives; none where the index is missing.
-fn looked_up(index: Option<&UnitIndex<'_>>, identifier: u64) -> Option<u32>
-    ensures { result ≡ adjusting.looked_up (option_copied index.entry) identifier }
-{
-    index?.find(identifier)
 }
