@@ -105,23 +105,16 @@ abbrev pub GoesOn : Option Error → UsedSections → List SectionMeaning
 GoesOn None t rest all = used_from (used_in t) rest ≡ all
 GoesOn (Some e) t rest all = MemoryAside e (all ≡ Err (error_of e))
 
-pub used-step : (t n : UsedSections) (answer : Result (Unit {0}) Error) (l rest : List Placed)
-    (p : Placed) (all : Result (List Used) ErrorValue) → l ≡ p ∷ rest
-    → Gives (λ _. used_in n) answer (with_used (used_in t) p.section (used_kind p.section))
-    → GoesOn None t (those l) all → GoesOn (result_err answer) n (those rest) all
-unfolding used_from
-used-step t n (Ok _) l rest p all h next goes = rw (h, next) at goes
-used-step t n (Err e) l rest p all h next goes = λ aside.
-    let fails = next aside in sym (rw (h, fails) at goes)
-
 -- one more section, where none so far has an error
 pub used-next : (fault : Option Error) (t n : UsedSections) (answer : Result (Unit {0}) Error)
     (l rest : List Placed) (p : Placed) (all : Result (List Used) ErrorValue)
     → is_some fault ≡ false → l ≡ p ∷ rest
     → Gives (λ _. used_in n) answer (with_used (used_in t) p.section (used_kind p.section))
     → GoesOn fault t (those l) all → GoesOn (result_err answer) n (those rest) all
-used-next None t n answer l rest p all none h next goes =
-    used-step t n answer l rest p all h next goes
+unfolding used_from
+used-next None t n (Ok _) l rest p all none h next goes = rw (h, next) at goes
+used-next None t n (Err e) l rest p all none h next goes = λ aside.
+    let fails = next aside in sym (rw (h, fails) at goes)
 used-next (Some e) t n answer l rest p all none h next goes = absurd (false≢true (sym none))
 
 -- an error stays
