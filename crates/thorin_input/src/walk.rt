@@ -111,12 +111,12 @@ impl<'a> Walked<'a> {
             types: false,
         };
         for section in file.sections() {
-            with_units |= section.is_of(SectionKind::Info);
-            has_strings |= section.is_called(SectionKind::Str.name());
-            has_abbreviations |= section.is_called(SectionKind::Abbrev.name());
             if fault.is_none() {
                 fault = used.add(&section).err();
             }
+            with_units |= section.is_of(SectionKind::Info);
+            has_strings |= section.is_called(SectionKind::Str.name());
+            has_abbreviations |= section.is_called(SectionKind::Abbrev.name());
         }
         let UsedSections {
             sections,

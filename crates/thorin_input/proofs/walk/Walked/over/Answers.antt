@@ -23,26 +23,6 @@ loop-section-init c =
     }
 
 -- the section is the next one; and what is there is known with it
-pub loop-section-preserved-then-is_none : goal.loop-section-preserved-then-is_none
-loop-section-preserved-then-is_none c =
-    let left : sections_left c.loop-section.section-iterator ≡ placed c.in-Some.section ∷
-    sections_left c.next.new.self = search (rules, c.in-Some.ensures.steps) in
-    let p = placed c.in-Some.section in
-    let before = c.loop-section in
-    let so_far = before.invariant in
-    record {
-      info = rw c.is_of-with_units.ensures.named
-          (any-step (is_of Info) before.with_units _ _ p left ∙ so_far.info);
-      strings = rw (c.is_called-has_strings.ensures, c.name.ensures)
-          (any-step (is_named (name_of Str)) before.has_strings _ _ p left ∙ so_far.strings);
-      abbreviations = rw (c.is_called-has_abbreviations.ensures, c.name-in-loop-section.ensures)
-          (any-step (is_named (name_of Abbrev)) before.has_abbreviations _ _ p left
-          ∙ so_far.abbreviations);
-      used = rw c.err-fault.ensures.value
-          (used-next before.fault before.used c.add.new.self c.add.result _ _ p _
-          (c.is_none.ensures ∙ ap not c.if-is_none.true) left c.add.ensures so_far.used);
-    }
-
 pub loop-section-preserved : goal.loop-section-preserved
 loop-section-preserved c =
     let left : sections_left c.loop-section.section-iterator ≡ placed c.in-Some.section ∷
@@ -58,8 +38,14 @@ loop-section-preserved c =
       abbreviations = rw (c.is_called-has_abbreviations.ensures, c.name-in-loop-section.ensures)
           (any-step (is_named (name_of Abbrev)) before.has_abbreviations _ _ p left
           ∙ so_far.abbreviations);
-      used = used-kept before.fault before.used _ _ _
-          (c.is_none.ensures ∙ ap not c.if-is_none.false) so_far.used;
+      used = elim c.if-is_none.branch [
+        | goal.then-is_none w ↦ rw (w.fault-is, w.used-is, w.err-fault.ensures.value)
+            (used-next before.fault before.used w.add.new.self w.add.result _ _ p _
+            (c.is_none.ensures ∙ ap not w.if-is_none.true) left w.add.ensures so_far.used)
+        | goal.else-is_none w ↦ rw (w.fault-is, w.used-is)
+            (used-kept before.fault before.used _ _ _
+            (c.is_none.ensures ∙ ap not w.if-is_none.false) so_far.used)
+      ];
     }
 
 pub invariant_of-input : goal.invariant_of-input
