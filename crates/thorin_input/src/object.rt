@@ -77,10 +77,7 @@ impl<'a> InputObject<'a> {
     pub fn first(&self, kind: SectionKind) -> &'a [u8]
         ensures { result.now ≡ spec.first kind (object self.now).sections }
     {
-        match self.find(kind) {
-            Some(section) => section.bytes,
-            None => &[],
-        }
+        self.find(kind).map(|section| section.bytes).unwrap_or(&[])
     }
 
     /// The encoding of the input: that of its first unit.
