@@ -35,11 +35,3 @@ returns c =
     c.insert.new.self.entries (ap (λ (name : DwarfObject). record c.in_ok-row.row { id = name })
     (sym c.in_ok-row.ensures.name)) (c.in_ok-insert.ensures.entries ∙ last) in
     rw (added, c.place_for-place.ensures) (search rules)
-
-pub returns-in_err-number : goal.returns-in_err-number
-unfolding with_first
-returns-in_err-number c = search rules
-
-pub returns-in_err-row : goal.returns-in_err-row
-unfolding with_first
-returns-in_err-row c = search rules

@@ -11,8 +11,6 @@ use Rattle.thorin_input.specs.declared.object.UsedSection.{UsedSection}
 use Rattle.thorin_input.specs.UnitView.{adding_of}
 use Rattle.thorin_input.specs.declared.units.Adding.{Adding}
 use Rattle.thorin_input.proofs.held.NewUnits.read.Goals as goal
-use Rattle.std.proofs.Common.{arith}
-use Rattle.std.proofs.lemmas.Grind.{common_steps}
 
 -- the first error of a section is that of all
 stopped : (adding : Adding) (sections : List UsedSection) (i : ℕ) (d : UsedSection)
@@ -37,7 +35,3 @@ returns-in_err-add_section-clause-meaning c =
     rw (p.1, p.2) (λ other. stopped c.args.adding.now c.deref-section-items.result.now
     c.loop-section.section-index _ _ _ c.deref-section-items.ensures.value c.loop-section-test.true
     c.loop-section.invariant.0 (c.in_err-add_section.ensures.meaning other))
-
-pub loop-section-preserved : goal.loop-section-preserved
-unfolding new_units with_each_section
-loop-section-preserved c = grind (arith, common_steps)
