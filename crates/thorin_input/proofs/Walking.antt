@@ -1,26 +1,22 @@
 -- One walk over the sections of an input: what is known of those so far, with those that are left.
 use Rattle.std.proofs.Common.{◌≡◌, ◌∙◌, ℕ, Bool, true, false, not, eqb, ◌||◌, ◌&&◌, List, [], ◌∷◌}
 use Rattle.std.proofs.Common.{map, Option, Some, None, Result, Ok, Err, refl, sym, ap, find}
-use Rattle.std.proofs.Common.{arith, is_some, option_and_then, ok_or}
+use Rattle.std.proofs.Common.{arith, is_some, option_and_then}
 use Rattle.std.specs.Result.{result_err}
 use Rattle.std.specs.List.{list_any}
 use Rattle.std.proofs.Math.Bool.{or_assoc, or-false}
 use Rattle.std.proofs.lemmas.Bool.{false≢true}
 use Rattle.dwp_base.specs.declared.endian.Endianness.{Endianness}
-use Rattle.dwp_base.specs.declared.section.SectionKind.{SectionKind}
 use Rattle.dwp_base.specs.declared.section.SectionKind.TheVariants as kinds
 use Rattle.dwp_base.specs.Sections.{name_of, kind_named, all_kinds}
-use Rattle.dwp_elf_read.specs.declared.error.ReadError.TheVariants.{SectionRange}
-use Rattle.dwp_elf_read.specs.Elf.{Elf, SectionMeaning, SHT_NOBITS, has_compressed_flag}
-use Rattle.dwp_elf_read.specs.Elf.{has_name, has_older_name, is_named}
+use Rattle.dwp_elf_read.specs.Elf.{Elf, SectionMeaning, SHT_NOBITS, has_name, is_named}
 use Rattle.dwp_elf_read.specs.View.{Placed, placed_sections}
-use Rattle.dwp_index.specs.Contents as contents
 use Rattle.dwp_index.specs.Contents.{is_of_kind}
-use Rattle.thorin_errors.specs.Errors.{ErrorValue, error_of, ObjectRead}
-use Rattle.thorin_errors.specs.Answers.{Gives, MemoryAside, as_error}
+use Rattle.thorin_errors.specs.Errors.{ErrorValue, error_of}
+use Rattle.thorin_errors.specs.Answers.{Gives, MemoryAside}
 use Rattle.thorin_errors.specs.declared.error.Error.{Error}
 use Rattle.thorin_input.specs.Encodings.{is_index, is_plain}
-use Rattle.thorin_input.specs.Used.{Used, used_kind, used_bytes, has_kind, with_used}
+use Rattle.thorin_input.specs.Used.{Used, used_kind, has_kind, with_used}
 use Rattle.thorin_input.specs.Used.{used_from, input_file_of}
 use Rattle.thorin_input.specs.View as view
 use Rattle.thorin_input.specs.declared.object.InputObject.{InputObject}
@@ -46,12 +42,6 @@ kind-full s h = rw h (full s.name)
     full (Some own) = refl
 
 pub ruleset kinds_used = (kind-empty, kind-full)
-
-pub bytes-plain : (kind : SectionKind) (s : SectionMeaning)
-    → (has_compressed_flag s || has_older_name kind s.name) ≡ false
-    → used_bytes kind s ≡ as_error ObjectRead (ok_or s.content SectionRange)
-unfolding used_bytes contents.used_bytes
-bytes-plain kind s h = grind (arith, h)
 
 -- ---- kinds among those that are used
 
