@@ -1,6 +1,6 @@
 //! The units that an input adds to a package, each with its row.
 
-ghost use Rattle.std.specs.Prelude.{◌≡◌, ◌&&◌, option_map, None, IfOk, OnOk};
+ghost use Rattle.std.specs.Prelude.{◌≡◌, ◌&&◌, option_map, IfOk, OnOk};
 ghost use Rattle.dwp_units.specs.Units.{unit_of, unit_seen};
 ghost use Rattle.thorin_errors.specs.Answers.{Gives};
 ghost use Rattle.thorin_input.specs.Encodings.{has_encoding, section_has, are_alike};
@@ -189,8 +189,8 @@ impl<'a> NewUnits<'a> {
         }
     }
 
-    /// Adds a unit, or passes over a type unit that is kept already.
-    #[tactic(auto, unfolding(crate::specs::NewUnits::with_unit))]
+    /// Adds the first unit of its name. Passes over a type unit that is kept already.
+    #[tactic(auto, unfolding(crate::specs::NewUnits::with_unit, crate::specs::NewUnits::with_first))]
     fn add_unit(
         &mut self,
         adding: &Adding<'_, 'a, '_>,
@@ -207,34 +207,15 @@ impl<'a> NewUnits<'a> {
     {
         let kept = self.kept_bytes(adding.held, name);
         match (kept, name) {
-            (Some(_), DwarfObject::Compilation(id)) => Err(Error::DuplicateUnit(id.0)),
+            (Some(_), DwarfObject::Compilation(id)) => return Err(Error::DuplicateUnit(id.0)),
             (Some(kept), DwarfObject::TypeUnit(signature)) => {
                 if kept != header.bytes().slice() {
                     self.differing.push(signature)?;
                 }
-                Ok(())
+                return Ok(());
             }
-            (None, _) => self.add_first(adding, placed, section, name, header),
+            (None, _) => {}
         }
-    }
-
-    /// Adds the first unit of its name.
-    #[tactic(auto, unfolding(crate::specs::NewUnits::with_first))]
-    fn add_first(
-        &mut self,
-        adding: &Adding<'_, 'a, '_>,
-        placed: &PlacedRows<'_, '_>,
-        section: UsedSection<'a>,
-        name: DwarfObject,
-        header: &UnitHeader<SliceReader<'a>>,
-    ) -> Result<(), Error>
-        requires placed { ArePlacedIn (view.source adding.now.source.now) section.kind placed.now }
-        requires absent { spec.kept_bytes (adding_of adding.now).held (new_of self.old).units name
-            ≡ None }
-        ensures { Gives (λ _. new_of self.new) result
-            (spec.with_first (adding_of adding.now) (view.used section.entry) name
-            (unit_of ⟦<SliceReader<'a> as Reader>⟧.input header.now) (new_of self.old)) }
-    {
         if section.address != 0 {
             return Err(Error::EmptyUnit(name.index()));
         }

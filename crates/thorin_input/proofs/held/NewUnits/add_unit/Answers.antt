@@ -1,11 +1,11 @@
 use Rattle.std.proofs.Common.{ap, rules, sym, ◌∙◌}
 use Rattle.dwp_table.specs.declared.object.DwarfObject.{DwarfObject}
-use Rattle.thorin_input.specs.NewUnits.{with_first}
+use Rattle.thorin_input.specs.NewUnits.{with_first, with_unit}
 use Rattle.indexmap.proofs.CallerLemmas.{insert_entry-new}
 use Rattle.thorin_input.specs.UnitView.{adding_of}
 use Rattle.thorin_input.proofs.NewUnitLemmas.{added_last, AreNumbered, either_way, not_added}
 use Rattle.thorin_input.proofs.NewUnitLemmas.{numbered_last, numbered_still}
-use Rattle.thorin_input.proofs.held.NewUnits.add_first.Goals as goal
+use Rattle.thorin_input.proofs.held.NewUnits.add_unit.Goals as goal
 
 pub invariant_of-self-2 : goal.invariant_of-self-2
 invariant_of-self-2 c =
@@ -13,7 +13,8 @@ invariant_of-self-2 c =
     let more = c.share.new.entries.items in
     let units = c.args.self.now.units.entries in
     let last = insert_entry-new _ c.args.self.now.units c.args.name _
-    (not_added (adding_of c.args.adding.now).held rows units c.args.name c.requires.absent) in
+    (not_added (adding_of c.args.adding.now).held rows units c.args.name
+    (sym (rw c.in-None-default.is-0 at c.kept_bytes-kept.ensures))) in
     record {
       numbered = either_way c.insert.result _ _ (AreNumbered more c.insert.new.self.entries)
           c.insert.ensures.entries c.insert.ensures.err
@@ -24,12 +25,13 @@ invariant_of-self-2 c =
     }
 
 pub returns : goal.returns
-unfolding with_first
+unfolding with_first with_unit
 returns c =
     let rows = c.args.self.now.rows.items in
     let units = c.args.self.now.units.entries in
     let last = insert_entry-new _ c.args.self.now.units c.args.name _
-    (not_added (adding_of c.args.adding.now).held rows units c.args.name c.requires.absent) in
+    (not_added (adding_of c.args.adding.now).held rows units c.args.name
+    (sym (rw c.in-None-default.is-0 at c.kept_bytes-kept.ensures))) in
     let added = added_last rows c.share.new.entries.items c.share.ensures.kept units
     c.args.self.now.numbered _ _ c.in_ok-row_number.ensures.there c.in_ok-row.row
     c.insert.new.self.entries (ap (λ (name : DwarfObject). record c.in_ok-row.row { id = name })
