@@ -65,14 +65,6 @@ impl<'a> Reader for SectionReader<'a> {
     fn read_length(&mut self, format: Format) -> Result<u64, DwarfReadError> {
         self.reader.read_length(format)
     }
-
-    fn read_offset(&mut self, format: Format) -> Result<u64, DwarfReadError> {
-        self.reader.read_offset(format)
-    }
-
-    fn read_sized_offset(&mut self, size: u8) -> Result<u64, DwarfReadError> {
-        self.reader.read_sized_offset(size)
-    }
 }
 
 /// A section of an executable that is read.
