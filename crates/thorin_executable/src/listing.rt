@@ -77,7 +77,10 @@ fn root_attributes<R: Reader>(
         (spec.root_attributes (R.input debug_abbrev.old) (unit_of R.input header.now)) }
     ensures kept { debug_abbrev.new ≡ debug_abbrev.old }
 {
-    let (code, values) = header.root_code().map_err(Error::ParseUnit)?.ok_or(Error::NoDie)?;
+    let (code, values) = header
+        .root_code()
+        .map_err(Error::ParseUnit)?
+        .ok_or(Error::NoDie)?;
     debug_abbrev
         .split_in(header.abbrev_offset(), code, header.encoding(), values)
         .map_err(Error::ParseUnit)?
@@ -315,7 +318,8 @@ impl<'a> SkeletonUnits<'a> {
         };
         // The path is handed out: what comes next is no path that came before.
         self.named.last.places = None;
-        let path = replace(&mut self.named.last.text, String::new(self.named.last.alloc));
+        let alloc = self.named.last.alloc;
+        let path = replace(&mut self.named.last.text, String::new(alloc));
         Ok(Some(Skeleton {
             target: unit.target,
             path,
