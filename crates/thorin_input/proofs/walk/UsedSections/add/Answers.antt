@@ -6,5 +6,5 @@ use Rattle.thorin_input.proofs.walk.UsedSections.add.Goals as goal
 
 pub returns : goal.returns
 returns c =
-    let kind = kind-full (section c.args.section.now) cc ∙ sym c.in-Some.ensures in
+    let kind = kind-full (section c.args.section.now) (cc) ∙ sym c.in-Some.ensures in
     grind (arith, common_steps, kind)
