@@ -127,10 +127,6 @@ impl<'a> NewUnits<'a> {
             _ => return Ok(()),
         };
         test_once(adding, place, met)?;
-        match place {
-            UnitSection::Info => met.info = true,
-            UnitSection::Types => met.types = true,
-        }
         let indexes = &adding.source.indexes;
         let compilations = RowPlaces::new(alloc, indexes.compilations.as_ref(), section.kind)?;
         let types = RowPlaces::new(alloc, indexes.types.as_ref(), section.kind)?;
@@ -141,6 +137,10 @@ impl<'a> NewUnits<'a> {
         let reader = SliceReader::new(section.bytes, adding.source.object.order);
         for read in UnitHeaders::new(reader, place) {
             self.add_read(adding, &placed, &mut met.tables, section, read)?;
+        }
+        match place {
+            UnitSection::Info => met.info = true,
+            UnitSection::Types => met.types = true,
         }
         Ok(())
     }

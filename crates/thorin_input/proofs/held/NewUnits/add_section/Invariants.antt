@@ -3,7 +3,7 @@ use Rattle.std.specs.List.{list_all}
 use Rattle.dwp_bytes.specs.Input.{section}
 use Rattle.dwp_units.specs.Units.{units, units_left}
 use Rattle.thorin_input.specs.Encodings.{all_have, has_encoding}
-use Rattle.thorin_input.specs.NewUnits.{with_each_read, with_met}
+use Rattle.thorin_input.specs.NewUnits.{with_each_read}
 use Rattle.thorin_input.specs.View.{used}
 use Rattle.thorin_input.specs.UnitView.{adding_of, left_in, met_of, new_of}
 use Rattle.thorin_input.proofs.held.NewUnits.add_section.Given as goal
@@ -17,7 +17,7 @@ invariant-loop-read l =
     ≡ with_each_read (adding_of l.adding) (used l.section) (new_of l.fn.self)
     (units l.place (section l.adding.source.now.object.order l.section.bytes.now)))
     × (l.met.tables ≡ l.fn.met.tables)
-    × (met_of l.met ≡ with_met l.place (met_of l.fn.met))
+    × (met_of l.met ≡ met_of l.fn.met)
     × ((l.self.alike && list_all (has_encoding l.adding.source.now.encoding)
     (units_left left_in l.read-iterator))
     ≡ (l.fn.self.alike && all_have l.adding.source.now.encoding l.adding.source.now.object.order
