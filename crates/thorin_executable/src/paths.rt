@@ -102,11 +102,10 @@ fn object_path<R: Reader>(
         Some(directory) => attr_string(strings, format, base, directory).ok(),
         None => None,
     };
-    let directory = match &directory {
-        Some(directory) => text(directory)?,
-        None => "",
-    };
-    Ok(path_in(alloc, directory, name)?)
+    Ok(match &directory {
+        Some(directory) => path_in(alloc, text(directory)?, name)?,
+        None => path_in(alloc, "", name)?,
+    })
 }
 
 /// Where the string of an attribute stands; none where it is in the unit.

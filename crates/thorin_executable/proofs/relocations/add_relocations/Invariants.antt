@@ -14,4 +14,4 @@ invariant-loop-raw l =
 
 -- what is listed, and what is left
 abbrev pub invariant-loop-offset : goal.invariant-loop-offset
-invariant-loop-offset l = map pair_of l.list.items ++ l.offset-iterator ≡ l.found.entries
+invariant-loop-offset l = map pair_of l.list.items ++ l.offset-iterator ≡ l.initial.offset-iterator

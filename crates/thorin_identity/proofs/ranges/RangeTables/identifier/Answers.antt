@@ -3,8 +3,8 @@ use Rattle.dwp_bytes.specs.Input.{section}
 use Rattle.thorin_identity.proofs.Parts.{part_within}
 use Rattle.thorin_identity.proofs.ranges.RangeTables.identifier.Goals as goal
 
-pub returns-else-is-2-clause-meaning : goal.returns-else-is-2-clause-meaning
-returns-else-is-2-clause-meaning c =
+pub returns-else-eq-2-clause-meaning : goal.returns-else-eq-2-clause-meaning
+returns-else-eq-2-clause-meaning c =
     let inside = c.self.inside in
     let range = c.within-range.result in
     let part = c.or_all-part.result in
