@@ -1,5 +1,7 @@
-use Rattle.std.proofs.Common.{rules, ◌∙◌, ap}
+use Rattle.std.proofs.Common.{◌≡◌, rules, ◌∙◌, ap, arith, drop, take}
+use Rattle.std.proofs.lemmas.Grind.{common_steps}
 use Rattle.dwp_bytes.specs.Input.{section}
+use Rattle.dwp_bytes.specs.contracts.slice.SliceReaderReader.TheImpl as reader
 use Rattle.thorin_identity.proofs.Parts.{part_within}
 use Rattle.thorin_identity.proofs.ranges.RangeTables.identifier.Goals as goal
 
@@ -8,7 +10,9 @@ returns-else-eq-2-clause-meaning c =
     let inside = c.self.inside in
     let range = c.within-range.result in
     let part = c.or_all-part.result in
-    let held = c.take_up.ensures ∙ ap (section inside.order) c.of.ensures in
+    let held : reader.input-value.it c.if-ne.self.cache
+    ≡ section inside.order (drop part.begin (take part.end inside.bytes.now)) =
+    first_of (grind (arith, common_steps), search rules) in
     let same =
     part_within inside.order inside.bytes.now part.begin range.begin range.end part.end _
     c.or_all-part.ensures.begin c.within-range.ensures.order c.or_all-part.ensures.end held
