@@ -1,6 +1,6 @@
 //! The split units of an executable, up to the first error.
 
-ghost use Rattle.std.specs.Prelude.{◌≡◌, [], None, option_map, IfOk, OnErr, string_bytes};
+ghost use Rattle.std.specs.Prelude.{◌≡◌, [], None, Some, option_map, IfOk, OnErr, string_bytes};
 ghost use Rattle.dwp_dwarf.specs.Sections.{strings_of};
 ghost use Rattle.dwp_dwarf.specs.Split.{attributes_of};
 ghost use Rattle.dwp_units.specs.Units.{unit_of, unit_seen, units_left};
@@ -87,8 +87,44 @@ fn root_attributes<R: Reader>(
         .ok_or(Error::ParseUnit(ReadError::UnknownCode))
 }
 
-/// The split unit that the unit that was read next stands for, if it does. The path of its object
-/// becomes the last.
+/// The split unit of this identity. The path of its object becomes the last.
+fn named_unit<R: Reader>(
+    last: &mut LastPath,
+    debug: &DebugData<R>,
+    abbreviations: &mut AbbreviationCache<R>,
+    header: &UnitHeader<R>,
+    target: DwarfObject,
+    nameless: NamelessUnits,
+) -> Result<Option<NamedUnit>, Error>
+    requires section { abbreviations.old ≡ debug.now.debug_abbrev }
+    requires known { IsKept (strings_of R.input debug.now.strings) last.old }
+    ensures meaning { Gives (option_map (named_at (string_bytes last.new.text))) result
+        (spec.named_if nameless (data_of R.input debug.now) (unit_of R.input header.now)
+        (Some target)) }
+    ensures kept { abbreviations.new ≡ abbreviations.old }
+    ensures path { IsPathAfter result (string_bytes last.old.text) (string_bytes last.new.text) }
+    ensures last { IsKept (strings_of R.input debug.now.strings) last.new }
+{
+    let root = root_attributes(abbreviations, header)?;
+    let format = header.encoding().format;
+    match root.object_name() {
+        Some(name) => {
+            let is_repeated = last.set(&debug.strings, format, &root, &name)?;
+            Ok(Some(NamedUnit {
+                target,
+                is_repeated,
+            }))
+        }
+        None => match (nameless, target) {
+            (NamelessUnits::Refused, DwarfObject::Compilation(id)) => {
+                Err(Error::MissingDwoName(id.0))
+            }
+            _ => Ok(None),
+        },
+    }
+}
+
+/// The split unit that the unit that was read next stands for, if it does.
 #[tactic(auto, unfolding(crate::specs::Skeletons::skeleton_read))]
 fn skeleton_read<R: Reader>(
     last: &mut LastPath,
@@ -106,25 +142,9 @@ fn skeleton_read<R: Reader>(
     ensures last { IsKept (strings_of R.input debug.now.strings) last.new }
 {
     let header = read.map_err(Error::ParseUnitHeader)?;
-    let Some(target) = dwo_identifier_remembering(abbreviations, &header)? else {
-        return Ok(None);
-    };
-    let root = root_attributes(abbreviations, &header)?;
-    let format = header.encoding().format;
-    match root.object_name() {
-        Some(name) => {
-            let is_repeated = last.set(&debug.strings, format, &root, &name)?;
-            Ok(Some(NamedUnit {
-                target,
-                is_repeated,
-            }))
-        }
-        None => match (nameless, target) {
-            (NamelessUnits::Refused, DwarfObject::Compilation(id)) => {
-                Err(Error::MissingDwoName(id.0))
-            }
-            _ => Ok(None),
-        },
+    match dwo_identifier_remembering(abbreviations, &header)? {
+        Some(target) => named_unit(last, debug, abbreviations, &header, target, nameless),
+        None => Ok(None),
     }
 }
 
