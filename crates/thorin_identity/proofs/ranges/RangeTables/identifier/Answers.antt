@@ -10,7 +10,7 @@ returns-else-eq-2-clause-meaning c =
     let inside = c.self.inside in
     let range = c.within-range.result in
     let part = c.or_all-part.result in
-    let held : reader.input-value.it c.if-ne.self.cache
+    let held : reader.input-value.it c.if-ne.self-inside.cache
     ≡ section inside.order (drop part.begin (take part.end inside.bytes.now)) =
     first_of (grind (arith, common_steps), search rules) in
     let same =
