@@ -1,6 +1,6 @@
 //! The command lines: their words and texts, and what clap makes of them.
 
-ghost use Rattle.std.specs.Prelude.{◌≡◌, IfOk, Some, map, option_map, string_bytes};
+ghost use Rattle.std.specs.Prelude.{◌≡◌, IfOk, Some, option_map, string_bytes};
 ghost use Rattle.clap.specs.Walk.{texts};
 ghost use Rattle.clap.specs.Words.{app_of, new_rule, rule_of};
 ghost use Rattle.thorin_arguments.specs.Grammar as grammar;
@@ -419,7 +419,13 @@ fn arg_of<'a>(alloc: Global, word: Word) -> Arg<'a>
         Word::Values(name, value, help) => {
             valued(alloc, name, value, help, ArgAction::Append).long(name)
         }
-        Word::Choice(name, value, help, values) => choice(alloc, name, value, help, values),
+        Word::Choice(name, value, help, values) => {
+            valued(alloc, name, value, help, ArgAction::Set)
+                .long(name)
+                .value_parser(values)
+                .hide_possible_values(true)
+                .hide(help.is_empty())
+        }
         Word::Inputs => valued(
             alloc,
             "input",
@@ -449,23 +455,6 @@ fn valued<'a>(
         .value_name(value)
         .help(help)
         .action(action)
-}
-
-/// An option with one of these values.
-fn choice<'a>(
-    alloc: Global,
-    name: &'a str,
-    value: &'a str,
-    help: &'a str,
-    values: &'a [&'a str],
-) -> Arg<'a>
-    ensures { rule_of result ≡ grammar.chosen name.entry.now values.entry }
-{
-    valued(alloc, name, value, help, ArgAction::Set)
-        .long(name)
-        .value_parser(values)
-        .hide_possible_values(true)
-        .hide(help.is_empty())
 }
 
 /// An option without a value.
