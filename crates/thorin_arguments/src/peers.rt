@@ -20,36 +20,26 @@ const OVERFLOW: &'static str = "-continue-on-cu-index-overflow";
 pub fn is_peer(program: &str) -> bool
     ensures { result ≡ peers.is_peer program.now }
 {
-    let name = last_part(program, '/');
-    let last = last_part(name, '-');
+    let (_folders, name) = cut_at_last(program, '/');
+    let (front, last) = cut_at_last(name, '-');
     if last == "dwp" {
         return true;
     }
     match last.as_bytes().first() {
-        Some(byte) if *byte > 47 && *byte < 58 => last_part(before_last(name, '-'), '-') == "dwp",
+        Some(byte) if *byte > 47 && *byte < 58 => cut_at_last(front, '-').1 == "dwp",
         _ => false,
     }
 }
 
-/// What stands behind the last of a mark, all where there is none.
-pub(crate) fn last_part(text: &str, mark: char) -> &str
+/// What stands before the last of a mark, and behind it; where there is none all is behind it.
+pub(crate) fn cut_at_last(text: &str, mark: char) -> (&str, &str)
     requires { mark < 128 }
-    ensures { result.now ≡ peers.last_part mark text.now }
+    ensures front { result.0.now ≡ peers.before_last mark text.now }
+    ensures last { result.1.now ≡ peers.last_part mark text.now }
 {
     match text.rsplit_once(mark) {
-        Some((_front, last)) => last,
-        None => text,
-    }
-}
-
-/// What stands before that mark, nothing where there is none.
-fn before_last(text: &str, mark: char) -> &str
-    requires { mark < 128 }
-    ensures { result.now ≡ peers.before_last mark text.now }
-{
-    match text.rsplit_once(mark) {
-        Some((front, _last)) => front,
-        None => "",
+        Some((front, last)) => (front, last),
+        None => ("", text),
     }
 }
 

@@ -13,7 +13,7 @@ ghost use Rattle.thorin_arguments.specs.Wrong.{is_given, is_wrong_pack, is_wrong
 
 use crate::asking::{Commands, dispatch, has_flag, value_of, values_of};
 use crate::command;
-use crate::peers::{completed, is_peer, last_part};
+use crate::peers::{completed, cut_at_last, is_peer};
 use clap::error::ErrorKind;
 use clap::{ArgMatches, Command, Error};
 use std::alloc::{AllocError, Global};
@@ -220,7 +220,7 @@ fn peer_name(words: &[String]) -> Option<&str>
 {
     let path = words.first()?.as_str();
     if is_peer(path) {
-        Some(last_part(path, '/'))
+        Some(cut_at_last(path, '/').1)
     } else {
         None
     }
