@@ -1,14 +1,13 @@
 //! Looking up the units of a package that is read anew, and what is told of one.
 
 ghost use Rattle.std.specs.Prelude.{◌≡◌, Ok, map, take};
-ghost use Rattle.dwp_base.specs.Reading.{Answers};
 ghost use Rattle.dwp_index.specs.Package.{package_of};
 ghost use Rattle.thorin_c.specs.Finding.{as_status, unit_found, row_found, lent_in, Fills};
 ghost use Rattle.thorin_c.specs.Finding.{FillsEach, object_of, range_of, ranges_of, unit_of};
 ghost use Rattle.thorin_c.specs.Finding.{found_as, looked};
 ghost use Rattle.thorin_c.specs.declared.opened.Lent.TheVariants.{Section, String};
 
-use crate::inside::{thorin_content_in, thorin_string_in};
+use crate::inside::{thorin_content_in, thorin_find_in, thorin_string_in};
 use crate::opening::placed;
 use crate::status::{ABSENT, DONE, NO_SUCH_KIND, status_of};
 use crate::types::{ThorinBytes, ThorinLookup, ThorinRange, ThorinUnit};
@@ -38,9 +37,9 @@ pub extern "C" fn thorin_find(bytes: &[u8], kind: u8, id: u64, found: &mut Thori
     ensures { Fills (λ unit. unit) (unit_found (as_status (package_of bytes.now)) kind id) found.old
         found.new result }
 {
-    match open(bytes) {
-        Ok(file) => fill(&file, kind, id, found),
-        Err(status) => status,
+    match placed(bytes) {
+        Ok(places) => thorin_find_in(&places, bytes, kind, id, found),
+        Err(error) => status_of(error),
     }
 }
 
@@ -106,25 +105,15 @@ pub extern "C" fn thorin_string<'a>(
     }
 }
 
-/// Reads a package.
-fn open(bytes: &[u8]) -> Result<PackageFile<'_>, i32>
-    ensures { Answers (λ x. x) result (as_status (package_of bytes.now)) }
-{
-    match PackageFile::parse(bytes) {
-        Ok(file) => Ok(file),
-        Err(error) => Err(status_of(error)),
-    }
-}
-
 /// Looks up what is wanted of each of many names.
 #[inline(always)]
 fn find_each(bytes: &[u8], wanted: Wanted, lookups: &mut [ThorinLookup]) -> i32
     ensures { FillsEach (found_as wanted) (as_status (package_of bytes.now)) lookups.old lookups.new
         result }
 {
-    let file = match open(bytes) {
+    let file = match PackageFile::parse(bytes) {
         Ok(file) => file,
-        Err(status) => return status,
+        Err(error) => return status_of(error),
     };
     for i in 0..lookups.len() {
         read_ahead(&file, wanted, lookups, i);
