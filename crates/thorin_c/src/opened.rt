@@ -1,7 +1,6 @@
 //! A package that is open: its sections, rows, units and names, and what is lent of them.
 
 ghost use Rattle.std.specs.Prelude.{◌≡◌};
-ghost use Rattle.std.specs.Option.{option_copied};
 ghost use Rattle.dwp_base.specs.Reading.{Answers};
 ghost use Rattle.dwp_index.specs.Contents.{content};
 ghost use Rattle.dwp_index.specs.Package.{index_for, found_counted, row_counted};
@@ -152,9 +151,21 @@ impl<'p, 'a> OpenPackage<'p, 'a> {
     fn listed(&self, object: DwarfObject) -> Result<ListedRow<'a>, i32>
         ensures { Answers row_held result (row_listed object (index_for self.now object)) }
     {
-        match object {
-            DwarfObject::Compilation(_) => listed_by(object, self.compilations.as_ref()),
-            DwarfObject::TypeUnit(_) => listed_by(object, self.types.as_ref()),
+        let index = match object {
+            DwarfObject::Compilation(_) => self.compilations.as_ref().ok_or(ABSENT)?,
+            DwarfObject::TypeUnit(_) => self.types.as_ref().ok_or(ABSENT)?,
+        };
+        let (found, slots) = index.find_counted(object.index());
+        let Some(number) = found else {
+            return Err(ABSENT);
+        };
+        match index.row(number) {
+            Ok(ranges) => Ok(ListedRow {
+                number,
+                ranges,
+                slots,
+            }),
+            Err(_) => Err(MALFORMED_INDEX),
         }
     }
 
@@ -212,28 +223,6 @@ impl<'p, 'a> OpenPackage<'p, 'a> {
                 }
             }
         }
-    }
-}
-
-/// The row of an object in an index.
-#[inline(always)]
-fn listed_by<'a>(object: DwarfObject, index: Option<&UnitIndex<'a>>) -> Result<ListedRow<'a>, i32>
-    ensures { Answers row_held result (row_listed object (option_copied index.entry)) }
-{
-    let Some(index) = index else {
-        return Err(ABSENT);
-    };
-    let (found, slots) = index.find_counted(object.index());
-    let Some(number) = found else {
-        return Err(ABSENT);
-    };
-    match index.row(number) {
-        Ok(ranges) => Ok(ListedRow {
-            number,
-            ranges,
-            slots,
-        }),
-        Err(_) => Err(MALFORMED_INDEX),
     }
 }
 
