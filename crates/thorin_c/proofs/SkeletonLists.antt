@@ -5,7 +5,7 @@ use native.Mathlib.Numerals.{unary_clauses}
 use Rattle.std.proofs.lemmas.List.{append_assoc, append-nil, length-append, map-append}
 use Rattle.thorin_executable.specs.Skeletons.{Named, Listed}
 use Rattle.thorin_errors.specs.Errors.{ErrorValue}
-use Rattle.thorin_c.specs.Skeletons.{paths_of, skeleton_named, IsFirst, AddsFirst, ListsUnits}
+use Rattle.thorin_c.specs.Skeletons.{paths_of, skeleton_named, IsFirst, ListsUnits}
 use Rattle.thorin_c.specs.Skeletons.{room_of, TellsOfEnd}
 use Rattle.thorin_c.specs.Packing.{TellsOfError}
 use Rattle.thorin_c.specs.Listing.{written_over}
@@ -77,22 +77,22 @@ pub none_read : (room : Room) (all : Listed) (first : FirstUnits) → IsFirst ro
     → GoesOn room all all first
 none_read room all first h = record { done = []; is = refl; are_read = h }
 
-module _ (room : Room) (all left after : Listed) (old new : FirstUnits)
-    (h : GoesOn room all left old) where
-  pub goes_on : AddsFirst room left after old new → GoesOn room all after new
-  goes_on a = record {
-    done = h.done ++ a.unit ∷ [];
-    is = h.is ∙ rw a.is (ap (λ l. (l, after.1)) (sym (append_assoc h.done (a.unit ∷ []) after.0)));
-    are_read = a.adds h.done h.are_read;
+module _ (room : Room) (all left : Listed) (old : FirstUnits) (h : GoesOn room all left old) where
+  pub goes_on : (after : Listed) (new : FirstUnits) (unit : Named) → left ≡ (unit ∷ after.0, after.1)
+      → ((units : List Named) → IsFirst room units old → IsFirst room (units ++ unit ∷ []) new)
+      → GoesOn room all after new
+  goes_on after new unit is adds = record {
+    done = h.done ++ unit ∷ [];
+    is = h.is ∙ rw is (ap (λ l. (l, after.1)) (sym (append_assoc h.done (unit ∷ []) after.0)));
+    are_read = adds h.done h.are_read;
   }
 
-  pub ends : (end : Option ErrorValue) → left ≡ ([], end) → new ≡ old
-      → (all.1 ≡ end) × IsFirst room all.0 new
-  ends end e same = rw (same, h.is, e, append-nil h.done) (refl, h.are_read)
+  pub ends : (end : Option ErrorValue) → left ≡ ([], end) → (all.1 ≡ end) × IsFirst room all.0 old
+  ends end e = rw (h.is, e, append-nil h.done) (refl, h.are_read)
 
-pub shorter : (room : Room) (left after : Listed) (old new : FirstUnits)
-    → AddsFirst room left after old new → length after.0 < length left.0
-shorter room left after old new a = rw a.is (omega arith)
+pub shorter : (left after : Listed) (unit : Named) → left ≡ (unit ∷ after.0, after.1)
+    → length after.0 < length left.0
+shorter left after unit is = rw is (omega arith)
 
 -- ---- what is told
 

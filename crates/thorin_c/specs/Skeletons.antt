@@ -1,11 +1,8 @@
 -- What the export that lists the objects of an executable answers.
-use Rattle.std.specs.Prelude.{◌≡◌, ℕ, Bool, true, false, List, [], ◌∷◌, ◌++◌, length, map, take}
-use Rattle.std.specs.Prelude.{Option, Some, None, Result, Ok, Err}
+use Rattle.std.specs.Prelude.{◌≡◌, ℕ, List, [], ◌∷◌, ◌++◌, length, map, take, Option, Some, None}
 use Rattle.dwp_table.specs.Objects.{identifier_of}
-use Rattle.thorin_errors.specs.Answers.{MemoryAside}
-use Rattle.thorin_errors.specs.Errors.{ErrorValue, error_of}
-use Rattle.thorin_errors.specs.declared.error.Error.{Error}
-use Rattle.thorin_executable.specs.Skeletons.{Named, Listed}
+use Rattle.thorin_errors.specs.Errors.{ErrorValue}
+use Rattle.thorin_executable.specs.Skeletons.{Named}
 use Rattle.thorin_c.specs.Errors.{Tells}
 use Rattle.thorin_c.specs.Listing.{kind_number, written_over}
 use Rattle.thorin_c.specs.declared.types.ThorinReport.{ThorinReport}
@@ -62,17 +59,3 @@ pub record IsFirst (room : Room) (units : List Named) (first : FirstUnits) : Typ
 -- the room that a caller has
 abbrev pub room_of : List ThorinSkeleton → List ℕ → Room
 room_of names paths = record { names = length names; paths = length paths }
-
--- what is read next of a list, and what is left of it: its first unit, which comes to those that
--- were read before; or its end; or the error that ends it
-pub record AddsFirst (room : Room) (listed left : Listed) (old new : FirstUnits) : Type 0 where
-  pub unit : Named
-  pub is : listed ≡ (unit ∷ left.0, left.1)
-  pub adds : (units : List Named) → IsFirst room units old → IsFirst room (units ++ unit ∷ []) new
-
-abbrev pub IsNextFirst : Room → (listed left : Listed) → (old new : FirstUnits)
-    → Result Bool Error → Type 0
-IsNextFirst room listed left old new (Ok true) = AddsFirst room listed left old new
-IsNextFirst room listed left old new (Ok false) = (listed ≡ ([], None)) × (new ≡ old)
-IsNextFirst room listed left old new (Err e) =
-    MemoryAside e ((listed ≡ ([], Some (error_of e))) × (new ≡ old))

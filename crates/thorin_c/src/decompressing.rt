@@ -1,7 +1,6 @@
 //! Files with plain sections in place of compressed ones.
 
-ghost use Rattle.std.specs.Prelude.{◌≡◌, ◌≢◌, pos, length, take, Ok, Err};
-ghost use Rattle.std.specs.Prelude.{Some, None};
+ghost use Rattle.std.specs.Prelude.{◌≡◌, ◌≢◌, pos, length, Ok, Err, Some, None};
 ghost use Rattle.dwp_decompress.specs.Result.{decompressed_of};
 ghost use Rattle.dwp_decompress.specs.declared.asked.Asked.TheVariants.{All};
 ghost use Rattle.dwp_decompress.specs.declared.error.DecompressError.TheVariants.{Memory};

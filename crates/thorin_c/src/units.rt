@@ -4,7 +4,7 @@ ghost use Rattle.std.specs.Prelude.{◌≡◌, ◌≢◌, ◌+◌, ◌++◌, ◌
 ghost use Rattle.std.specs.Prelude.{IfOk, OnOk};
 ghost use Rattle.thorin_errors.specs.Errors.{error_of};
 ghost use Rattle.thorin_executable.specs.Skeletons.{Named, skeletons_of};
-ghost use Rattle.thorin_c.specs.Skeletons.{IsFirst, IsNextFirst};
+ghost use Rattle.thorin_c.specs.Skeletons.{IsFirst};
 
 use crate::listing::kind_number;
 use crate::types::ThorinSkeleton;
@@ -65,7 +65,7 @@ impl FirstUnits {
     }
 
     /// Reads those that are left.
-    #[tactic(auto, using(crate::proofs::SkeletonLists::none_read, crate::proofs::SkeletonLists::goes_on, crate::proofs::SkeletonLists::shorter, crate::proofs::SkeletonLists::ends))]
+    #[tactic(auto, using(crate::proofs::SkeletonLists::none_read, crate::proofs::SkeletonLists::ends))]
     fn read_left(
         &mut self,
         units: &mut NamedUnits<'_>,
@@ -76,25 +76,11 @@ impl FirstUnits {
         ensures first { OnOk result (IsFirst room units.old.listed.0 self.new) }
     {
         loop {
-            match self.read_next(units, room) {
-                Ok(true) => {}
-                Ok(false) => return Ok(None),
+            match units.next() {
+                Ok(Some(unit)) => self.add(room, unit.target, units.path())?,
+                Ok(None) => return Ok(None),
                 Err(error) => return ended(error),
             }
-        }
-    }
-
-    /// Reads the next of them. Answers whether there was one.
-    fn read_next(&mut self, units: &mut NamedUnits<'_>, room: Room) -> Result<bool, Error>
-        ensures { IsNextFirst room units.old.listed units.new.listed self.old self.new result }
-    {
-        match units.next() {
-            Ok(Some(unit)) => match self.add(room, unit.target, units.path()) {
-                Ok(()) => Ok(true),
-                Err(AllocError) => Err(Error::Memory),
-            },
-            Ok(None) => Ok(false),
-            Err(error) => Err(error),
         }
     }
 

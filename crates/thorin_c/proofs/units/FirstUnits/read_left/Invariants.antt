@@ -2,9 +2,9 @@ use Rattle.std.proofs.Common.{length}
 use Rattle.thorin_c.proofs.SkeletonLists.{GoesOn}
 use Rattle.thorin_c.proofs.units.FirstUnits.read_left.Given as goal
 
-abbrev pub decreases-loop-error : goal.decreases-loop-error
-decreases-loop-error l = length l.units.listed.0
+abbrev pub decreases-loop-unit : goal.decreases-loop-unit
+decreases-loop-unit l = length l.units.listed.0
 
 -- the units so far were read, and the others are left
-abbrev pub invariant-loop-error : goal.invariant-loop-error
-invariant-loop-error l = GoesOn l.room l.initial.units.listed l.units.listed l.self
+abbrev pub invariant-loop-unit : goal.invariant-loop-unit
+invariant-loop-unit l = GoesOn l.room l.initial.units.listed l.units.listed l.self
