@@ -70,27 +70,28 @@ impl fmt::Display for Failure {
 
     #[tactic(auto, using(crate::proofs::Hex::hex8_written))]
     fn fmt<W: fmt::Write>(&self, f: &mut fmt::Formatter<W>) -> fmt::Result {
-        match self {
-            Failure::Output => f.write_str("Failed to write output file"),
-            Failure::Overwrites => f.write_str("Output file is an input: --force overwrites it"),
-            Failure::Response => f.write_str("Failed to read response file"),
-            Failure::Line => f.write_str("Failed to write standard output"),
-            Failure::Input => f.write_str("Failed to read input file"),
-            Failure::Malformed => f.write_str("Malformed package"),
-            Failure::NoIndex => f.write_str("no index: not a package"),
-            Failure::NoUnit(id) => write!(f, "Unit 0x{id:08x} is not in the package"),
-            Failure::BadKind => f.write_str("Bad unit kind"),
-            Failure::BadIdentifier => f.write_str("Bad identifier"),
-            Failure::BadNumber => f.write_str("Bad number"),
-            Failure::BadSection => f.write_str("Bad section kind"),
-            Failure::NoString(number) => write!(f, "Unit has no string {number}"),
+        let text = match self {
+            Failure::Output => "Failed to write output file",
+            Failure::Overwrites => "Output file is an input: --force overwrites it",
+            Failure::Response => "Failed to read response file",
+            Failure::Line => "Failed to write standard output",
+            Failure::Input => "Failed to read input file",
+            Failure::Malformed => "Malformed package",
+            Failure::NoIndex => "no index: not a package",
+            Failure::NoUnit(id) => return write!(f, "Unit 0x{id:08x} is not in the package"),
+            Failure::BadKind => "Bad unit kind",
+            Failure::BadIdentifier => "Bad identifier",
+            Failure::BadNumber => "Bad number",
+            Failure::BadSection => "Bad section kind",
+            Failure::NoString(number) => return write!(f, "Unit has no string {number}"),
             Failure::NoRange(kind) => {
                 let name = kind.short_name();
-                write!(f, "Unit has no range of {name}")
+                return write!(f, "Unit has no range of {name}");
             }
-            Failure::BadCommand => f.write_str("Bad command line"),
-            Failure::Memory => f.write_str("Out of memory"),
-        }
+            Failure::BadCommand => "Bad command line",
+            Failure::Memory => "Out of memory",
+        };
+        f.write_str(text)
     }
 }
 
