@@ -4,6 +4,7 @@ use Rattle.std.proofs.Common.{ℕ, Option, Some, None, Ok, Err, IsTrue, ◌≢�
 use Rattle.std.proofs.Common.{subst}
 use Rattle.std.specs.Borrow.{Bor}
 use Rattle.clap.proofs.OnLiterals.{clap_on_literals}
+use Rattle.clap.proofs.WalkLemmas.{both}
 use Rattle.clap.specs.Faults.{fault_of, is_simple_and_free}
 use Rattle.clap.specs.Kinds.{HasKind, IsAmong}
 use Rattle.clap.specs.Simple.{App, HasMatchesOf, is_simple, matches_of, subcommand_of}
@@ -27,21 +28,11 @@ plain_thorin : (which : Bor (List (Bor Text))) → is_simple_and_free (thorin wh
 unfolding clap_on_literals thorin
 plain_thorin which = refl
 
-plain_thorin_alone : (which : Bor (List (Bor Text))) → is_simple (thorin which) ≡ true
-unfolding clap_on_literals thorin
-plain_thorin_alone which = refl
-
 plain_peer : (name : Text) (of_llvm : Bool) (which how : Bor (List (Bor Text)))
     → is_simple_and_free (peer name of_llvm which how) ≡ true
 unfolding clap_on_literals peer
 plain_peer name true which how = refl
 plain_peer name false which how = refl
-
-plain_peer_alone : (name : Text) (of_llvm : Bool) (which how : Bor (List (Bor Text)))
-    → is_simple (peer name of_llvm which how) ≡ true
-unfolding clap_on_literals peer
-plain_peer_alone name true which how = refl
-plain_peer_alone name false which how = refl
 
 free : (named : Option Text) (app : App) → IsLine named app → is_simple_and_free app ≡ true
 free (Some name) app (which, how, _, _, is) =
@@ -49,9 +40,7 @@ free (Some name) app (which, how, _, _, is) =
 free None app (which, _, is) = ap is_simple_and_free is ∙ plain_thorin which
 
 simple : (named : Option Text) (app : App) → IsLine named app → is_simple app ≡ true
-simple (Some name) app (which, how, _, _, is) =
-    ap is_simple is ∙ plain_peer_alone name (is_of_llvm name) which how
-simple None app (which, _, is) = ap is_simple is ∙ plain_thorin_alone which
+simple named app is = (both (is_simple app) _ (free named app is)).0
 
 -- whether a kind of error is of a text that is asked for
 is_text : (k : ErrorKind) → IsText k ⊎ (¬ IsText k)
