@@ -109,11 +109,11 @@ impl Lack {
         let Ok(file) = ElfFile::parse(bytes) else {
             return Lack::Unknown;
         };
-        let has = |name: &str| file.section_by_name(name).is_some();
-        let is_linked = has(".debug_info") || has(".zdebug_info");
+        let is_linked = file.section_by_name(".debug_info").is_some()
+            || file.section_by_name(".zdebug_info").is_some();
         match (is_executable, is_linked) {
             (true, true) => Lack::Whole,
-            (true, false) if has(".debug_info.dwo") => Lack::Split,
+            (true, false) if file.section_by_name(".debug_info.dwo").is_some() => Lack::Split,
             (true, false) => Lack::Stripped,
             (false, true) => Lack::Linked,
             (false, false) => Lack::Bare,
