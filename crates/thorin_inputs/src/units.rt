@@ -161,14 +161,11 @@ impl Encodings {
 /// none where it has none that can be read.
 fn encoding_of(file: &[u8]) -> Option<(Encoding, Endianness)> {
     let file = ElfFile::parse(file).ok()?;
-    let section = file.section_by_name(".debug_info.dwo")?;
-    let bytes = section.data().ok()?;
     let order = file.endianness();
-    let mut units = UnitHeaders::new(SliceReader::new(bytes, order), UnitSection::Info);
-    match units.next() {
-        Some(Ok(unit)) => Some((unit.encoding(), order)),
-        _ => None,
-    }
+    let section = file.section_by_name(".debug_info.dwo")?;
+    let mut units = units_in(&section, order)?;
+    let unit = units.next()?.ok()?;
+    Some((unit.encoding(), order))
 }
 
 /// Warnings of objects with several sections of macros, one for each input.
