@@ -415,10 +415,7 @@ fn first_of<'a>(
 fn or_nothing(content: Option<&[u8]>) -> &[u8]
     ensures { result.now ≡ or_nothing (option_copied content.entry) }
 {
-    match content {
-        Some(content) => content,
-        None => &[],
-    }
+    content.unwrap_or(&[])
 }
 
 /// The plain content of a section; nothing where it is compressed, or can't be read.
