@@ -51,6 +51,13 @@ is_text k = inr (λ h. elim h [
   | inr e ↦ absurd cc
 ])
 
+-- an error of options that don't go together is of none
+pub no_text : (e : Error) → kind_of e ≡ kinds.ArgumentConflict → ¬ IsText (kind_of e)
+no_text e is = rw is (λ h. elim h [
+  | inl text ↦ absurd cc
+  | inr text ↦ absurd cc
+])
+
 module _ (named : Option Text) (app : App) (is : IsLine named app) (line words : List Text)
     (are : AreReadAs named line words) where
   matched : (m : ArgMatches) → fault_of app words ≡ [] → HasMatchesOf app words m

@@ -4,9 +4,9 @@
 ghost use Rattle.std.specs.Prelude.{◌≡◌, ◌||◌, IfOk, List, Option, if◌then◌else◌, is_some};
 ghost use Rattle.std.specs.Prelude.{option_map};
 ghost use Rattle.clap.specs.Walk.{Text};
-ghost use Rattle.clap.specs.Words.{app_of, found_of, kind_of, rows_of};
+ghost use Rattle.clap.specs.Words.{app_of, found_of, rows_of};
 ghost use Rattle.thorin_arguments.specs.Asked.{Does, IsCallBy, IsCallOf, words_in};
-ghost use Rattle.thorin_arguments.specs.Grammar.{IsLine, IsText};
+ghost use Rattle.thorin_arguments.specs.Grammar.{IsLine};
 ghost use Rattle.thorin_arguments.specs.Peers.{peer_of};
 ghost use Rattle.thorin_arguments.specs.Reading.{AreReadAs, IsReadAs, IsTested, are_wrong};
 ghost use Rattle.thorin_arguments.specs.Wrong.{is_given, is_wrong_pack, is_wrong_peer, lack_marks};
@@ -169,6 +169,7 @@ fn read_by<'a>(
 
 /// Whether nothing is wrong with the matches beside what clap tests; else what is said of it, with
 /// the usage of the command that it is of.
+#[tactic(auto, using(crate::proofs::Matched::no_text))]
 fn tested(
     alloc: Global,
     command: &mut Command<'_>,
@@ -177,27 +178,16 @@ fn tested(
 ) -> Result<(), Error>
     ensures { IsTested is_peer matches.now result }
 {
-    let Some(wrong) = wrong_in(is_peer, matches) else {
+    let Some(text) = wrong_in(is_peer, matches) else {
         return Ok(());
     };
     let Some((name, _words)) = matches.subcommand() else {
-        return Err(told(command, wrong)?);
+        return Err(command.error(ErrorKind::ArgumentConflict, text)?);
     };
     let mut own = command::part(alloc, name)?;
-    let error = told(&mut own, wrong);
+    let error = own.error(ErrorKind::ArgumentConflict, text);
     drop(own);
     Err(error?)
-}
-
-/// What is said of wrong words of a command line, with its usage.
-fn told(command: &mut Command<'_>, wrong: Wrong) -> Result<Error, AllocError>
-    ensures { IfOk result (λ error. ¬ IsText (kind_of error)) }
-{
-    match wrong {
-        Wrong::Lacks(text) => command.error(ErrorKind::MissingRequiredArgument, text),
-        Wrong::Value(text) => command.error(ErrorKind::ValueValidation, text),
-        Wrong::Clash(text) => command.error(ErrorKind::ArgumentConflict, text),
-    }
 }
 
 fn command_line<'a>(
@@ -226,19 +216,8 @@ fn peer_name(words: &[String]) -> Option<&str>
     }
 }
 
-/// What is wrong with the words of a command.
-#[derive(Clone, Copy)]
-enum Wrong {
-    /// One is lacking.
-    Lacks(&'static str),
-    /// The value of one isn't what it has to be.
-    Value(&'static str),
-    /// Two don't go together.
-    Clash(&'static str),
-}
-
 /// What is wrong with the matches of a line, of a peer where it is one, if anything is.
-fn wrong_in(is_peer: bool, matches: &ArgMatches<'_>) -> Option<Wrong>
+fn wrong_in(is_peer: bool, matches: &ArgMatches<'_>) -> Option<&'static str>
     ensures { is_some result ≡ are_wrong is_peer matches.now }
 {
     if is_peer {
@@ -249,22 +228,18 @@ fn wrong_in(is_peer: bool, matches: &ArgMatches<'_>) -> Option<Wrong>
         "pack" => wrong_in_packing(false, words),
         "find" if is_given(words, "section") => {
             if is_given(words, "string") {
-                Some(Wrong::Clash(
-                    "the argument '--section <SECTION>' cannot be used with '--string <N>'",
-                ))
+                Some("the argument '--section <SECTION>' cannot be used with '--string <N>'")
             } else if has_flag(words, "json") {
-                Some(Wrong::Clash(
-                    "the argument '--section <SECTION>' cannot be used with '--json'",
-                ))
+                Some("the argument '--section <SECTION>' cannot be used with '--json'")
             } else {
                 None
             }
         }
         "list" if has_flag(words, "columns") => {
             if has_flag(words, "names") {
-                Some(Wrong::Clash("the argument '--columns' cannot be used with '--names'"))
+                Some("the argument '--columns' cannot be used with '--names'")
             } else if has_flag(words, "json") {
-                Some(Wrong::Clash("the argument '--columns' cannot be used with '--json'"))
+                Some("the argument '--columns' cannot be used with '--json'")
             } else {
                 None
             }
@@ -275,7 +250,7 @@ fn wrong_in(is_peer: bool, matches: &ArgMatches<'_>) -> Option<Wrong>
 
 /// What is wrong with the words of `pack` or of a peer, for which a single executable names the
 /// package.
-fn wrong_in_packing(is_peer: bool, matches: &ArgMatches<'_>) -> Option<Wrong>
+fn wrong_in_packing(is_peer: bool, matches: &ArgMatches<'_>) -> Option<&'static str>
     ensures { is_some result ≡ (if is_peer then is_wrong_peer (rows_of (found_of matches.now))
         else is_wrong_pack (rows_of (found_of matches.now))) }
 {
@@ -283,22 +258,18 @@ fn wrong_in_packing(is_peer: bool, matches: &ArgMatches<'_>) -> Option<Wrong>
     if !lists_missing && !is_given(matches, "output") {
         let executables = values_of(matches, "exec").unwrap_or(&[]).len();
         if is_peer && executables > 1 {
-            return Some(Wrong::Lacks(
-                "--output <OUT> is required with more than one --exec <EXEC>",
-            ));
+            return Some("--output <OUT> is required with more than one --exec <EXEC>");
         }
         if !is_peer || executables == 0 {
-            return Some(Wrong::Lacks(
-                "the following required arguments were not provided:\n  --output <OUT>",
-            ));
+            return Some("the following required arguments were not provided:\n  --output <OUT>");
         }
     }
     if lists_missing && !is_given(matches, "exec") {
-        Some(Wrong::Value("--missing needs --exec <EXEC>"))
+        Some("--missing needs --exec <EXEC>")
     } else if lack_marks(matches) {
-        Some(Wrong::Value("the value of --prefix-map <FROM=TO> has no `=`"))
+        Some("the value of --prefix-map <FROM=TO> has no `=`")
     } else if has_flag(matches, "last-macros") && has_flag(matches, "no-macros") {
-        Some(Wrong::Clash("the argument '--last-macros' cannot be used with '--no-macros'"))
+        Some("the argument '--last-macros' cannot be used with '--no-macros'")
     } else {
         None
     }
