@@ -158,7 +158,13 @@ pub fn dispatch<C: Commands>(matches: &ArgMatches<'_>, is_peer: bool, commands: 
         "pack" => commands.pack(arguments_of(matches, false)),
         "find" => commands.find(find_arguments(matches)),
         "list" => list(matches, commands),
-        "check" => check(matches, commands),
+        "check" => commands.check(CheckArguments {
+            file: word_of(matches, "file"),
+            executables: values_of(matches, "exec").unwrap_or(&[]),
+            skips_nameless: has_flag(matches, "skip-nameless"),
+            decompresses: has_flag(matches, "decompress"),
+            json: has_flag(matches, "json"),
+        }),
         _ => commands.refuse_words(),
     }
 }
@@ -191,20 +197,6 @@ fn list<C: Commands>(matches: &ArgMatches<'_>, commands: &mut C) -> u8
         json: has_flag(matches, "json"),
     };
     commands.list(word_of(matches, "file"), arguments)
-}
-
-/// Checks the package that the words name, for the executables that they name.
-fn check<C: Commands>(matches: &ArgMatches<'_>, commands: &mut C) -> u8
-    ensures { Does C.does (AsksBy (codes "check") (rows_of (found_of matches.now))) commands.old
-        result commands.new }
-{
-    commands.check(CheckArguments {
-        file: word_of(matches, "file"),
-        executables: values_of(matches, "exec").unwrap_or(&[]),
-        skips_nameless: has_flag(matches, "skip-nameless"),
-        decompresses: has_flag(matches, "decompress"),
-        json: has_flag(matches, "json"),
-    })
 }
 
 /// A word that a command line must have, by its name.
