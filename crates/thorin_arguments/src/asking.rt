@@ -1,9 +1,9 @@
 //! What a command line asks for: the commands with the settings of each, and which of them the
 //! matches of a line call.
 
-ghost use Rattle.std.specs.Prelude.{◌≡◌, ℕ, codes};
+ghost use Rattle.std.specs.Prelude.{◌≡◌, ℕ};
 ghost use Rattle.clap.specs.Words.{found_of, rows_of, subcommand_rows_of};
-ghost use Rattle.thorin_arguments.specs.Asked.{AreValues, Asks, AsksBy, AsksFind, AsksPack};
+ghost use Rattle.thorin_arguments.specs.Asked.{AreValues, Asks, AsksFind, AsksPack};
 ghost use Rattle.thorin_arguments.specs.Asked.{Call, Checks, Does, Finds, IsStatusOf, IsValue};
 ghost use Rattle.thorin_arguments.specs.Asked.{IsWord};
 ghost use Rattle.thorin_arguments.specs.Asked.{LacksMemory, Lists, Packs, Refuses, Shows};
@@ -157,7 +157,16 @@ pub fn dispatch<C: Commands>(matches: &ArgMatches<'_>, is_peer: bool, commands: 
     match name {
         "pack" => commands.pack(arguments_of(matches, false)),
         "find" => commands.find(find_arguments(matches)),
-        "list" => list(matches, commands),
+        "list" => {
+            let arguments = ListArguments {
+                sizes: has_flag(matches, "sizes"),
+                names: has_flag(matches, "names"),
+                columns: has_flag(matches, "columns"),
+                decompresses: has_flag(matches, "decompress"),
+                json: has_flag(matches, "json"),
+            };
+            commands.list(word_of(matches, "file"), arguments)
+        }
         "check" => commands.check(CheckArguments {
             file: word_of(matches, "file"),
             executables: values_of(matches, "exec").unwrap_or(&[]),
@@ -182,21 +191,6 @@ fn find_arguments<'a>(matches: &ArgMatches<'a>) -> FindArguments<'a>
         decompresses: has_flag(matches, "decompress"),
         json: has_flag(matches, "json"),
     }
-}
-
-/// Lists the package that the words name.
-fn list<C: Commands>(matches: &ArgMatches<'_>, commands: &mut C) -> u8
-    ensures { Does C.does (AsksBy (codes "list") (rows_of (found_of matches.now))) commands.old
-        result commands.new }
-{
-    let arguments = ListArguments {
-        sizes: has_flag(matches, "sizes"),
-        names: has_flag(matches, "names"),
-        columns: has_flag(matches, "columns"),
-        decompresses: has_flag(matches, "decompress"),
-        json: has_flag(matches, "json"),
-    };
-    commands.list(word_of(matches, "file"), arguments)
 }
 
 /// A word that a command line must have, by its name.
