@@ -1,7 +1,8 @@
 -- Inputs taken one after the other.
 use Rattle.std.proofs.Common.{◌≡◌, ◌∙◌, ℕ, ◌+◌, true, List, [], ◌∷◌, ◌++◌, refl, sym, ap}
-use Rattle.std.proofs.Common.{Ok, Err, ◌<◌, if◌then◌else◌, inl, length, take, get_or, map}
+use Rattle.std.proofs.Common.{Ok, Err, ◌<◌, ◌≤◌, if◌then◌else◌, inl, inr, length, take, get_or, map}
 use Rattle.std.proofs.Common.{arith}
+use Rattle.std.specs.Prelude.{◌≢◌, ◌⊎◌, ℤ, pos}
 use Rattle.std.proofs.lemmas.List.{map_more, length-map}
 use Rattle.std.proofs.Math.Seq.{take-append_seam}
 use Rattle.thorin_errors.specs.Errors.{error_of, NoOutputObjectCreated}
@@ -22,7 +23,8 @@ use Rattle.thorin_again.specs.PlainInputs.{AreTaken}
 use Rattle.thorin.specs.Again.{IsTakenAgain}
 use Rattle.thorin.specs.Groups.{taken_each}
 use Rattle.thorin.proofs.Running.{taken-then, each-taken, join-append}
-use Rattle.thorin_c.specs.Packing.{bytes_of, Accepts, StopsAt, Leaves}
+use Rattle.thorin_c.specs.Packing.{bytes_of, Accepts, StopsAt, Leaves, IsFailure}
+use Rattle.thorin_c.specs.Packing.{IsDifferingStatus}
 use Rattle.thorin_c.specs.Packing.{TellsRefused, TellsUnfinished, Refuses, RunsOutAt}
 use Rattle.thorin_c.specs.Packing.{RunsOutAfter, IsPackage, ArePackedAgain, Differ}
 use Rattle.thorin_c.specs.declared.types.ThorinBytes.{ThorinBytes}
@@ -68,27 +70,45 @@ pub runs_out_at : (inputs : List ThorinBytes) (old : State) (refusal : RefusedIn
 runs_out_at inputs old refusal number is at here = rw here
     (record { within = at.within; state = at.state; before = rw (← is) at.before })
 
--- and of a package that can't be finished
-pub unfinished : (inputs : List ThorinBytes) (error : Error) (report : ThorinReport)
-    → Leaves inputs error → Tells (error_of error) report → (error ≡ errors.Memory → ⊥)
-    → TellsUnfinished inputs report
-unfinished inputs error report is told not_memory = record {
-  error = error_of error;
-  state = is.state;
-  accepted = is.accepted;
-  refused = is.refused not_memory;
-  told = told;
-}
+-- an input was refused, or memory ran out at it: the package was not finished
+pub at_an_input : (X : Type 0) (status : ℤ) (number count : ℕ) → number < count
+    → (status ≡ pos 12 → (count ≤ number) × X)
+    → (status ≡ pos 11) ⊎ ((status ≡ pos 12) ⊎ (status ≡ pos 13)) → IsDifferingStatus status
+at_an_input X status number count lt past (inl is) = inr (inl is)
+at_an_input X status number count lt past (inr (inl is)) = absurd (omega (arith, lt, (past is).0))
+at_an_input X status number count lt past (inr (inr is)) = inr (inr is)
 
--- and of one for which memory ran out
-pub runs_out_after : (inputs : List ThorinBytes) (error : Error) (number : ℕ) → Leaves inputs error
-    → error ≡ errors.Memory → number ≡ length inputs → RunsOutAfter inputs number
-runs_out_after inputs error number is out all = record {
-  some = rw all (is.memory out);
-  all = all;
-  state = is.state;
-  accepted = is.accepted;
-}
+-- what is told of inputs that weren't packed
+module _ (inputs : List ThorinBytes) (refusal : RefusedInput) where
+  pub packing_refused : (report : ThorinReport) → IsFailure inputs refusal
+      → refusal.number < length inputs → TellsRefused refusal.number refusal.error report
+      → Refuses inputs report
+  packing_refused report (inl at) lt told = refuses inputs start refusal report refl at told
+  packing_refused report (inr is) lt told = absurd (omega (arith, lt, is.0))
+
+  pub packing_unfinished : (report : ThorinReport) → IsFailure inputs refusal
+      → length inputs ≤ refusal.number → refusal.error ≢ errors.Memory
+      → Tells (error_of refusal.error) report → TellsUnfinished inputs report
+  packing_unfinished report (inl at) le not_memory told = absurd (omega (arith, le, at.within))
+  packing_unfinished report (inr is) le not_memory told = record {
+    error = error_of refusal.error;
+    state = is.1.state;
+    accepted = is.1.accepted;
+    refused = is.1.refused not_memory;
+    told = told;
+  }
+
+  pub packing_out : (number : ℕ) → IsFailure inputs refusal → refusal.error ≡ errors.Memory
+      → number ≡ refusal.number → RunsOutAt inputs number ⊎ RunsOutAfter inputs number
+  packing_out number (inl at) out here = inl (runs_out_at inputs start refusal number refl at here)
+  packing_out number (inr is) out here =
+      let all = here ∙ is.0 in
+      inr (record {
+        some = rw all (is.1.memory out);
+        all = all;
+        state = is.1.state;
+        accepted = is.1.accepted;
+      })
 
 -- the package of inputs that are all accepted
 pub packs : (inputs : List ThorinBytes) (state : State) (signatures : List DebugTypeSignature)
@@ -143,14 +163,17 @@ none_begun = refl
 
 -- no input makes no package
 pub none_fails : (inputs : List ThorinBytes) → length inputs ≡ 0
-    → Leaves inputs errors.NoOutputObjectCreated
+    → IsFailure inputs (record { number = 0; error = errors.NoOutputObjectCreated })
 unfolding taken_each
-none_fails [] e = record {
-  state = start;
-  accepted = record { taken = refl; joined = refl };
-  refused = λ h. inl none_begun;
-  memory = λ e. absurd cc;
-}
+none_fails [] e = inr (
+  refl,
+  record {
+    state = start;
+    accepted = record { taken = refl; joined = refl };
+    refused = λ h. inl none_begun;
+    memory = λ e. absurd cc;
+  },
+)
 none_fails (x ∷ inputs) e = absurd (omega arith)
 
 -- the signatures of those that differ

@@ -16,8 +16,7 @@ use Rattle.thorin.specs.Groups.{taken_each}
 use Rattle.thorin.specs.Run.{IsWritten, RefusesToWrite}
 use Rattle.thorin_c.specs.Errors.{Tells}
 use Rattle.thorin_c.specs.Listing.{written_over}
-use Rattle.thorin_c.specs.declared.packing.PackingFailure.{PackingFailure}
-use Rattle.thorin_c.specs.declared.packing.PackingFailure.TheVariants as failures
+use Rattle.thorin_c.specs.declared.packing.RefusedInput.{RefusedInput}
 use Rattle.thorin_c.specs.declared.types.ThorinBytes.{ThorinBytes}
 use Rattle.thorin_c.specs.declared.types.ThorinReport.{ThorinReport}
 use Rattle.std.specs.declared.io.Error.{Error as IoError}
@@ -74,10 +73,10 @@ pub record Leaves (inputs : List ThorinBytes) (error : Error) : Type 0 where
   pub refused : MemoryAside error (RefusesToWrite state (error_of error))
   pub memory : error ≡ errors.Memory → 0 < length inputs
 
--- why inputs weren't packed
-abbrev pub IsFailure : List ThorinBytes → PackingFailure → Type 0
-IsFailure inputs (failures.Input input) = StopsAt inputs start input.number input.error
-IsFailure inputs (failures.Package error) = Leaves inputs error
+-- why inputs weren't packed: one isn't taken, or the package can't be finished or written
+abbrev pub IsFailure : List ThorinBytes → RefusedInput → Type 0
+IsFailure inputs refusal = StopsAt inputs start refusal.number refusal.error
+    ⊎ ((refusal.number ≡ length inputs) × Leaves inputs refusal.error)
 
 -- what is told of a refused input; never want of memory
 pub record TellsRefused (number : ℕ) (error : Error) (report : ThorinReport) : Type 0 where

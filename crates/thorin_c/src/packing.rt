@@ -1,10 +1,13 @@
 //! Packing objects and packages.
 
-ghost use Rattle.std.specs.Prelude.{◌≡◌, ◌≢◌, ◌<◌, true, map, take, length, IfOk, IfErr, OnOk, pos, ◌⊎◌};
-ghost use Rattle.std.specs.Prelude.{if◌then◌else◌};
+ghost use Rattle.std.specs.Prelude.{◌≡◌, ◌≢◌, ◌<◌, ◌≤◌, true, map, take, length, IfOk, IfErr, OnOk};
+ghost use Rattle.std.specs.Prelude.{pos, ◌⊎◌, if◌then◌else◌};
+ghost use Rattle.thorin_errors.specs.Errors.{error_of};
+ghost use Rattle.thorin_errors.specs.declared.error.Error.TheVariants.{Memory};
 ghost use Rattle.thorin_join.specs.Represents.{units_in};
 ghost use Rattle.thorin_join.specs.Join.{IsPackageOf};
 ghost use Rattle.thorin.specs.Run.{Writes};
+ghost use Rattle.thorin_c.specs.Errors.{Tells};
 ghost use Rattle.thorin_c.specs.Listing.{written_over};
 ghost use Rattle.thorin_c.specs.Packing.{Accepts, StopsAt, IsPackage, IsFailure, TellsRefused};
 ghost use Rattle.thorin_c.specs.Packing.{ArePackedAgain, Packs, Needs, Refuses};
@@ -32,20 +35,12 @@ struct FinishedPackage {
     packs_again: bool,
 }
 
-/// An input that was refused, or at which memory ran out: its number, and the error.
+/// Why inputs weren't packed: the number of the one that was refused, or at which memory ran out,
+/// and the error. Where the package can't be finished or written, it is how many inputs there are.
 #[derive(Drop)]
 struct RefusedInput {
     number: usize,
     error: Error,
-}
-
-/// Why inputs weren't packed.
-#[derive(Drop)]
-enum PackingFailure {
-    /// An input was refused.
-    Input(RefusedInput),
-    /// The package can't be finished or written.
-    Package(Error),
 }
 
 /// Packs objects and packages in order, and answers 0: the package stands at the beginning of
@@ -88,7 +83,7 @@ pub extern "C" fn thorin_pack(
             out[..len].copy_from_slice(packed.file.as_slice());
             DONE
         }
-        Err(failure) => tell_failure(failure, inputs, report),
+        Err(refusal) => refused(refusal, inputs, report),
     }
 }
 
@@ -123,17 +118,22 @@ pub extern "C" fn thorin_differing_types(
         }
         Err(refusal) => {
             drop(builder);
-            refused(refusal, report)
+            refused(refusal, inputs, report)
         }
     }
 }
 
-// Tells of an input that was refused, or at which memory ran out.
-fn refused(refusal: RefusedInput, report: &mut ThorinReport) -> i32
-    ensures told { result ≡ pos 11 → TellsRefused refusal.number refusal.error report.new }
-    ensures memory { result ≡ pos 13 → report.new.input ≡ refusal.number }
-    ensures status { (result ≡ pos 11) ⊎ (result ≡ pos 13) }
+// Tells why inputs weren't packed.
+fn refused(refusal: RefusedInput, inputs: &[ThorinBytes<'_>], report: &mut ThorinReport) -> i32
+    ensures told { result ≡ pos 11 → (refusal.number < length inputs.now)
+        × TellsRefused refusal.number refusal.error report.new }
+    ensures unfinished { result ≡ pos 12 → (length inputs.now ≤ refusal.number)
+        × ((refusal.error ≢ Memory) × Tells (error_of refusal.error) report.new) }
+    ensures memory { result ≡ pos 13 → (refusal.error ≡ Memory)
+        × (report.new.input ≡ refusal.number) }
+    ensures status { (result ≡ pos 11) ⊎ ((result ≡ pos 12) ⊎ (result ≡ pos 13)) }
     ensures input_alone { result ≡ pos 11 → TellsOfInput report.old report.new }
+    ensures error_alone { result ≡ pos 12 → TellsOfError report.old report.new }
     ensures memory_alone { result ≡ pos 13 → TellsOfMemory report.old report.new }
 {
     let RefusedInput { number, error } = refusal;
@@ -142,43 +142,16 @@ fn refused(refusal: RefusedInput, report: &mut ThorinReport) -> i32
         return NO_MEMORY;
     }
     tell(error, report);
+    if number >= inputs.len() {
+        return UNFINISHED;
+    }
     report.input = number as u64;
     REFUSED
 }
 
-// Tells why inputs weren't packed.
-#[tactic(auto, using(crate::proofs::Taking::refuses, crate::proofs::Taking::unfinished, crate::proofs::Taking::runs_out_at, crate::proofs::Taking::runs_out_after))]
-fn tell_failure(
-    failure: PackingFailure,
-    inputs: &[ThorinBytes<'_>],
-    report: &mut ThorinReport,
-) -> i32
-    requires { IsFailure inputs.now failure }
-    ensures refused { result ≡ pos 11 → Refuses inputs.now report.new }
-    ensures unfinished { result ≡ pos 12 → TellsUnfinished inputs.now report.new }
-    ensures memory { result ≡ pos 13 → RunsOutAt inputs.now report.new.input
-        ⊎ RunsOutAfter inputs.now report.new.input }
-    ensures status { (result ≡ pos 11) ⊎ ((result ≡ pos 12) ⊎ (result ≡ pos 13)) }
-    ensures input_alone { result ≡ pos 11 → TellsOfInput report.old report.new }
-    ensures error_alone { result ≡ pos 12 → TellsOfError report.old report.new }
-    ensures memory_alone { result ≡ pos 13 → TellsOfMemory report.old report.new }
-{
-    match failure {
-        PackingFailure::Input(input) => refused(input, report),
-        PackingFailure::Package(error) => {
-            if matches!(error, Error::Memory) {
-                report.input = inputs.len() as u64;
-                return NO_MEMORY;
-            }
-            tell(error, report);
-            UNFINISHED
-        }
-    }
-}
-
 // The package of inputs.
 #[tactic(auto, using(crate::proofs::Taking::none_fails))]
-fn package_of(alloc: Global, inputs: &[ThorinBytes<'_>]) -> Result<FinishedPackage, PackingFailure>
+fn package_of(alloc: Global, inputs: &[ThorinBytes<'_>]) -> Result<FinishedPackage, RefusedInput>
     ensures packed { IfOk result (λ packed. IsPackage inputs.now packed.differing
         (if packed.packs_again then 1 else 0) packed.file.items) }
     ensures again { IfOk result (λ packed. packed.packs_again ≡ true
@@ -186,14 +159,17 @@ fn package_of(alloc: Global, inputs: &[ThorinBytes<'_>]) -> Result<FinishedPacka
     ensures refused { IfErr result (IsFailure inputs.now) }
 {
     if inputs.is_empty() {
-        return Err(PackingFailure::Package(Error::NoOutputObjectCreated));
+        return Err(RefusedInput {
+            number: 0,
+            error: Error::NoOutputObjectCreated,
+        });
     }
     written_packages_are_taken_again();
     let session = NoFiles {};
     let mut builder = DwarfPackage::new(alloc, &session);
     if let Err(refusal) = add_all(&mut builder, inputs) {
         drop(builder);
-        return Err(PackingFailure::Input(refusal));
+        return Err(refusal);
     }
     let differing = builder.differing_types().len() as u64;
     let packs_again = builder.packs_again();
@@ -203,7 +179,10 @@ fn package_of(alloc: Global, inputs: &[ThorinBytes<'_>]) -> Result<FinishedPacka
             differing,
             packs_again,
         }),
-        Err(error) => Err(PackingFailure::Package(error)),
+        Err(error) => Err(RefusedInput {
+            number: inputs.len(),
+            error,
+        }),
     }
 }
 

@@ -1,4 +1,4 @@
-use Rattle.std.proofs.Common.{◌∙◌, ◌<◌, length, rules, sym}
+use Rattle.std.proofs.Common.{◌∙◌, ◌<◌, inr, length, rules, sym}
 use Rattle.thorin_c.proofs.Taking.{packs, taken_again, fails}
 use Rattle.thorin_c.proofs.packing.package_of.Goals as goal
 
@@ -20,5 +20,8 @@ pub returns-in-Err-written-clause-refused : goal.returns-in-Err-written-clause-r
 returns-in-Err-written-clause-refused c =
     let some : 0 < length c.args.inputs.now = search rules in
     let accepted = rw c.new-builder.ensures.state at c.in_default.ensures.accepted in
-    fails c.args.inputs.now _ c.in-Err-written.error some accepted
-    c.in-Err-written.ensures.writes
+    inr (
+      search rules,
+      fails c.args.inputs.now _ c.in-Err-written.error some accepted
+          c.in-Err-written.ensures.writes,
+    )

@@ -1,5 +1,5 @@
 use Rattle.std.proofs.Common.{◌≡◌, length, rules, arith}
-use Rattle.thorin_c.proofs.Taking.{handed_over}
+use Rattle.thorin_c.proofs.Taking.{handed_over, packing_out, packing_refused, packing_unfinished}
 use Rattle.thorin_c.proofs.packing.thorin_pack.Goals as goal
 use Rattle.thorin_c.proofs.packing.thorin_pack.Goals.{then-packed, else-packed}
 
@@ -22,3 +22,18 @@ returns-then-len-out-clause-small c = search rules
 
 pub returns-then-len-out-clause-alone : goal.returns-then-len-out-clause-alone
 returns-then-len-out-clause-alone c = search rules
+
+pub returns-in-Err-clause-refused : goal.returns-in-Err-clause-refused
+returns-in-Err-clause-refused c = λ h. let told = c.refused.ensures.told (search (rules, h)) in
+    packing_refused c.args.inputs.now c.in-Err.refusal _ c.in-Err.ensures.refused told.0 told.1
+
+pub returns-in-Err-clause-unfinished : goal.returns-in-Err-clause-unfinished
+returns-in-Err-clause-unfinished c =
+    λ h. let told = c.refused.ensures.unfinished (search (rules, h)) in
+    packing_unfinished c.args.inputs.now c.in-Err.refusal _ c.in-Err.ensures.refused told.0
+    told.1.0 told.1.1
+
+pub returns-in-Err-clause-memory : goal.returns-in-Err-clause-memory
+returns-in-Err-clause-memory c =
+    λ h. let told = c.refused.ensures.memory (search (rules, h)) in
+    packing_out c.args.inputs.now c.in-Err.refusal _ c.in-Err.ensures.refused told.0 told.1
