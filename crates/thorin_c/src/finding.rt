@@ -147,53 +147,43 @@ fn read_ahead(file: &PackageFile<'_>, wanted: Wanted, lookups: &mut [ThorinLooku
 fn complete(file: &PackageFile<'_>, wanted: Wanted, lookup: &mut ThorinLookup)
     ensures { lookup.new ≡ looked (found_as wanted) file.now lookup.old }
 {
-    lookup.status = match wanted {
-        Wanted::Unit => fill(file, lookup.kind, lookup.id, &mut lookup.unit),
-        Wanted::Row => fill_row(file, lookup.kind, lookup.id, &mut lookup.unit),
-    };
+    lookup.status = fill(file, wanted, lookup.kind, lookup.id, &mut lookup.unit);
 }
 
-/// Fills in the unit of a name.
+/// Fills in what is wanted of a name.
 #[tactic(auto, unfolding(crate::specs::Finding::of_name))]
-fn fill(file: &PackageFile<'_>, kind: u8, id: u64, found: &mut ThorinUnit) -> i32
-    ensures { Fills (λ unit. unit) (unit_found (Ok file.now) kind id) found.old found.new result }
+#[inline(always)]
+fn fill(file: &PackageFile<'_>, wanted: Wanted, kind: u8, id: u64, found: &mut ThorinUnit) -> i32
+    ensures { Fills (λ unit. unit) (found_as wanted (Ok file.now) kind id) found.old found.new
+        result }
 {
     let object = match object_of(kind, id) {
         Ok(object) => object,
         Err(status) => return status,
     };
-    match &file.find_counted(object) {
-        Ok((Some(unit), slots)) => {
-            write(
-                unit.ranges(),
-                unit.row(),
-                *slots,
-                Some(unit.encoding()),
-                found,
-            );
-            DONE
-        }
-        Ok((None, _)) => ABSENT,
-        Err(error) => status_of(*error),
-    }
-}
-
-/// Fills in the row of a name.
-#[tactic(auto, unfolding(crate::specs::Finding::of_name))]
-fn fill_row(file: &PackageFile<'_>, kind: u8, id: u64, found: &mut ThorinUnit) -> i32
-    ensures { Fills (λ unit. unit) (row_found (Ok file.now) kind id) found.old found.new result }
-{
-    let object = match object_of(kind, id) {
-        Ok(object) => object,
-        Err(status) => return status,
-    };
-    match &file.find_row(object) {
-        Ok((Some((number, row)), slots)) => {
-            write(row, *number, *slots, None, found);
-            DONE
-        }
-        Ok((None, _)) => ABSENT,
-        Err(error) => status_of(*error),
+    match wanted {
+        Wanted::Unit => match &file.find_counted(object) {
+            Ok((Some(unit), slots)) => {
+                write(
+                    unit.ranges(),
+                    unit.row(),
+                    *slots,
+                    Some(unit.encoding()),
+                    found,
+                );
+                DONE
+            }
+            Ok((None, _)) => ABSENT,
+            Err(error) => status_of(*error),
+        },
+        Wanted::Row => match &file.find_row(object) {
+            Ok((Some((number, row)), slots)) => {
+                write(row, *number, *slots, None, found);
+                DONE
+            }
+            Ok((None, _)) => ABSENT,
+            Err(error) => status_of(*error),
+        },
     }
 }
 
