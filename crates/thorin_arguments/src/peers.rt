@@ -79,8 +79,7 @@ fn whole_word(
         ≡ spec.whole_word of_llvm (texts names.now) word.now) }
 {
     if of_llvm && (word == "-version" || word == "-help" || begins(OVERFLOW, word)) {
-        let mut dashed = String::from_str(alloc, "-")?;
-        dashed.push_str(word)?;
+        let dashed = format!(in alloc; "-{word}")?;
         whole_long(alloc, names, dashed.as_str())
     } else {
         whole_long(alloc, names, word)
