@@ -54,11 +54,7 @@ impl<'a> Prefixes<'a> {
             string_bytes mapped ≡ spec.mapped self.now.words.now path.now) }
     {
         match self.longest(path) {
-            Some((to, rest)) => {
-                let mut mapped = String::from_str(self.alloc, to)?;
-                mapped.push_str(rest)?;
-                Ok(mapped)
-            }
+            Some((to, rest)) => format!(in self.alloc; "{to}{rest}"),
             None => String::from_str(self.alloc, path),
         }
     }
