@@ -121,10 +121,7 @@ fn ended(error: Error) -> Result<Option<Error>, AllocError>
 fn sum(a: u64, b: u64) -> Result<u64, AllocError>
     ensures { IfOk result (λ c. c ≡ a + b) }
 {
-    match a.checked_add(b) {
-        Some(c) => Ok(c),
-        None => Err(AllocError),
-    }
+    a.checked_add(b).ok_or(AllocError)
 }
 
 /// Puts as much behind the first of a list as there is room for.
