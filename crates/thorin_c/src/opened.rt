@@ -156,9 +156,7 @@ impl<'p, 'a> OpenPackage<'p, 'a> {
             DwarfObject::TypeUnit(_) => self.types.as_ref().ok_or(ABSENT)?,
         };
         let (found, slots) = index.find_counted(object.index());
-        let Some(number) = found else {
-            return Err(ABSENT);
-        };
+        let number = found.ok_or(ABSENT)?;
         match index.row(number) {
             Ok(ranges) => Ok(ListedRow {
                 number,
