@@ -425,8 +425,5 @@ pub(crate) fn content<'a>(section: &Section<'a>) -> &'a [u8]
     if section.is_compressed() {
         return &[];
     }
-    match section.data() {
-        Ok(content) => content,
-        Err(_) => &[],
-    }
+    section.data().unwrap_or(&[])
 }
