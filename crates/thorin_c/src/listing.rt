@@ -20,10 +20,7 @@ pub extern "C" fn thorin_unit_count(bytes: &[u8], count: &mut u64) -> i32
     ensures { Fills (λ count. count) (count_in (as_status (package_of bytes.now))) count.old
         count.new result }
 {
-    match placed(bytes) {
-        Ok(places) => thorin_list_in(&places, bytes, &mut [], count),
-        Err(error) => status_of(error),
-    }
+    thorin_list(bytes, &mut [], count)
 }
 
 /// Lists the units that the indexes of a package name, those of the index of compilation units
