@@ -278,13 +278,7 @@ pub(crate) fn command<'a>(alloc: Global, version: &'a str) -> Result<Command<'a>
         .subcommand_required(true);
     let parts = &lines[1..];
     for line in parts {
-        let part = match command_of(alloc, line) {
-            Ok(part) => part,
-            Err(AllocError) => {
-                drop(command);
-                return Err(AllocError);
-            }
-        };
+        let part = command_of(alloc, line)?;
         command = command.subcommand(part)?;
     }
     command.bin_name("thorin")
