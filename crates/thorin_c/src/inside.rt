@@ -135,7 +135,6 @@ pub extern "C" fn thorin_list_in(
 }
 
 /// Lends what is asked for of the unit of a name.
-#[tactic(auto, unfolding(crate::specs::Finding::of_name))]
 fn lend<'a>(
     places: &ThorinPackage,
     bytes: &'a [u8],
@@ -151,15 +150,7 @@ fn lend<'a>(
         Ok(pack) => pack,
         Err(error) => return status_of(error),
     };
-    let object = match object_of(kind, id) {
-        Ok(object) => object,
-        Err(status) => return status,
-    };
-    let unit = match pack.unit(object) {
-        Ok(unit) => unit,
-        Err(status) => return status,
-    };
-    match pack.lent(&unit, lent) {
+    match pack.lent(lent, kind, id) {
         Ok(bytes) => {
             found.bytes = bytes;
             DONE

@@ -1,16 +1,17 @@
 //! A package that is open: its sections, rows, units and names, and what is lent of them.
 
-ghost use Rattle.std.specs.Prelude.{◌≡◌};
+ghost use Rattle.std.specs.Prelude.{◌≡◌, Ok};
 ghost use Rattle.dwp_base.specs.Reading.{Answers};
 ghost use Rattle.dwp_index.specs.Contents.{content};
 ghost use Rattle.dwp_index.specs.Package.{index_for, found_counted, row_counted};
 ghost use Rattle.dwp_index.specs.Package.{row_bytes, first_outside};
 ghost use Rattle.thorin_c.specs.ByIndex.{row_listed};
-ghost use Rattle.thorin_c.specs.Finding.{of_object, lent_of};
+ghost use Rattle.thorin_c.specs.Finding.{of_object, lent_in};
 ghost use Rattle.dwp_index.specs.Entries.{units_left, entries_from};
 ghost use Rattle.thorin_c.specs.OpenedFields.{row_held, unit_held};
 ghost use Rattle.thorin_c.specs.Opening.{package_in, order_of, sections_at};
 
+use crate::finding::object_of;
 use crate::status::{
     ABSENT, MALFORMED_INDEX, MALFORMED_STRING, MALFORMED_UNIT, NO_SUCH_SECTION, NO_SUCH_STRING,
     RANGE_OUTSIDE,
@@ -196,11 +197,12 @@ impl<'p, 'a> OpenPackage<'p, 'a> {
         }
     }
 
-    /// What is lent of a unit.
-    pub(crate) fn lent(&self, unit: &PlacedUnit<'a>, lent: Lent) -> Result<&'a [u8], i32>
-        ensures { Answers (λ bytes. bytes.now) result (lent_of lent self.now.order
-            self.now.contents unit.now.row.ranges unit.now.encoding) }
+    /// What is lent of the unit of a name.
+    #[tactic(auto, unfolding(crate::specs::Finding::of_name))]
+    pub(crate) fn lent(&self, lent: Lent, kind: u8, id: u64) -> Result<&'a [u8], i32>
+        ensures { Answers (λ bytes. bytes.now) result (lent_in lent (Ok self.now) kind id) }
     {
+        let unit = self.unit(object_of(kind, id)?)?;
         let ranges = &unit.row.ranges;
         match lent {
             Lent::Section(number) => match CONTRIBUTION_KINDS.get(number as usize) {
