@@ -332,7 +332,19 @@ pub(crate) fn part<'a>(alloc: Global, name: &str) -> Result<Command<'a>, AllocEr
 pub(crate) fn takers_of(alloc: Global, option: &str) -> Result<String, AllocError> {
     let mut names = String::new(alloc);
     for line in lines() {
-        if line.words.iter().any(|word| is_named(*word, option)) {
+        let takes = line.words.iter().any(|word| {
+            let short = match word {
+                Word::Output => "-o",
+                Word::Executables(_) => "-e",
+                Word::Verbose => "-v",
+                _ => "",
+            };
+            match long_name(*word) {
+                Some(long) => option == short || option.strip_prefix("--") == Some(long),
+                None => false,
+            }
+        });
+        if takes {
             names.push_str(if names.is_empty() { "" } else { ", " })?;
             names.push_str(line.name)?;
         }
@@ -354,20 +366,6 @@ pub(crate) fn long_names(alloc: Global, peer: &str) -> Result<Vec<&'static str>,
     names.push("help")?;
     names.push("version")?;
     Ok(names)
-}
-
-/// Whether a word of a command line is the option of this name, behind its dashes.
-fn is_named(word: Word, option: &str) -> bool {
-    let short = match word {
-        Word::Output => "-o",
-        Word::Executables(_) => "-e",
-        Word::Verbose => "-v",
-        _ => "",
-    };
-    match long_name(word) {
-        Some(long) => option == short || option.strip_prefix("--") == Some(long),
-        None => false,
-    }
 }
 
 /// The long name of an option.
