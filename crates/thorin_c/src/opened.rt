@@ -9,7 +9,7 @@ ghost use Rattle.thorin_c.specs.ByIndex.{row_listed};
 ghost use Rattle.thorin_c.specs.Finding.{of_object, lent_in};
 ghost use Rattle.dwp_index.specs.Entries.{units_left, entries_from};
 ghost use Rattle.thorin_c.specs.OpenedFields.{row_held, unit_held};
-ghost use Rattle.thorin_c.specs.Opening.{package_in, order_of, sections_at};
+ghost use Rattle.thorin_c.specs.Opening.{package_in, sections_at};
 
 use crate::finding::object_of;
 use crate::status::{
@@ -128,7 +128,11 @@ impl<'p, 'a> OpenPackage<'p, 'a> {
         ensures { Answers (λ x. x) result (package_in places.now bytes.now) }
     {
         let sections = PlacedSections { places, bytes };
-        let order = order_of(places.big_endian);
+        let order = if places.big_endian == 0 {
+            Endianness::Little
+        } else {
+            Endianness::Big
+        };
         let compilations = read_index(sections.of(SectionKind::CuIndex), order)?;
         let types = read_index(sections.of(SectionKind::TuIndex), order)?;
         Ok(OpenPackage {
@@ -223,16 +227,5 @@ impl<'p, 'a> OpenPackage<'p, 'a> {
                 }
             }
         }
-    }
-}
-
-/// The byte order of a number.
-fn order_of(big_endian: u64) -> Endianness
-    ensures { result ≡ order_of big_endian }
-{
-    if big_endian == 0 {
-        Endianness::Little
-    } else {
-        Endianness::Big
     }
 }
