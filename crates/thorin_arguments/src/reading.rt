@@ -155,16 +155,9 @@ fn read_by<'a>(
         → (line : List Text) → AreReadAs peer line (words_in words.now)
         → IsReadAs peer line result }
 {
-    match command.try_get_matches_from_mut(words) {
-        Ok(matches) => match tested(alloc, command, is_peer, &matches) {
-            Ok(()) => Ok(matches),
-            Err(error) => {
-                drop(matches);
-                Err(error)
-            }
-        },
-        Err(error) => Err(error),
-    }
+    let matches = command.try_get_matches_from_mut(words)?;
+    tested(alloc, command, is_peer, &matches)?;
+    Ok(matches)
 }
 
 /// Whether nothing is wrong with the matches beside what clap tests; else what is said of it, with
