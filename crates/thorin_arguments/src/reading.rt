@@ -95,10 +95,7 @@ fn refusal(
     let again = read_by(alloc, &mut command, peer.is_some(), shown.as_slice());
     drop(command);
     match again {
-        Ok(matches) => {
-            drop(matches);
-            format!(in alloc; "{error}")
-        }
+        Ok(_matches) => format!(in alloc; "{error}"),
         Err(own) if own.kind() == ErrorKind::OutOfMemory => Err(AllocError),
         Err(own) => with_tip(alloc, shown.as_slice(), &own),
     }
