@@ -22,7 +22,7 @@ use std::alloc::Global;
 /// read, 15 where a compressed section's header is damaged or its stream of zlib's, 18 where that of
 /// zstd's is, 16 where it is compressed in another way, 17 where the plain file can't be written, 13
 /// where memory ran out. `out` is left as it is but at 0, and `size` but at 0 and 10.
-#[tactic(auto, using(crate::proofs::PlainFiles::told_early, crate::proofs::PlainFiles::tells_none))]
+#[tactic(auto, using(crate::proofs::PlainFiles::plain_put, crate::proofs::PlainFiles::room_needed, crate::proofs::PlainFiles::told, crate::proofs::PlainFiles::told_early, crate::proofs::PlainFiles::tells_none))]
 #[unsafe(no_mangle)]
 pub extern "C" fn thorin_decompress(
     alloc: Global,
@@ -41,24 +41,11 @@ pub extern "C" fn thorin_decompress(
     match plain_length(bytes, Asked::All) {
         Ok(Some(length)) if length > out.len() as u64 => {
             *size = length;
-            TOO_SMALL
+            return TOO_SMALL;
         }
-        Ok(_) => put_plain(alloc, bytes, out, size),
-        Err(error) => status_of(error),
+        Ok(_) => {}
+        Err(error) => return status_of(error),
     }
-}
-
-/// Writes the plain file, or tells why not, once the headers are read.
-#[tactic(auto, using(crate::proofs::PlainFiles::plain_put, crate::proofs::PlainFiles::room_needed, crate::proofs::PlainFiles::told, crate::proofs::PlainFiles::tells_none))]
-fn put_plain(alloc: Global, bytes: &[u8], out: &mut [u8], size: &mut u64) -> i32
-    ensures plain { result ≡ pos 0 → Decompresses bytes.now size.new out.old out.new }
-    ensures small { result ≡ pos 10 → NeedsRoom bytes.now size.new (length out.old) }
-    ensures none { result ≡ pos 14 → decompressed_of All bytes.now ≡ Ok None }
-    ensures error { TellsError result → IsError bytes.now result }
-    ensures status { IsPlainStatus result }
-    ensures unchanged { result ≢ pos 0 → out.new ≡ out.old }
-    ensures untold { result ≢ pos 0 → result ≢ pos 10 → size.new ≡ size.old }
-{
     match decompressed(alloc, bytes, Asked::All) {
         Ok(Some(file)) => {
             let len = file.len();
