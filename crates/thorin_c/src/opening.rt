@@ -110,8 +110,6 @@ fn used_place(used: &Section<'_>, kind: SectionKind) -> Result<ThorinRange, Read
     if used.is_compressed() || used.has_older_name(kind) {
         return Err(ReadError::Compressed);
     }
-    match used.file_range() {
-        None => Err(ReadError::SectionRange),
-        Some((offset, size)) => Ok(ThorinRange { offset, size }),
-    }
+    let (offset, size) = used.file_range().ok_or(ReadError::SectionRange)?;
+    Ok(ThorinRange { offset, size })
 }
