@@ -220,11 +220,8 @@ impl<'p, 'a> OpenPackage<'p, 'a> {
                     order: self.order,
                     encoding: unit.encoding,
                 };
-                match offsets.string(number) {
-                    Ok(Some(string)) => Ok(string),
-                    Ok(None) => Err(NO_SUCH_STRING),
-                    Err(_) => Err(MALFORMED_STRING),
-                }
+                let string = offsets.string(number).map_err(|_| MALFORMED_STRING)?;
+                string.ok_or(NO_SUCH_STRING)
             }
         }
     }
