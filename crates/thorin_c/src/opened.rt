@@ -162,14 +162,12 @@ impl<'p, 'a> OpenPackage<'p, 'a> {
         };
         let (found, slots) = index.find_counted(object.index());
         let number = found.ok_or(ABSENT)?;
-        match index.row(number) {
-            Ok(ranges) => Ok(ListedRow {
-                number,
-                ranges,
-                slots,
-            }),
-            Err(_) => Err(MALFORMED_INDEX),
-        }
+        let ranges = index.row(number).map_err(|_| MALFORMED_INDEX)?;
+        Ok(ListedRow {
+            number,
+            ranges,
+            slots,
+        })
     }
 
     /// The row of an object, whose ranges lie inside their sections.
