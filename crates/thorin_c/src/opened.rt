@@ -193,10 +193,8 @@ impl<'p, 'a> OpenPackage<'p, 'a> {
         let row = self.row(object)?;
         let place = place_of(object, row.ranges.range(SectionKind::Types));
         let bytes = self.sections.row_bytes(&row.ranges, kind_of(place));
-        match encoding_in(bytes, self.order, place) {
-            Ok(encoding) => Ok(PlacedUnit { row, encoding }),
-            Err(_) => Err(MALFORMED_UNIT),
-        }
+        let encoding = encoding_in(bytes, self.order, place).map_err(|_| MALFORMED_UNIT)?;
+        Ok(PlacedUnit { row, encoding })
     }
 
     /// What is lent of the unit of a name.
