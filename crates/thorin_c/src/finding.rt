@@ -164,13 +164,8 @@ fn fill(file: &PackageFile<'_>, wanted: Wanted, kind: u8, id: u64, found: &mut T
     match wanted {
         Wanted::Unit => match &file.find_counted(object) {
             Ok((Some(unit), slots)) => {
-                write(
-                    unit.ranges(),
-                    unit.row(),
-                    *slots,
-                    Some(unit.encoding()),
-                    found,
-                );
+                let encoding = Some(unit.encoding());
+                write(unit.ranges(), unit.row(), *slots, encoding, found);
                 DONE
             }
             Ok((None, _)) => ABSENT,
