@@ -8,7 +8,7 @@ ghost use Rattle.thorin_c.specs.declared.opened.Lent.TheVariants.{Section, Strin
 
 use crate::finding::{object_of, write};
 use crate::listing::list;
-use crate::opened::{Lent, OpenPackage, PlacedUnit};
+use crate::opened::{Lent, OpenPackage};
 use crate::status::{DONE, status_of};
 use crate::types::{ThorinBytes, ThorinName, ThorinPackage, ThorinUnit};
 
@@ -36,7 +36,7 @@ pub extern "C" fn thorin_find_in(
         Err(status) => return status,
     };
     match pack.unit(object) {
-        Ok(PlacedUnit { row, encoding }) => {
+        Ok((row, encoding)) => {
             write(&row.ranges, row.number, row.slots, Some(encoding), found);
             DONE
         }

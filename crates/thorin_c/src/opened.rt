@@ -101,13 +101,6 @@ pub(crate) struct ListedRow<'a> {
     pub(crate) slots: u32,
 }
 
-/// A unit by its row, and the encoding in its header.
-#[derive(Drop)]
-pub(crate) struct PlacedUnit<'a> {
-    pub(crate) row: ListedRow<'a>,
-    pub(crate) encoding: Encoding,
-}
-
 /// What is lent of a unit.
 #[derive(Clone, Copy)]
 pub(crate) enum Lent {
@@ -183,10 +176,10 @@ impl<'p, 'a> OpenPackage<'p, 'a> {
         Ok(row)
     }
 
-    /// The unit of an object.
+    /// The row of an object's unit, and the encoding in its header.
     #[tactic(auto, using(crate::proofs::ByIndex::unit_is))]
     #[inline(always)]
-    pub(crate) fn unit(&self, object: DwarfObject) -> Result<PlacedUnit<'a>, i32>
+    pub(crate) fn unit(&self, object: DwarfObject) -> Result<(ListedRow<'a>, Encoding), i32>
         ensures { Answers (unit_held self.now object) result
             (of_object found_counted self.now object) }
     {
@@ -194,7 +187,7 @@ impl<'p, 'a> OpenPackage<'p, 'a> {
         let place = place_of(object, row.ranges.range(SectionKind::Types));
         let bytes = self.sections.row_bytes(&row.ranges, kind_of(place));
         let encoding = encoding_in(bytes, self.order, place).map_err(|_| MALFORMED_UNIT)?;
-        Ok(PlacedUnit { row, encoding })
+        Ok((row, encoding))
     }
 
     /// What is lent of the unit of a name.
@@ -202,8 +195,8 @@ impl<'p, 'a> OpenPackage<'p, 'a> {
     pub(crate) fn lent(&self, lent: Lent, kind: u8, id: u64) -> Result<&'a [u8], i32>
         ensures { Answers (λ bytes. bytes.now) result (lent_in lent (Ok self.now) kind id) }
     {
-        let unit = self.unit(object_of(kind, id)?)?;
-        let ranges = &unit.row.ranges;
+        let (row, encoding) = self.unit(object_of(kind, id)?)?;
+        let ranges = &row.ranges;
         match lent {
             Lent::Section(number) => match CONTRIBUTION_KINDS.get(number as usize) {
                 Some(kind) => Ok(self.sections.row_bytes(ranges, *kind)),
@@ -214,7 +207,7 @@ impl<'p, 'a> OpenPackage<'p, 'a> {
                     strings: self.sections.of(SectionKind::Str),
                     offsets: self.sections.row_bytes(ranges, SectionKind::StrOffsets),
                     order: self.order,
-                    encoding: unit.encoding,
+                    encoding,
                 };
                 let string = offsets.string(number).map_err(|_| MALFORMED_STRING)?;
                 string.ok_or(NO_SUCH_STRING)
