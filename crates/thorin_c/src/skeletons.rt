@@ -44,9 +44,8 @@ pub extern "C" fn thorin_skeletons(
         names: names.len(),
         paths: paths.len(),
     };
-    let mut units = FirstUnits::new(alloc);
-    match units.read(alloc, &session, bytes, room) {
-        Ok(error) => told(&units, error, names, paths, count, report),
+    match FirstUnits::read(alloc, &session, bytes, room) {
+        Ok((units, error)) => told(&units, error, names, paths, count, report),
         Err(_) => NO_MEMORY,
     }
 }

@@ -34,33 +34,28 @@ pub(crate) struct FirstUnits {
 }
 
 impl FirstUnits {
-    /// No unit was read yet.
-    pub(crate) fn new(alloc: Global) -> FirstUnits
-        ensures { (room : Room) → IsFirst room [] result }
-    {
-        FirstUnits {
-            names: Vec::new(alloc),
-            paths: Vec::new(alloc),
-            count: 0,
-            size: 0,
-        }
-    }
-
-    /// Reads the units that an executable names. Answers the error that ends them.
+    /// The units that an executable names, and the error that ends them.
     pub(crate) fn read<'s>(
-        &mut self,
         alloc: Global,
         session: &'s BytesSession<'_>,
         bytes: &'s [u8],
         room: Room,
-    ) -> Result<Option<Error>, AllocError>
-        requires { IsFirst room [] self.old }
-        ensures end { IfOk result (λ e. (skeletons_of bytes.now).1 ≡ option_map error_of e) }
-        ensures first { OnOk result (IsFirst room (skeletons_of bytes.now).0 self.new) }
+    ) -> Result<(FirstUnits, Option<Error>), AllocError>
+        ensures end { IfOk result (λ read. (skeletons_of bytes.now).1 ≡ option_map error_of read.1) }
+        ensures first { IfOk result (λ read. IsFirst room (skeletons_of bytes.now).0 read.0) }
     {
+        let mut first = FirstUnits {
+            names: Vec::new(alloc),
+            paths: Vec::new(alloc),
+            count: 0,
+            size: 0,
+        };
         match NamedUnits::read_by(alloc, session, bytes, NamelessUnits::Refused) {
-            Ok(mut units) => self.read_left(&mut units, room),
-            Err(error) => ended(error),
+            Ok(mut units) => {
+                let error = first.read_left(&mut units, room)?;
+                Ok((first, error))
+            }
+            Err(error) => Ok((first, ended(error)?)),
         }
     }
 
