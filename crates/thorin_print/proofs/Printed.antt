@@ -78,9 +78,6 @@ none_grown a = ([], Appends-nil a)
 pub grown : (a b c : Option (List ℕ)) → Grows a b → Grows b c → Grows a c
 grown a b c p q = (p.0 ++ q.0, Appends-trans a b c p.0 q.0 p.1 q.1)
 
-pub appended : (a b : Option (List ℕ)) (text : List ℕ) → Appends a b text → Grows a b
-appended a b text h = (text, h)
-
 -- a writer that was told to hand on what was printed, and did not
 pub not_flushed : (a b c : Option (List ℕ)) (text : List ℕ) → Appends a b text → Keeps b c
     → Grows a c
