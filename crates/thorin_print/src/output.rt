@@ -165,10 +165,7 @@ pub fn print<O: Write>(text: &str, out: &mut O) -> Result<(), Failure>
 
 /// A buffer in front of a writer.
 pub fn buffer<W: Write>(alloc: Global, out: &mut W) -> Result<BufWriter<&mut W>, Failure> {
-    match BufWriter::new(alloc, out) {
-        Ok(lines) => Ok(lines),
-        Err(e) => Err(buffer_failure(&e)),
-    }
+    BufWriter::new(alloc, out).map_err(|e| buffer_failure(&e))
 }
 
 /// What prints through a buffer can't be written, or there is no memory for the buffer.
