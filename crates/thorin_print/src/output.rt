@@ -184,10 +184,7 @@ pub fn flush<W: Write>(lines: &mut W) -> Result<(), Failure>
     ensures kept { Keeps (W.contents lines.old) (W.contents lines.new) }
     ensures cause { IfErr result IsOfPrinting }
 {
-    match lines.flush() {
-        Ok(()) => Ok(()),
-        Err(e) => Err(buffer_failure(&e)),
-    }
+    lines.flush().map_err(|e| buffer_failure(&e))
 }
 
 /// Prints a text as it is, and answers whether it could.
