@@ -255,9 +255,7 @@ impl AbsentUnits {
             Some(object) => self.look_for(executable, object, unread)?,
             None => drop(unread),
         }
-        if self.units.get(&unit).is_none() {
-            self.units.insert(unit, self.reason)?;
-        }
+        self.units.entry(unit)?.or_insert(self.reason);
         Ok(())
     }
 
