@@ -127,12 +127,10 @@ impl Encodings {
     /// # Errors
     /// Want of memory.
     pub fn notes(&self) -> Result<Option<String>, AllocError> {
-        let Some(found) = self.found.replace(None) else {
-            return Ok(None);
+        let found = match self.found.replace(None) {
+            Some(found) if found.len() > 1 => found,
+            _ => return Ok(None),
         };
-        if found.len() < 2 {
-            return Ok(None);
-        }
         let mut lines = String::new(self.alloc);
         for first in found.iter() {
             let place = first.place.as_str();
