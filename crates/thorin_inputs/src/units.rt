@@ -326,9 +326,7 @@ impl<'a> Tables<'a> {
 
 /// The content of an object's section of a name.
 fn reader_of<'a>(file: &ElfFile<'a>, name: &str) -> SliceReader<'a> {
-    let bytes: &[u8] = match file.section_by_name(name) {
-        Some(section) => content(&section),
-        None => &[],
-    };
+    let section = file.section_by_name(name);
+    let bytes: &[u8] = section.map_or(&[], |section| content(&section));
     SliceReader::new(bytes, file.endianness())
 }
