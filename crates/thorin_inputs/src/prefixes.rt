@@ -135,10 +135,7 @@ fn count_below(left: &[(&[u8], &str)], place: usize, key: u16) -> usize
 fn key_of(text: &[u8], place: usize) -> u16
     ensures { result ≡ key_at place text.now }
 {
-    match text.get(place) {
-        Some(byte) => u16::from(*byte) + 1,
-        None => 0,
-    }
+    text.get(place).map_or(0, |byte| u16::from(*byte) + 1)
 }
 
 /// The two sides of the first `=` of a word.
