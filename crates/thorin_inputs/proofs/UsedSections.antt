@@ -8,7 +8,7 @@ use Rattle.std.proofs.lemmas.Bool.{eqb-true, false≢true}
 use Rattle.std.proofs.lemmas.List.{drop-drop, take-append-drop}
 use Rattle.std.proofs.lemmas.List.Folds.{list_any-append, list_any_more}
 use Rattle.std.proofs.lemmas.Option.{get_or_from_slice_get, slice_get_within}
-use Rattle.dwp_base.proofs.Bools.{both, by-bool}
+use Rattle.dwp_base.proofs.Bools.{both, by-bool, neither}
 use Rattle.dwp_base.proofs.Finds.{find_at}
 use Rattle.dwp_base.specs.declared.section.SectionKind.{SectionKind}
 use Rattle.dwp_base.specs.declared.section.SectionKind.TheVariants.{StrOffsets}
@@ -38,11 +38,7 @@ module _ {X : Type 0} (p q : X → Bool) (less : (x : X) → p x ≡ true → q 
   any_less [] h = refl
   any_less (x ∷ xs) h =
       by-bool _ (p x) (λ yes. absurd (false≢true (sym h ∙ rw (less x yes) refl)))
-      (λ no'. rw no' (any_less xs (rest (q x) (list_any q xs) h)))
-    where
-      rest : (a b : Bool) → (a || b) ≡ false → b ≡ false
-      rest true b e = absurd cc
-      rest false b e = e
+      (λ no'. rw no' (any_less xs (neither (q x) (list_any q xs) h).1))
 
   -- what passes none at the beginning needn't be looked at
   pub any_behind : (xs : List X) (n : ℕ) → list_any q (take n xs) ≡ false
@@ -59,15 +55,11 @@ any_further p xs m n h none =
     let rest = drop m xs in
     let parts = list_any-append p (take (n - m) rest) (drop (n - m) rest) in
     let whole = ap (list_any p) (take-append-drop (n - m) rest) in
-    let last = right (list_any p (take (n - m) rest)) (list_any p (drop (n - m) rest))
-    (sym parts ∙ whole ∙ none) in
+    let last = (neither (list_any p (take (n - m) rest)) (list_any p (drop (n - m) rest))
+    (sym parts ∙ whole ∙ none)).1 in
     let same : drop (n - m) (drop m xs) ≡ drop n xs =
     drop-drop (n - m) m xs ∙ ap (λ k. drop k xs) (omega arith) in
     rw same at last
-  where
-    right : (a b : Bool) → (a || b) ≡ false → b ≡ false
-    right true b e = absurd cc
-    right false b e = e
 
 -- ---- the first section of string offsets, and the last
 
