@@ -1,9 +1,7 @@
 -- The FROMs that begin as a path does: fewer are left with each byte of it.
 use Rattle.std.proofs.Common.{◌≡◌, ◌∙◌, ℕ, zero, suc, ◌+◌, ◌<◌, ◌≤◌, Bool, true, false, List, []}
-use Rattle.std.proofs.Common.{◌∷◌}
+use Rattle.std.proofs.Common.{◌∷◌, length-take-le, take_all, Ordering}
 use Rattle.std.proofs.Common.{◌-◌, ◌&&◌, refl, sym, ap, arith, length, take, drop, add-one}
-use Rattle.std.proofs.Common.{length-take-le}
-use Rattle.std.proofs.Common.{take_all}
 use Rattle.std.specs.Prelude.{◌==◌, nat_lt, Option, Some, None, option_map, slice_index_or}
 use Rattle.std.specs.Borrow.{Bor}
 use Rattle.std.specs.BTreeMap.{is_at}
@@ -11,7 +9,6 @@ use Rattle.std.specs.Cmp.Lexicographic.{slice_cmp}
 use Rattle.std.specs.List.{filter, slice_get, AllWithin, AllByRecursion}
 use Rattle.std.specs.List.Sorted.{IsStrictlySortedBy, IsNonDecreasingBy, IsPartitionPoint}
 use Rattle.std.specs.Map.{keys_of}
-use Rattle.std.proofs.Common.{Ordering}
 use Rattle.std.specs.Ordering.{nat_cmp, ordering_then}
 use Rattle.std.specs.declared.cmp.Ordering.TheVariants.{Less}
 use Rattle.std.proofs.lemmas.Bool.{eq-eqb, eqb-true}
@@ -22,9 +19,9 @@ use Rattle.std.proofs.lemmas.Map.Text.{is_eq-slice_cmp}
 use Rattle.std.proofs.lemmas.Option.{slice_get_past}
 use Rattle.std.proofs.lemmas.Slice.Eq.{bytes_eq-Decides}
 use Rattle.dwp_base.proofs.Bools.{by-bool, both}
+use Rattle.dwp_base.proofs.Finds.{slice_get_none}
 use Rattle.thorin_inputs.specs.Mapped.{Entries, AreOf, IsOrdered, begins, beginning, key_at}
-use Rattle.thorin_inputs.specs.Mapped.{word_at}
-use Rattle.thorin_inputs.specs.Mapped.{last_word}
+use Rattle.thorin_inputs.specs.Mapped.{word_at, last_word}
 
 -- ---- one byte more
 
@@ -342,12 +339,8 @@ module _ (words : List (Bor (List ℕ))) (path : List ℕ) (place : ℕ) (es lef
   -- the path ends here
   pub at_end : slice_get path place ≡ None → left ≡ beginning (take (place + 1) path) es
   at_end h =
-      let long : length path ≤ place = ends path place h in
+      let outside : place < length path → ⊥ = λ lt. slice_get_none path place lt h in
+      let long : length path ≤ place = omega (arith, outside) in
       let same : take (place + 1) path ≡ take place path =
       take_all (place + 1) path (omega (arith, long)) ∙ sym (take_all place path long) in
       is ∙ ap (λ (t : List ℕ). beginning t es) (sym same)
-    where
-      ends : (p : List ℕ) (i : ℕ) → slice_get p i ≡ None → length p ≤ i
-      ends [] i e = omega arith
-      ends (x ∷ xs) zero e = absurd (cc e)
-      ends (x ∷ xs) (suc i) e = omega (arith, ends xs i e)
