@@ -16,7 +16,7 @@ use Rattle.std.proofs.lemmas.Bool.Decides.{nat_tests}
 use Rattle.std.proofs.lemmas.List.Kept.{IsStrictlySortedBy-filter}
 use Rattle.std.proofs.lemmas.Map.Entries.{lookup-filter-keys}
 use Rattle.std.proofs.lemmas.Map.Text.{is_eq-slice_cmp}
-use Rattle.std.proofs.lemmas.Option.{slice_get_past}
+use Rattle.std.proofs.lemmas.Option.{slice_get_past, slice_get-get_or}
 use Rattle.std.proofs.lemmas.Slice.Eq.{bytes_eq-Decides}
 use Rattle.dwp_base.proofs.Bools.{by-bool, both}
 use Rattle.dwp_base.proofs.Finds.{slice_get_none}
@@ -245,9 +245,8 @@ all_begin (e ∷ es) = ap (λ (rest : Entries). e ∷ rest) (all_begin es)
 -- what stands at a place inside
 pub there : (text : List ℕ) (place byte : ℕ) → place < length text
     → byte ≡ slice_index_or text place byte → slice_get text place ≡ Some byte
-there [] place byte lt e = absurd (omega (arith, lt))
-there (x ∷ xs) zero byte lt e = ap (λ (n : ℕ). Some n) (sym e)
-there (x ∷ xs) (suc place) byte lt e = there xs place byte (omega (arith, lt)) e
+there text place byte lt e =
+    slice_get-get_or text place byte lt ∙ ap (λ (n : ℕ). Some n) (sym e)
 
 module _ (words : List (Bor (List ℕ))) (path : List ℕ) (place : ℕ) (es left : Entries)
     (inside : place ≤ length path) (are : AreOf words es) (ordered : IsOrdered es)
