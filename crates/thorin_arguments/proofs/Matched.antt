@@ -1,7 +1,6 @@
 -- What comes of reading words by the grammar.
 use Rattle.std.proofs.Common.{◌≡◌, ◌⊎◌, ◌∙◌, ap, sym, refl, inl, inr, Bool, true, false, List, []}
-use Rattle.std.proofs.Common.{ℕ, Option, Some, None, Ok, Err, IsTrue, ◌≢◌, ◌↔◌, is_some}
-use Rattle.std.proofs.Common.{subst}
+use Rattle.std.proofs.Common.{ℕ, Option, Some, None, Ok, Err, IsTrue, ◌≢◌, ◌↔◌, is_some, subst}
 use Rattle.std.specs.Borrow.{Bor}
 use Rattle.clap.proofs.OnLiterals.{clap_on_literals}
 use Rattle.clap.proofs.WalkLemmas.{both}
@@ -20,8 +19,7 @@ use Rattle.thorin_arguments.specs.Grammar.{IsLine, IsText, peer, read_words, tho
 use Rattle.thorin_arguments.specs.Peers.{peer_of}
 use Rattle.thorin_arguments.specs.Reading.{AreReadAs, IsReadAs, IsTested, IsUnread, are_wrong}
 use Rattle.thorin_arguments.specs.Whole.{is_of_llvm}
-use Rattle.thorin_arguments.specs.Asked.{Asks, Call, Does, IsCallBy, IsCallOf}
-use Rattle.thorin_arguments.specs.Asked.{IsStatusOf}
+use Rattle.thorin_arguments.specs.Asked.{Asks, Call, Does, IsCallBy, IsCallOf, IsStatusOf}
 use Rattle.thorin_arguments.specs.Asked as calls
 
 plain_thorin : (which : Bor (List (Bor Text))) → is_simple_and_free (thorin which) ≡ true

@@ -1,8 +1,7 @@
 -- Which command the matches of a command line ask for, with which inputs and settings, and what
 -- else the program does of words.
-use Rattle.std.specs.Prelude.{◌≡◌, ℕ, Bool, true, false, ◌||◌, List, [], Option, Some, None}
-use Rattle.std.specs.Prelude.{String, string_bytes, ◌⊎◌, ⊤, codes, is_some, map, option_map}
-use Rattle.std.specs.Prelude.{unwrap_or}
+use Rattle.std.specs.Prelude.{◌≡◌, ℕ, Bool, true, false, ◌||◌, List, [], Option, Some, None, String}
+use Rattle.std.specs.Prelude.{string_bytes, ◌⊎◌, ⊤, codes, is_some, map, option_map, unwrap_or}
 use Rattle.std.specs.Borrow.{Bor}
 use Rattle.std.specs.declared.alloc.Global.{Global}
 use Rattle.clap.specs.Walk.{Row, Text, all_of, first_of}

@@ -1,7 +1,6 @@
 -- Options that don't go together, in words that the grammar takes.
 use Rattle.std.specs.Prelude.{◌&&◌, ◌||◌, ◌==◌, Bool, true, false, not, List, [], Option, Some}
-use Rattle.std.specs.Prelude.{None}
-use Rattle.std.specs.Prelude.{ℕ, codes, if◌then◌else◌, is_some, length, unwrap_or}
+use Rattle.std.specs.Prelude.{None, ℕ, codes, if◌then◌else◌, is_some, length, unwrap_or}
 use Rattle.std.specs.List.{list_any}
 use Rattle.std.specs.Str.{bytes_eq}
 use Rattle.clap.specs.Walk.{Row, Text, all_of, first_of}

@@ -3,9 +3,8 @@
 
 ghost use Rattle.std.specs.Prelude.{◌≡◌, ℕ};
 ghost use Rattle.clap.specs.Words.{found_of, rows_of, subcommand_rows_of};
-ghost use Rattle.thorin_arguments.specs.Asked.{AreValues, Asks, AsksFind, AsksPack};
-ghost use Rattle.thorin_arguments.specs.Asked.{Call, Checks, Does, Finds, IsStatusOf, IsValue};
-ghost use Rattle.thorin_arguments.specs.Asked.{IsWord};
+ghost use Rattle.thorin_arguments.specs.Asked.{AreValues, Asks, AsksFind, AsksPack, Call, Checks};
+ghost use Rattle.thorin_arguments.specs.Asked.{Does, Finds, IsStatusOf, IsValue, IsWord};
 ghost use Rattle.thorin_arguments.specs.Asked.{LacksMemory, Lists, Packs, Refuses, Shows};
 ghost use Rattle.thorin_arguments.specs.Flags.{is_set};
 

@@ -1,5 +1,4 @@
-use Rattle.std.proofs.Common.{◌≡◌, ◌∙◌, ap, refl, List, [], map, rules}
-use Rattle.std.proofs.Common.{tests}
+use Rattle.std.proofs.Common.{◌≡◌, ◌∙◌, ap, refl, List, [], map, rules, tests}
 use Rattle.std.specs.Prelude.{Option, None, Some, option_map, unwrap_or}
 use Rattle.std.specs.Borrow.{Bor}
 use Rattle.std.specs.List.{list_any}
