@@ -17,8 +17,7 @@ use Rattle.dwp_decompress.proofs.Sections.{drop_step}
 use Rattle.dwp_elf_read.specs.Elf.{SectionMeaning, holds}
 use Rattle.dwp_base.specs.declared.endian.Endianness.{Endianness}
 use Rattle.dwp_base.specs.declared.section.SectionKind.TheVariants.{StrOffsets}
-use Rattle.thorin_inputs.specs.InnerStrings.{sizes_at, string_size, names, has_word}
-use Rattle.thorin_inputs.specs.InnerStrings.{plain_content}
+use Rattle.thorin_inputs.specs.InnerStrings.{sizes_at, string_size, names, has_word, plain_content}
 
 -- ---- sizes
 

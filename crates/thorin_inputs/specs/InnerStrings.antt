@@ -1,8 +1,7 @@
 -- Strings that begin inside others (DWARF 5, 7.26): a few bytes of string offsets could name as
 -- many ends of one long string.
 use Rattle.std.specs.Prelude.{ℕ, zero, suc, ◌+◌, ◌-◌, ◌*◌, ◌/◌, ◌%◌, min, max, nat_lt, ◌==◌, ◌&&◌}
-use Rattle.std.specs.Prelude.{◌||◌}
-use Rattle.std.specs.Prelude.{Bool, false, not, if◌then◌else◌, List, [], length, drop, find}
+use Rattle.std.specs.Prelude.{◌||◌, Bool, false, not, if◌then◌else◌, List, [], length, drop, find}
 use Rattle.std.specs.Prelude.{sum_by, slice_get, Option, Some, None, Result, Ok, Err}
 use Rattle.std.specs.List.{list_any, range_with_len}
 use Rattle.std.specs.Option.{option_map, unwrap_or}

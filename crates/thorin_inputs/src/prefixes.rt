@@ -1,8 +1,8 @@
 //! Prefixes of paths that others take the place of, and the paths of the command line, whose
 //! prefixes stay.
 
-ghost use Rattle.std.specs.Prelude.{◌≡◌, true, false, ◌+◌, ◌<◌, ◌≤◌, IfOk, ◌-◌, MatchOption};
-ghost use Rattle.std.specs.Prelude.{option_map, length, take, string_bytes, IfSome};
+ghost use Rattle.std.specs.Prelude.{◌≡◌, true, false, ◌+◌, ◌<◌, ◌≤◌, IfOk, MatchOption, option_map};
+ghost use Rattle.std.specs.Prelude.{length, take, string_bytes, IfSome};
 ghost use Rattle.std.specs.List.Sorted.{IsNonDecreasingBy, IsPartitionPoint};
 ghost use Rattle.std.specs.List.Sorted.{IsStrictlySortedBy-prop};
 ghost use Rattle.thorin_inputs.specs.Given.{StandsAt};

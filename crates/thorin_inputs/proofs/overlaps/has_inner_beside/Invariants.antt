@@ -4,8 +4,7 @@ use Rattle.dwp_base.specs.declared.section.SectionKind.TheVariants.{Str}
 use Rattle.dwp_elf_read.specs.View.{elf}
 use Rattle.thorin_inputs.specs.InnerPlaces.{IsSummed, is_counted}
 use Rattle.thorin_inputs.specs.InnerStrings.{begins_inside, first_content, is_inner, most_inner}
-use Rattle.thorin_inputs.specs.InnerStrings.{or_nothing}
-use Rattle.thorin_inputs.specs.InnerStrings.{names, step_of}
+use Rattle.thorin_inputs.specs.InnerStrings.{or_nothing, names, step_of}
 use Rattle.thorin_inputs.proofs.overlaps.has_inner_beside.Given as goal
 
 -- those that are counted and those that are left are all
