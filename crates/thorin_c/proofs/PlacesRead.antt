@@ -1,8 +1,7 @@
 -- The places of sections that are read for each kind, and a package by them.
 use Rattle.std.proofs.Common.{◌≡◌, ℕ, List, refl, Bool, true, false, cond, length}
 use Rattle.std.specs.Prelude.{nat_le, Option, Some, None, Result, Ok, Err, IfOk, IfSome, slice_get}
-use Rattle.std.specs.Prelude.{[]}
-use Rattle.std.specs.Prelude.{option_map, find}
+use Rattle.std.specs.Prelude.{[], option_map, find}
 use Rattle.std.proofs.lemmas.Option.{get_or_from_slice_get}
 use Rattle.dwp_base.specs.ByKind.{value_of}
 use Rattle.dwp_base.specs.Reading.{Answers}
@@ -15,8 +14,7 @@ use Rattle.dwp_elf_read.specs.Elf.{Elf, SectionMeaning, elf_of}
 use Rattle.dwp_elf_read.specs.View.{section}
 use Rattle.dwp_elf_read.specs.declared.error.ReadError.{ReadError}
 use Rattle.dwp_elf_read.specs.declared.section.Section.{Section}
-use Rattle.dwp_index.specs.Contents.{content, content_among, contents_of, is_of_kind}
-use Rattle.dwp_index.specs.Contents.{bytes_of}
+use Rattle.dwp_index.specs.Contents.{content, content_among, contents_of, is_of_kind, bytes_of}
 use Rattle.dwp_index.specs.Package.{package_of}
 use Rattle.dwp_index.specs.declared.error.PackageError.TheVariants as errors
 use Rattle.thorin_c.specs.Opening.{bytes_at, nowhere, IsPlaceIn, place_in, sections_at, order_of}

@@ -1,7 +1,6 @@
 -- Inputs taken one after the other.
-use Rattle.std.proofs.Common.{◌≡◌, ◌∙◌, ℕ, ◌+◌, true, List, [], ◌∷◌, ◌++◌, refl, sym, ap}
-use Rattle.std.proofs.Common.{Ok, Err, ◌<◌, ◌≤◌, if◌then◌else◌, inl, inr, length, take, get_or, map}
-use Rattle.std.proofs.Common.{arith}
+use Rattle.std.proofs.Common.{◌≡◌, ◌∙◌, ℕ, ◌+◌, true, List, [], ◌∷◌, ◌++◌, refl, sym, ap, Ok, Err}
+use Rattle.std.proofs.Common.{◌<◌, ◌≤◌, if◌then◌else◌, inl, inr, length, take, get_or, map, arith}
 use Rattle.std.specs.Prelude.{◌≢◌, ◌⊎◌, ℤ, pos}
 use Rattle.std.proofs.lemmas.List.{map_more, length-map}
 use Rattle.std.proofs.Math.Seq.{take-append_seam}
@@ -23,10 +22,9 @@ use Rattle.thorin_again.specs.PlainInputs.{AreTaken}
 use Rattle.thorin.specs.Again.{IsTakenAgain}
 use Rattle.thorin.specs.Groups.{taken_each}
 use Rattle.thorin.proofs.Running.{taken-then, each-taken, join-append}
-use Rattle.thorin_c.specs.Packing.{bytes_of, Accepts, StopsAt, Leaves, IsFailure}
-use Rattle.thorin_c.specs.Packing.{IsDifferingStatus}
-use Rattle.thorin_c.specs.Packing.{TellsRefused, TellsUnfinished, Refuses, RunsOutAt}
-use Rattle.thorin_c.specs.Packing.{RunsOutAfter, IsPackage, ArePackedAgain, Differ}
+use Rattle.thorin_c.specs.Packing.{bytes_of, Accepts, StopsAt, Leaves, IsFailure, IsDifferingStatus}
+use Rattle.thorin_c.specs.Packing.{TellsRefused, TellsUnfinished, Refuses, RunsOutAt, RunsOutAfter}
+use Rattle.thorin_c.specs.Packing.{IsPackage, ArePackedAgain, Differ}
 use Rattle.thorin_c.specs.declared.types.ThorinBytes.{ThorinBytes}
 use Rattle.dwp_base.proofs.Steps.{bind-ok}
 

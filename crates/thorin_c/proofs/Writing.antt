@@ -2,8 +2,7 @@
 use Rattle.std.proofs.Common.{◌≡◌, ◌∙◌, ℕ, List, [], ◌∷◌, ◌++◌, refl, sym, ap, ◌<◌, ◌≤◌}
 use Rattle.std.proofs.Common.{length, take, drop, set, get_or, min, map, ◌+◌, arith}
 use native.Mathlib.Numerals.{unary_clauses}
-use Rattle.std.proofs.lemmas.List.{map-append, length-map}
-use Rattle.std.proofs.lemmas.List.{length-take-le, take_more, set_past}
+use Rattle.std.proofs.lemmas.List.{map-append, length-map, length-take-le, take_more, set_past}
 use Rattle.thorin_c.specs.Listing.{written_over}
 
 module _ {A : Type 0} where

@@ -3,8 +3,6 @@
 ghost use Rattle.std.specs.Prelude.{◌≡◌, ◌≢◌, pos, length, Ok, Err, Some, None};
 ghost use Rattle.dwp_decompress.specs.Result.{decompressed_of};
 ghost use Rattle.dwp_decompress.specs.declared.asked.Asked.TheVariants.{All};
-ghost use Rattle.dwp_decompress.specs.declared.error.DecompressError.TheVariants.{Memory};
-ghost use Rattle.dwp_decompress.specs.declared.error.DecompressError.TheVariants.{Unrepresentable};
 ghost use Rattle.thorin_c.specs.Plain.{Decompresses, NeedsRoom, IsError, TellsError, IsPlainStatus};
 ghost use Rattle.thorin_c.specs.Plain.{status_of};
 
