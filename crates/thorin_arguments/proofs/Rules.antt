@@ -1,6 +1,6 @@
 -- What building a command line keeps of its words, in clap's terms.
-use Rattle.std.proofs.Common.{◌≡◌, ◌∙◌, ◌&&◌, ◌++◌, ap, sym, refl, Bool, true, false, List, [], ◌∷◌}
-use Rattle.std.proofs.Common.{ap₂, drop, is_some, length, map, not, take, ℕ, ◌+◌, ◌<◌}
+use Rattle.std.proofs.Common.{◌≡◌, ◌∙◌, ◌++◌, ap, sym, refl, Bool, true, false, List, [], ◌∷◌, ap₂}
+use Rattle.std.proofs.Common.{drop, length, map, take, ℕ, ◌+◌, ◌<◌}
 use Rattle.std.specs.Borrow.{Bor}
 use Rattle.std.specs.Prelude.{codes, filter_map, fold}
 use Rattle.std.proofs.Math.ListN.{get_or}
@@ -9,7 +9,7 @@ use Rattle.std.proofs.lemmas.List.Sums.{fold-append}
 use Rattle.clap.specs.Words.{AddsArg, AddsSubcommand}
 use Rattle.clap.specs.Simple.{new_shape}
 use Rattle.clap.specs.Words.{App, Shape, app_of, rule_of, with_rule, with_subcommand}
-use Rattle.clap.specs.Walk.{Rule, Text, is_empty, texts}
+use Rattle.clap.specs.Walk.{Rule, Text, texts}
 use Rattle.clap.specs.declared.builder.arg.Arg.{Arg}
 use Rattle.clap.specs.declared.builder.command.Command.{Command}
 use Rattle.clap.proofs.SimpleLemmas.{is_false}
@@ -90,10 +90,7 @@ other_lines (own ∷ parts) which is = sym (take-map shape_in 4 parts)
 
 pub two_more : (names one two : List (Bor Text)) (a b : Bor Text) → one ≡ names ++ a ∷ []
     → two ≡ one ++ b ∷ [] → texts two ≡ texts names ++ a.now ∷ b.now ∷ []
-two_more names one two a b e f = ap texts (f ∙ ap (λ l. l ++ b ∷ []) e)
-    ∙ (map-append (λ s. s.now) (names ++ a ∷ []) (b ∷ [])
-    ∙ (ap (λ l. l ++ b.now ∷ []) (map-append (λ s. s.now) names (a ∷ []))
-    ∙ append_assoc (texts names) (a.now ∷ []) (b.now ∷ [])))
+two_more names one two a b e f = rw (f, e) (simp (map-append, append_assoc))
 
 abbrev pub longs : List Rule → List Text
 longs rules = filter_map (λ rule. rule.long) rules
