@@ -31,14 +31,7 @@ local x e =
 
 simple : (word : Word) → (rule_in word).is_simple ≡ true
 simple words.Output = refl
-simple (words.Executables help) = refl
-simple words.Verbose = refl
-simple (words.Flag name help) = refl
-simple (words.Value name value help) = refl
-simple (words.Values name value help) = refl
-simple (words.Choice name value help values) = refl
-simple words.Inputs = refl
-simple (words.Place name value help) = refl
+simple _ = refl
 
 -- a word more
 pub add_word : (name : Text) (words : List Word) (i : ℕ) (none : Word) (c d : Command) (x : Arg)
