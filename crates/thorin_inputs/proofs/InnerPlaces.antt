@@ -135,11 +135,9 @@ module _ (strings : List ℕ) (old new : BTreeSet ℕ) (place size : ℕ)
 -- what is counted and what is left are all: once one of these is counted
 counted_more : (c now here left inside all : Bool) → now ≡ (c || (here && inside))
     → (c || ((here || left) && inside)) ≡ all → (now || (left && inside)) ≡ all
-counted_more true now here left inside all is h = rw is h
-counted_more false now true left true all is h = rw is h
 counted_more false now true true false all is h = rw is h
 counted_more false now true false false all is h = rw is h
-counted_more false now false left inside all is h = rw is h
+counted_more _ now _ _ _ all is h = rw is h
 
 -- of one that is inside a string
 counted_one : (c now here left inside all : Bool) → now ≡ (c || here)
@@ -152,10 +150,8 @@ counted_one false now false left inside all is in_one h = rw is h
 -- of one that isn't
 passed_over : (c here left inside all : Bool) → (here ≡ true → inside ≡ false)
     → (c || ((here || left) && inside)) ≡ all → (c || (left && inside)) ≡ all
-passed_over true here left inside all apart h = h
-passed_over false true true inside all apart h = h
 passed_over false true false inside all apart h = sym (apart refl) ∙ h
-passed_over false false left inside all apart h = h
+passed_over _ _ _ inside all apart h = h
 
 -- what is counted is among all
 pub among : (c left inside all : Bool) → (c || (left && inside)) ≡ all → c ≡ true → all ≡ true
