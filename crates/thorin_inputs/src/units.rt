@@ -31,7 +31,9 @@ pub fn count_units(bytes: &[u8]) -> Option<usize> {
     let mut count = 0usize;
     for section in file.sections() {
         if let Some(units) = units_in(&section, file.endianness()) {
-            count = count.saturating_add(units.count());
+            for _ in units {
+                count = count.saturating_add(1);
+            }
         }
     }
     Some(count)
