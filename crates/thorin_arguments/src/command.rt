@@ -254,11 +254,13 @@ fn peer_words(of_llvm: bool) -> &'static [Word]
 pub(crate) fn version_with(alloc: Global, version: &str, commit: &str) -> Result<String, AllocError>
     ensures { IfOk result (λ text. string_bytes text ≡ version_with version.now commit.now) }
 {
-    if commit.is_empty() {
-        String::from_str(alloc, version)
-    } else {
-        format!(in alloc; "{version} ({commit})")
+    let mut text = String::from_str(alloc, version)?;
+    if !commit.is_empty() {
+        text.push_str(" (")?;
+        text.push_str(commit)?;
+        text.push_str(")")?;
     }
+    Ok(text)
 }
 
 /// These lines.
