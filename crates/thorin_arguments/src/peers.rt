@@ -94,11 +94,17 @@ fn whole_long(alloc: Global, names: &[&str], word: &str) -> Result<String, Alloc
         return String::from_str(alloc, word);
     };
     let name = whole_name(names, start);
+    let mut text = String::from_str(alloc, "--")?;
+    text.push_str(name)?;
     match value {
-        Some(value) => format!(in alloc; "--{name}={value}"),
-        None if name == "continue-on-cu-index-overflow" => format!(in alloc; "--{name}=continue"),
-        None => format!(in alloc; "--{name}"),
+        Some(value) => {
+            text.push_str("=")?;
+            text.push_str(value)?;
+        }
+        None if name == "continue-on-cu-index-overflow" => text.push_str("=continue")?,
+        None => {}
     }
+    Ok(text)
 }
 
 /// The one of these names that begins so; this name where none does, or several.
