@@ -15,10 +15,10 @@ returns-in_err-tested c = λ named of is line are.
     let p = err_from_is_err_and exit.result exit.ensures.1 in
     rw (p.1, p.2) ((read named (app_of c.args.command.now) is line (words_in c.args.words.now) are
     c.in_ok-matches.matches c.in_ok-matches.ensures.kinds c.in_ok-matches.ensures.ok.2).1
-    c.in_err-tested.field-0 (rw of c.in_err-tested.ensures))
+    c.in_err-tested.field-0.0 (rw of c.in_err-tested.ensures))
 
 pub returns-in_err-matches : goal.returns-in_err-matches
 returns-in_err-matches c = λ named of is line are.
     let p = err_from_is_err_and c.from_residual.result c.from_residual.ensures.1 in
     rw (p.1, p.2) (unread named (app_of c.args.command.now) is line (words_in c.args.words.now) are
-    c.in_err-matches.field-0 c.in_err-matches.ensures.kinds)
+    c.in_err-matches.field-0.0 c.in_err-matches.ensures.kinds)
