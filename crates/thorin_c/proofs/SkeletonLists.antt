@@ -78,7 +78,8 @@ pub none_read : (room : Room) (all : Listed) (first : FirstUnits) → IsFirst ro
 none_read room all first h = record { done = []; is = refl; are_read = h }
 
 module _ (room : Room) (all left : Listed) (old : FirstUnits) (h : GoesOn room all left old) where
-  pub goes_on : (after : Listed) (new : FirstUnits) (unit : Named) → left ≡ (unit ∷ after.0, after.1)
+  pub goes_on : (after : Listed) (new : FirstUnits) (unit : Named)
+      → left ≡ (unit ∷ after.0, after.1)
       → ((units : List Named) → IsFirst room units old → IsFirst room (units ++ unit ∷ []) new)
       → GoesOn room all after new
   goes_on after new unit is adds = record {

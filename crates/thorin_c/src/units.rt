@@ -41,7 +41,8 @@ impl FirstUnits {
         bytes: &'s [u8],
         room: Room,
     ) -> Result<(FirstUnits, Option<Error>), AllocError>
-        ensures end { IfOk result (λ read. (skeletons_of bytes.now).1 ≡ option_map error_of read.1) }
+        ensures end { IfOk result (λ read.
+            (skeletons_of bytes.now).1 ≡ option_map error_of read.1) }
         ensures first { IfOk result (λ read. IsFirst room (skeletons_of bytes.now).0 read.0) }
     {
         let mut first = FirstUnits {
