@@ -1,4 +1,6 @@
-use Rattle.std.proofs.Common.{rules}
+use Rattle.std.proofs.Common.{rules, w32}
+use Rattle.std.proofs.lemmas.Int.{to_z-of_z}
+use mir.Val.{SFits}
 use Rattle.thorin_c.proofs.Taking.{at_an_input, refuses, runs_out_at}
 use Rattle.thorin_c.proofs.packing.thorin_differing_types.Goals as goal
 
@@ -14,5 +16,7 @@ returns-in-Err-clause-memory c =
     c.in-Err.ensures.refused (c.refused.ensures.memory (search (rules, h))).1
 
 pub returns-in-Err-clause-status : goal.returns-in-Err-clause-status
-returns-in-Err-clause-status c = at_an_input _ _ _ _ c.in-Err.ensures.refused.within
-    c.refused.ensures.unfinished c.refused.ensures.status
+returns-in-Err-clause-status c =
+    let fits : SFits w32 c.refused.result = search rules in
+    simp to_z-of_z (at_an_input _ _ _ _ c.in-Err.ensures.refused.within
+    c.refused.ensures.unfinished c.refused.ensures.status)
