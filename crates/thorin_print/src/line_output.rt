@@ -5,7 +5,7 @@ ghost use Rattle.std.specs.Prelude.{string_bytes, ⊤};
 ghost use Rattle.std.specs.Io.KnownBytes.{Appends, Keeps};
 ghost use Rattle.thorin_print.specs.Answers.{FailsBy, Prints};
 ghost use Rattle.thorin_print.specs.Failures.{Reports, error_line};
-ghost use Rattle.thorin_print.specs.Told.{taken_line, units};
+ghost use Rattle.thorin_print.specs.Told.{taken_line, units, passed_over};
 ghost use Rattle.thorin_print.specs.Watching.{LacksLine};
 
 use crate::output::{Failure, flush, print};
@@ -150,17 +150,9 @@ pub fn tell_taken<E: LineOutput>(
 {
     let name = printed(alloc, name)?;
     let added_units = units(alloc, added)?;
-    match all {
-        Some(all) => {
-            let passed = all.saturating_sub(added);
-            let line = format!(in alloc; "{name}: {added_units}, {passed} passed over\n")?;
-            err.print_text(line.as_str())
-        }
-        None => {
-            let line = format!(in alloc; "{name}: {added_units}\n")?;
-            err.print_text(line.as_str())
-        }
-    }
+    let passed = passed_over(alloc, added, all)?;
+    let line = format!(in alloc; "{name}: {added_units}{passed}\n")?;
+    err.print_text(line.as_str())
 }
 
 /// A number of units: `1 unit`, `2 units`.
@@ -172,5 +164,18 @@ fn units(alloc: Global, count: usize) -> Result<String, AllocError>
         String::from_str(alloc, "1 unit")
     } else {
         format!(in alloc; "{count} units")
+    }
+}
+
+/// How many units of an input were passed over, where it is known how many it has.
+fn passed_over(alloc: Global, added: usize, all: Option<usize>) -> Result<String, AllocError>
+    ensures { IfOk result (λ text. string_bytes text ≡ passed_over added all) }
+{
+    match all {
+        Some(all) => {
+            let passed = all.saturating_sub(added);
+            format!(in alloc; ", {passed} passed over")
+        }
+        None => Ok(String::new(alloc)),
     }
 }
