@@ -156,7 +156,8 @@ module _ {old mid new : List Node} (levels version added low key : ℕ) (copy : 
       → value_below levels new added other ≡ value_below levels old version other
   others_beside same other apart =
       let fits_copy = rw (← copied) at (copy_within old version other) in
-      let by = others_by levels old new version added other (with_side copy key low) copy some copied
+      let by = others_by levels old new version added other (with_side copy key low) copy some
+      copied
       now in
       let value = value_with copy key low in
       let up = value_stays (levels - 1) (half other) behind fits in

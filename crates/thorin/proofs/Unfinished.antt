@@ -262,7 +262,8 @@ module _ (inputs : List (List ℕ)) (state : State) (made : InProgress)
     format = all_kept_by test _ made.rows (rw begun at format);
     encodings = all_kept_by test _ made.rows (rw begun at encodings);
     many = λ many. let few = count_by-le-length test made.rows in
-        rw begun (many-long made sound.laid (omega (arith, many, few, length-filter test made.rows)));
+        rw begun
+        (many-long made sound.laid (omega (arith, many, few, length-filter test made.rows)));
   }
 
 -- a state that has taken an input has begun a package
@@ -296,7 +297,8 @@ unfinished inputs state error are sound format encodings h =
     by (Some made) is k =
         let known = chosen-known inputs state made is (rw is at sound) format encodings in
         inr (elim (step-failed (index_tests (compilations made.rows)) _ error k) [
-          | inl first ↦ index-failed inputs state error _ (known (λ row. is_compilation row.id)) first
+          | inl first ↦ index-failed inputs state error _
+                    (known (λ row. is_compilation row.id)) first
           | inr second ↦ index-failed inputs state error _
               (known (λ row. not (is_compilation row.id))) second.2
         ])
