@@ -56,7 +56,7 @@ pub(crate) struct Notes {
     /// The path of the input.
     own: Cell<Option<String>>,
     /// The object that the input names and that was read last, unless it was taken.
-    named: Cell<Option<NamedObject>>,
+    pub(crate) named: Cell<Option<NamedObject>>,
     absent: Cell<AbsentUnits>,
     /// What is left compressed of the file that was read last.
     pub(crate) compression: Cell<Compression>,
@@ -81,8 +81,8 @@ struct Differing {
 
 /// An object that an executable names.
 #[derive(Drop)]
-struct NamedObject {
-    path: String,
+pub(crate) struct NamedObject {
+    pub(crate) path: String,
     /// Why it couldn't be read, if it couldn't.
     unread: Option<String>,
 }
@@ -155,15 +155,6 @@ impl Notes {
         });
     }
 
-    /// The path of the object that the input names and that was read last; none where none was, and
-    /// where it was taken. Asked for once.
-    pub(crate) fn last_named(&self) -> Option<String> {
-        match self.named.replace(None) {
-            Some(NamedObject { path, .. }) => Some(path),
-            None => None,
-        }
-    }
-
     /// Keeps the object of a unit that an executable names, once it was taken or passed over, and
     /// the unit where it isn't there.
     pub(crate) fn after_unit(&self, unit: DwarfObject, is_there: bool, now: Holding<'_>) {
@@ -201,9 +192,26 @@ impl Notes {
         self.absent.replace(AbsentUnits::new(self.alloc))
     }
 
-    /// Keeps what was taken, and what the package has now.
+    /// Keeps what was taken, where it brought a unit, and what the package has now. Where there is
+    /// no memory for it, nothing is kept any more.
     pub(crate) fn keep_taken(&self, taken: Origin<'_>, now: Holding<'_>) {
-        self.keep_origin(taken, now.units);
+        if let Some(mut origins) = self.origins.replace(None) {
+            let before = match origins.last() {
+                Some((before, _)) => *before,
+                None => 0,
+            };
+            let is_kept = if now.units > before {
+                match printed_origin(self.alloc, taken) {
+                    Ok(place) => origins.push((now.units, place)).is_ok(),
+                    Err(_) => false,
+                }
+            } else {
+                true
+            };
+            if is_kept {
+                self.origins.set(Some(origins));
+            }
+        }
         if !self.names {
             return;
         }
@@ -217,44 +225,17 @@ impl Notes {
         self.types.set(types);
     }
 
-    /// Keeps what was taken, where it brought a unit, and how many units the package has now. Where
-    /// there is no memory for it, nothing is kept any more.
-    fn keep_origin(&self, origin: Origin<'_>, count: usize) {
-        let Some(mut origins) = self.origins.replace(None) else {
-            return;
-        };
-        let before = match origins.last() {
-            Some((before, _)) => *before,
-            None => 0,
-        };
-        if count > before {
-            let Ok(place) = printed_origin(self.alloc, origin) else {
-                return;
-            };
-            if origins.push((count, place)).is_err() {
-                return;
-            }
-        }
-        self.origins.set(Some(origins));
-    }
-
-    /// What brought the unit at a place among the package's, as it is printed; none where that
-    /// isn't known.
-    pub(crate) fn origin_of(&self, place: usize) -> Option<String> {
-        let mut origin = String::new(self.alloc);
-        self.put_origin("", place, &mut origin).ok()?;
-        if origin.is_empty() {
-            return None;
-        }
-        Some(origin)
-    }
-
     /// Adds words and what brought the unit at a place to a line, where that is known: the first
     /// behind which the package has more units than stand before it. Their numbers grow.
     ///
     /// # Errors
     /// Want of memory.
-    fn put_origin(&self, words: &str, place: usize, line: &mut String) -> Result<(), AllocError> {
+    pub(crate) fn put_origin(
+        &self,
+        words: &str,
+        place: usize,
+        line: &mut String,
+    ) -> Result<(), AllocError> {
         let Some(origins) = self.origins.replace(None) else {
             return Ok(());
         };

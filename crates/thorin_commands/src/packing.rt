@@ -84,10 +84,7 @@ impl Packing<'_, '_> {
             (None, Some([executable])) => format!(in alloc; "{executable}.dwp"),
             (None, _) => return Err(Failure::BadCommand),
         };
-        match name {
-            Ok(name) => Ok(name),
-            Err(AllocError) => Err(Failure::Memory),
-        }
+        Ok(name?)
     }
 
     /// Whether each type unit that differs is told of with the inputs that brought it and the one
@@ -350,14 +347,6 @@ pub(crate) fn path_of(input: Input<'_>) -> Option<Path<'_>>
         | Input::Executable(path, _)
         | Input::ExecutableSkippingNameless(path, _) => Some(path),
         Input::Bytes(_) => None,
-    }
-}
-
-/// The path of an input that is an executable.
-pub(crate) fn executable_of(input: Input<'_>) -> Option<Path<'_>> {
-    match input {
-        Input::Executable(path, _) | Input::ExecutableSkippingNameless(path, _) => Some(path),
-        Input::Object(_) | Input::Bytes(_) => None,
     }
 }
 

@@ -1,22 +1,21 @@
 //! The reader of the inputs of `pack`, as a trait and of files: these are read, decompressed, left
 //! with the macros that are kept, and tested for strings and sections that overlap.
 
-ghost use Rattle.std.specs.Prelude.{◌≡◌, ◌⊎◌, Bool, false, IsTrue, IfOk, IfErr, string_bytes};
+ghost use Rattle.std.specs.Prelude.{◌≡◌, ◌⊎◌, Bool, IsTrue, IfOk, IfErr, string_bytes};
 ghost use Rattle.std.specs.Path.{path_bytes};
 ghost use Rattle.thorin_builder.specs.Reading.{OnDeclined, OnFailed};
 ghost use Rattle.thorin_sessions.specs.Sessions.{IsNoWantOfMemory};
 ghost use Rattle.thorin_errors.specs.declared.error.InputError.TheVariants.{Memory};
-ghost use Rattle.thorin_inputs.specs.Macros.{IsKeptOf};
 ghost use Rattle.thorin_inputs.specs.Plain as spec;
 ghost use Rattle.thorin_commands.specs.Naming.{IsUncounted};
 ghost use Rattle.thorin_commands.specs.Packing.{IsAmong, declines, manner_of, paths_in};
 ghost use Rattle.thorin_commands.specs.Packing.{read_through, reads};
-ghost use Rattle.thorin_commands.specs.Taken.{DeclinesBytes, DeclinesPlain, IsPlainFor};
+ghost use Rattle.thorin_commands.specs.Taken.{DeclinesBytes, IsPlainFor};
 ghost use Rattle.thorin_commands.specs.Taken.{IsReadInto, IsTakenFor, Manner, MayRepeat};
 ghost use Rattle.thorin_commands.specs.Warned.{TellsMacros};
 
 use crate::notes::{Holding, Notes};
-use crate::packing::{Packing, executable_of, paths_in};
+use crate::packing::{Packing, paths_in};
 use dwp_macros::{MacrosError, with_macros};
 use dwp_table::{DebugTypeSignature, DwarfObject};
 use std::alloc::{AllocError, Global};
@@ -86,7 +85,7 @@ pub(crate) struct InputFiles<'f, F> {
     alloc: Global,
     pub(crate) files: &'f F,
     /// How they are read.
-    packing: &'f Packing<'f, 'f>,
+    pub(crate) packing: &'f Packing<'f, 'f>,
     /// The prefixes that others take the place of, and where the paths stand that the command line
     /// names, if there are any.
     pub(crate) prefixes: Prefixes<'f>,
@@ -144,7 +143,7 @@ impl<'f, F: FileSystem> InputFiles<'f, F> {
     }
 
     /// Reads the file of a path that the input has, or that it names.
-    #[tactic(auto, using(crate::proofs::Taken::through_none, crate::proofs::Taken::through_given, crate::proofs::Taken::through_mapped))]
+    #[tactic(auto, using(crate::proofs::Taken::through_given, crate::proofs::Taken::through_mapped))]
     fn read(
         &self,
         is_own: bool,
@@ -156,9 +155,6 @@ impl<'f, F: FileSystem> InputFiles<'f, F> {
             room.new.items result }
         ensures memory { OnFailed result IsNoWantOfMemory }
     {
-        if paths_in(self.packing.prefix_maps).is_empty() {
-            return self.read_at(is_own, path, room);
-        }
         if is_own && self.is_given(path.path_text()) {
             return self.read_at(is_own, path, room);
         }
@@ -191,28 +187,25 @@ impl<'f, F: FileSystem> InputFiles<'f, F> {
             self.notes.keep_named(named, unread);
         }
         read?;
-        if self.packing.allows_overlap || self.admits_file(is_own, path.path_text(), room.len())? {
+        if self.packing.allows_overlap {
             return Ok(());
         }
-        Err(NotTaken::Declined(Growth::Repetition))
-    }
-
-    /// Whether a file that was read may be added: the input's own always; an object of an
-    /// executable may be one that was read before by another path.
-    fn admits_file(&self, is_own: bool, path: &str, size: usize) -> Result<bool, AllocError>
-        ensures { IfOk result (λ admits. admits ≡ false → is_own ≡ false) }
-    {
+        // The input's own file may always be added; an object of an executable may be one that was
+        // read before by another path.
         let mut repetitions = self.repetitions.replace(Repetitions::new(self.alloc));
         let admits = if is_own {
-            match repetitions.count_own(self.files.identity(path), size) {
+            match repetitions.count_own(self.files.identity(path.path_text()), room.len()) {
                 Ok(()) => Ok(true),
                 Err(e) => Err(e),
             }
         } else {
-            repetitions.admits_object(self.files.object_identity(path), size)
+            repetitions.admits_object(self.files.object_identity(path.path_text()), room.len())
         };
         self.repetitions.set(repetitions);
-        admits
+        if admits? {
+            return Ok(());
+        }
+        Err(NotTaken::Declined(Growth::Repetition))
     }
 
     /// The bytes of an input with plain sections, where that is asked for; none where they stay as
@@ -257,44 +250,35 @@ impl<'f, F: FileSystem> InputFiles<'f, F> {
         }
     }
 
-    /// Tests whether the strings of plain bytes overlap, where that isn't allowed. An executable
-    /// has none that are packed.
+    /// What is taken for the content of a file, of an archive's member or of an object that is named
+    /// by a path; none where that is taken as it is.
     ///
     /// # Errors
-    /// `Memory`; `Declined` where they do.
-    fn test_strings(
+    /// `Memory`; `Declined` where sections or strings overlap, or no file has what would be taken.
+    #[tactic(auto, unfolding(thorin_inputs::specs::Macros::IsKeptOf))]
+    fn taken(
         &self,
         is_executable: bool,
-        plain: &[u8],
-    ) -> Result<(), NotTaken<InputError, Growth>>
+        content: &[u8],
+        named: &str,
+        is_member: bool,
+    ) -> Result<Option<Vec<u8>>, NotTaken<InputError, Growth>>
+        ensures taken { IfOk result (λ taken. IsTakenFor (manner_of self.now.packing.now)
+            content.now (spec.or_content content.now taken)) }
         ensures declined { OnDeclined result
-            (DeclinesPlain (manner_of self.now.packing.now) plain.now) }
+            (DeclinesBytes (manner_of self.now.packing.now) content.now) }
         ensures memory { OnFailed result (λ e. e ≡ Memory) }
     {
-        if self.packing.allows_overlap || is_executable {
-            return Ok(());
+        let plain = self.plain(is_executable, content)?;
+        let bytes = or_content(content, &plain);
+        // An executable has no strings that are packed.
+        if !self.packing.allows_overlap && !is_executable && has_inner_strings(self.alloc, bytes)? {
+            return Err(NotTaken::Declined(Growth::Strings));
         }
-        match has_inner_strings(self.alloc, plain) {
-            Ok(false) => Ok(()),
-            Ok(true) => Err(NotTaken::Declined(Growth::Strings)),
-            Err(AllocError) => Err(NotTaken::Failed(InputError::Memory)),
-        }
-    }
-
-    /// Plain bytes with the macros that are kept alone; none where they stay as they are.
-    ///
-    /// # Errors
-    /// `Memory`; `Declined` where the others can't be left out.
-    #[tactic(auto, unfolding(thorin_inputs::specs::Macros::IsKeptOf))]
-    fn kept(&self, plain: &[u8]) -> Result<Option<Vec<u8>>, NotTaken<InputError, Growth>>
-        ensures kept { IfOk result (λ kept. IsKeptOf self.now.packing.now.macros plain.now
-            (spec.or_content plain.now kept)) }
-        ensures declined { OnDeclined result
-            (DeclinesPlain (manner_of self.now.packing.now) plain.now) }
-        ensures memory { OnFailed result (λ e. e ≡ Memory) }
-    {
-        match with_macros(self.alloc, plain, self.packing.macros) {
-            Ok(kept) => Ok(kept),
+        self.notes.inspect(bytes, named, is_member)?;
+        match with_macros(self.alloc, bytes, self.packing.macros) {
+            Ok(Some(kept)) => Ok(Some(kept)),
+            Ok(None) => Ok(plain),
             Err(MacrosError::Memory) => Err(NotTaken::Failed(InputError::Memory)),
             Err(MacrosError::Unrepresentable) => Err(NotTaken::Declined(Growth::Macros)),
         }
@@ -316,13 +300,10 @@ impl<F: FileSystem> InputReader for InputFiles<'_, F> {
     ) -> Result<&'b [u8], NotTaken<InputError, Growth>> {
         let is_executable = is_own && self.is_executable.get();
         self.read(is_own, path, room)?;
-        let plain = self.plain(is_executable, room)?;
-        put_over(room, plain);
-        self.test_strings(is_executable, room)?;
         let named = if is_own { "" } else { path.path_text() };
-        self.notes.inspect(room, named, false)?;
-        let kept = self.kept(room)?;
-        put_over(room, kept);
+        if let Some(taken) = self.taken(is_executable, room, named, false)? {
+            *room = taken;
+        }
         Ok(room.as_slice())
     }
 
@@ -369,19 +350,13 @@ impl<F: FileSystem> Inputs for InputFiles<'_, F> {
     }
 
     fn member(&self, content: &[u8]) -> Result<Option<Vec<u8>>, NotTaken<InputError, Growth>> {
-        let plain = self.plain(false, content)?;
-        let bytes = or_content(content, &plain);
-        self.test_strings(false, bytes)?;
-        self.notes.inspect(bytes, "", true)?;
-        match self.kept(bytes)? {
-            Some(kept) => Ok(Some(kept)),
-            None => Ok(plain),
-        }
+        self.taken(false, content, "", true)
     }
 
     fn begin(&self, input: Input<'_>) {
         self.notes.begin(input);
-        self.is_executable.set(executable_of(input).is_some());
+        self.is_executable
+            .set(!matches!(input, Input::Object(_) | Input::Bytes(_)));
         let mut repetitions = self.repetitions.replace(Repetitions::new(self.alloc));
         repetitions.begin();
         self.repetitions.set(repetitions);
@@ -418,15 +393,6 @@ impl<F: FileSystem> Inputs for InputFiles<'_, F> {
 
     fn notes(&self) -> &Notes {
         &self.notes
-    }
-}
-
-/// Puts what is taken in place of a file, where it doesn't stay as it is.
-pub(crate) fn put_over(room: &mut Vec<u8>, taken: Option<Vec<u8>>)
-    ensures { room.new.items ≡ spec.or_content room.old.items taken }
-{
-    if let Some(taken) = taken {
-        *room = taken;
     }
 }
 

@@ -13,7 +13,7 @@ ghost use Rattle.thorin_commands.specs.Warned.{path_of, unit_line};
 
 use crate::making::Attempt;
 use crate::notes::unit_count;
-use crate::packing::{executable_of, path_of};
+use crate::packing::path_of;
 use crate::reading::Inputs;
 use dwp_bytes::RelocationEntry;
 use std::alloc::{AllocError, Global};
@@ -156,7 +156,7 @@ fn warn_for<I: Inputs, E: LineOutput>(
     let Some(path) = path_of(input) else {
         return Ok(());
     };
-    let is_executable = executable_of(input).is_some();
+    let is_executable = !matches!(input, Input::Object(_));
     match lack {
         Lack::Types => {}
         _ if count > 0 => return Ok(()),
@@ -205,9 +205,13 @@ pub(crate) fn tell_refused<I: Inputs, E: LineOutput>(
     ensures told { OnOk result (Tells E.contents err.new (refusal_text why.now)) }
     ensures blamed { IfErr result (FailsBy (E.failed err.new)) }
 {
-    let named = inputs.notes().last_named();
+    let object = inputs.notes().named.replace(None);
+    let named = match &object {
+        Some(object) => Some(object.path.as_str()),
+        None => None,
+    };
     let place = match path_of(input) {
-        Some(path) => place_of(alloc, path.path_text(), named.as_deref()).ok(),
+        Some(path) => place_of(alloc, path.path_text(), named).ok(),
         None => None,
     };
     tell_why(alloc, inputs, why, place.as_deref(), before, err)
@@ -283,10 +287,15 @@ fn note_why<I: Inputs>(
         },
         NotTaken::Failed(Error::MixedInputEncodings) => note_encodings(inputs, Some(place), notes),
         NotTaken::Failed(Error::DuplicateUnit(unit)) => match before {
-            Some(before) => match inputs.notes().origin_of(before) {
-                Some(first) => note_before(*unit, place, first.as_str(), notes),
-                None => note_alone(place, notes),
-            },
+            Some(before) => {
+                let mut first = String::new(alloc);
+                match inputs.notes().put_origin("", before, &mut first) {
+                    Ok(()) if !first.is_empty() => {
+                        note_before(*unit, place, first.as_str(), notes);
+                    }
+                    _ => note_alone(place, notes),
+                }
+            }
             None => note_twice_in(*unit, place, notes),
         },
         NotTaken::Failed(error) => {

@@ -11,8 +11,8 @@ returns-then-is_given-clause-offered g c =
     let text : c.path_text.result.now ≡ path_bytes c.args.path = c.path_text.ensures.bytes in
     through_given (paths_in packing.inputs) (paths_in packing.executables)
     (g.F.FileSystem.offer c.args.self.now.files.now) (path_bytes c.args.path)
-    (MayRepeat packing.allows_overlap c.args.is_own) c.read_at-then-is_given.new.room.items
-    c.read_at-then-is_given.result
+    (MayRepeat packing.allows_overlap c.args.is_own) c.read_at.new.room.items
+    c.read_at.result
     (paths_in packing.prefix_maps)
     (rw text at (c.is_given.ensures (search (rules, c.if-is_given))))
-    c.read_at-then-is_given.ensures.offered
+    c.read_at.ensures.offered
