@@ -131,8 +131,13 @@ module _ {X : Type 0} where
       let later = groups-alike gs rs are.2 in
       let c = counted [] g in (
         λ name. let found = found-again (joining [] g) r (joined-apart g) are.1 name in
-            grind (rules, lookup-append (same_name name), found-joined name [] g, found,
-            later.0 name),
+            grind (
+              rules,
+              lookup-append (same_name name),
+              found-joined name [] g,
+              found,
+              later.0 name,
+            ),
         grind (arith, nat_tests, compilations-append, count-again is_one (joining [] g) r are.1),
       )
   groups-alike _ _ are = absurd are

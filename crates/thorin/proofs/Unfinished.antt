@@ -298,7 +298,7 @@ unfinished inputs state error are sound format encodings h =
         let known = chosen-known inputs state made is (rw is at sound) format encodings in
         inr (elim (step-failed (index_tests (compilations made.rows)) _ error k) [
           | inl first ↦ index-failed inputs state error _
-                    (known (λ row. is_compilation row.id)) first
+              (known (λ row. is_compilation row.id)) first
           | inr second ↦ index-failed inputs state error _
               (known (λ row. not (is_compilation row.id))) second.2
         ])

@@ -27,8 +27,11 @@ later-refl made = record {
 
 later-trans : (a b c : InProgress) → IsLater a b → IsLater b c → IsLater a c
 later-trans a b c h k =
-    grind (rules, kept_more a.strings b.strings c.strings,
-    append_assoc (held_units a) h.more k.more)
+    grind (
+      rules,
+      kept_more a.strings b.strings c.strings,
+      append_assoc (held_units a) h.more k.more,
+    )
 
 -- a package with what is remembered more
 abbrev pub with_again : UnitlessInput → InProgress → InProgress
