@@ -16,6 +16,10 @@ use Rattle.thorin_words.specs.declared.responses.ResponseError.TheVariants as er
 use Rattle.thorin_cli.specs.Doing.{DoesPacking, HasStatus, HasTold, State, System}
 use Rattle.thorin_cli.specs.Telling.{no_memory, response_text}
 
+-- a line that was printed stands behind what was there
+pub appended : (a b : Option (List ℕ)) (text : List ℕ) → Appends a b text → Grows a b
+appended a b text h = (text, h)
+
 -- why packing failed, where it is more often known that a line wasn't taken
 more : (known : _) (packing : Packing) (unsplit unwritten cut untold untold' : Type 0)
     → (untold → untold') → (failure : Failure)

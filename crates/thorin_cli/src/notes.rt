@@ -282,7 +282,7 @@ fn note<E: Write>(alloc: Global, about: &str, why: &str, err: &mut E)
 }
 
 /// Prints a line as far as it can be printed.
-#[tactic(auto, using(thorin_print::proofs::Printed::appended))]
+#[tactic(auto, using(crate::proofs::Told::appended))]
 pub(crate) fn put_note<E: Write>(line: &str, err: &mut E)
     ensures { Grows (E.contents err.old) (E.contents err.new) }
 {
