@@ -2,7 +2,7 @@
 use Rattle.std.proofs.Common.{◌≡◌, ◌∙◌, ℕ, zero, suc, ◌+◌, ◌-◌, ◌<◌, List, [], ◌∷◌, ◌++◌, refl, sym}
 use Rattle.std.proofs.Common.{ap, arith, map, min, take, length, Option}
 use native.Mathlib.Numerals.{unary_clauses}
-use Rattle.std.proofs.lemmas.List.{append_assoc, append-nil, length-append, map-append}
+use Rattle.std.proofs.lemmas.List.{append_assoc, append-nil, length-append, map-append, take_min}
 use Rattle.thorin_executable.specs.Skeletons.{Named, Listed}
 use Rattle.thorin_errors.specs.Errors.{ErrorValue}
 use Rattle.thorin_c.specs.Skeletons.{paths_of, skeleton_named, IsFirst, ListsUnits}
@@ -32,16 +32,11 @@ module _ {A : Type 0} where
   front_next (suc room) (x ∷ xs) ys =
       simp unary_clauses (ap (λ l. x ∷ l) (front_next room xs ys))
 
-  front_min : (n : ℕ) (ys : List A) → take (min n (length ys)) ys ≡ take n ys
-  front_min zero ys = simp unary_clauses refl
-  front_min (suc n) [] = simp unary_clauses refl
-  front_min (suc n) (y ∷ ys) = simp unary_clauses (ap (λ l. y ∷ l) (front_min n ys))
-
   pub front_more : (room n m : ℕ) (old new all more : List A) → old ≡ take room all
       → n ≡ room - length old → m ≡ min n (length more) → new ≡ old ++ take m more
       → new ≡ take room (all ++ more)
   front_more room n m old new all more is left taken put =
-      put ∙ rw (taken, left, is) (ap (λ l. take room all ++ l) (front_min _ more)
+      put ∙ rw (taken, left, is) (ap (λ l. take room all ++ l) (take_min _ more)
       ∙ front_next room all more)
 
 -- ---- units that are read one after another
@@ -59,13 +54,10 @@ pub first_more : (room : Room) (units : List Named) (unit : Named) (old new : Fi
     → new.paths.items ≡ take room.paths ((paths_of units ++ unit.1) ++ 0 ∷ [])
     → new.count ≡ old.count + 1 → new.size ≡ old.size + length unit.1 + 1
     → IsFirst room (units ++ unit ∷ []) new
-first_more room units unit old new h names paths count size = record {
-  names = names ∙ ap (take room.names) (sym (map-append skeleton_named units (unit ∷ [])));
-  paths = paths ∙ ap (take room.paths) (append_assoc (paths_of units) unit.1 (0 ∷ [])
-      ∙ sym (paths-append units unit));
-  count = grind (arith, count, h.count, length-append);
-  size = grind (arith, size, h.size, paths-append, length-append);
-}
+first_more room units unit old new h names paths count size =
+    let named = map-append skeleton_named units (unit ∷ []) in
+    let ended = append_assoc (paths_of units) unit.1 (0 ∷ []) in
+    grind (arith, h, named, ended, paths-append units unit, length-append)
 
 -- of some units those before the ones that are left were read
 pub record GoesOn (room : Room) (all left : Listed) (first : FirstUnits) : Type 0 where
@@ -102,12 +94,9 @@ pub lists : (list : List Named) (first : FirstUnits) (old new : List ThorinSkele
     → IsFirst (room_of old before) list first → new ≡ written_over old first.names.items
     → after ≡ written_over before first.paths.items → count ≡ first.count
     → report.size ≡ first.size → ListsUnits list old new before after count report
-lists list first old new before after count report h names paths number size = record {
-  names = names ∙ ap (written_over old) h.names ∙ over_front old (map skeleton_named list);
-  paths = paths ∙ ap (written_over before) h.paths ∙ over_front before (paths_of list);
-  number = number ∙ h.count;
-  size = size ∙ h.size;
-}
+lists list first old new before after count report h names paths number size =
+    let front = over_front old (map skeleton_named list) in
+    grind (arith, h, front, over_front before (paths_of list))
 
 -- the fields that are told of an error, behind the size
 pub end_alone : (old new : ThorinReport) (n : ℕ) → TellsOfError (record old { size = n }) new
