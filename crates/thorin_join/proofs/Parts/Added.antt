@@ -25,10 +25,6 @@ use Rattle.thorin_join.specs.FirstUse.{named_by_ranges, named_by_section, named_
 use Rattle.thorin_join.proofs.Parts.Ranges.{count-fits, count-none, range-of}
 use Rattle.thorin_join.proofs.Units.ReadInTurn.{News}
 use Rattle.thorin_join.specs.Strings.{each_from, offset_of_entry, strings_at}
-use Rattle.std.proofs.lemmas.Bool.{false_from_ne_true}
-
-pub differ : (a b : SectionKind) → (a ≡ b → ⊥) → same_kind a b ≡ false
-differ a b apart = false_from_ne_true _ (λ same. apart (is-same a b same))
 
 -- bytes that are added to a section
 pub content-appended : (kind k : SectionKind) (bytes : List ℕ) (c : Contents) → content_of kind
