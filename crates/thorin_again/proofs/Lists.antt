@@ -85,15 +85,10 @@ plain-is bytes e = (λ found. grind arith, λ p. grind (arith, p))
 -- a unit with all that belongs to it, or with nothing
 abbrev pub meant_or : DwarfObject × Option Meaning → DwarfObject × Meaning
 meant_or u =
-    let none : Encoding = record { version = 0; format = Dwarf32; address_size = 0 } in (
-      u.0,
-      unwrap_or u.1 (record {
-        bytes = [];
-        contributions = λ k c. [];
-        strings = [];
-        encoding = none;
-      }),
-    )
+    let e : Encoding = record { version = 0; format = Dwarf32; address_size = 0 } in
+    let none : Meaning =
+    record { bytes = []; contributions = λ k c. []; strings = []; encoding = e } in
+    (u.0, unwrap_or u.1 none)
 
 pub there-back : (us : Members) → map meant_or (all_there us) ≡ us
 there-back [] = refl
