@@ -197,30 +197,6 @@ pub same-begun : {X : Type 0} (measure : Option InProgress → X) (file : Elf)
     → measure (Some (package_or_new file begun)) ≡ measure begun
 same-begun measure file same begun = grind arith
 
-pub uses-strings : (bytes : List ℕ) (begun : Option InProgress) (now : InProgress) → IsSound now
-    → with_input bytes begun ≡ Ok (Some now) → UsesStrings bytes begun now
-unfolding used_by named_in_file
-uses-strings bytes begun now fine h =
-    let t = takes bytes begun (Some now) h in
-    let start = same-begun strings_begun t.file refl begun in
-    elim t.does [
-      | inl u ↦
-          let v = u.1 in
-          let brings = source-brings v.source _ v.made (source-made v.source _ v.made v.with) in
-          record {
-            used = named_in v.source v.source.object.sections;
-            named = rw (t.opens, u.0, v.object_is, v.encoding_is, v.indexes_are) refl;
-            strings = cc (v.is, brings.are, start);
-            distinct = fine.units.table.distinct;
-          }
-      | inr n ↦ record {
-        used = [];
-        named = rw (t.opens, n.0) refl;
-        strings = cc (n.1, start);
-        distinct = fine.units.table.distinct;
-      }
-    ]
-
 -- its units
 pub made-order : (file : Elf) (object : InputFile) (begun : Option InProgress)
     → input_file_of file ≡ Ok object → order_test (order_of begun object.order) object.order ≡ Ok tt
@@ -264,4 +240,30 @@ input-keeps bytes begun now sound h =
           is = new-units t.file begun ∙ sym (append-nil (units_begun begun));
         };
       })
+    ]
+
+-- its strings
+pub uses-strings : (bytes : List ℕ) (begun : Option InProgress) (now : InProgress)
+    → IsSoundBegun begun → with_input bytes begun ≡ Ok (Some now) → UsesStrings bytes begun now
+unfolding used_by named_in_file
+uses-strings bytes begun now sound h =
+    let fine : IsSound now = (input-keeps bytes begun (Some now) sound h).sound in
+    let t = takes bytes begun (Some now) h in
+    let start = same-begun strings_begun t.file refl begun in
+    elim t.does [
+      | inl u ↦
+          let v = u.1 in
+          let brings = source-brings v.source _ v.made (source-made v.source _ v.made v.with) in
+          record {
+            used = named_in v.source v.source.object.sections;
+            named = rw (t.opens, u.0, v.object_is, v.encoding_is, v.indexes_are) refl;
+            strings = cc (v.is, brings.are, start);
+            distinct = fine.units.table.distinct;
+          }
+      | inr n ↦ record {
+        used = [];
+        named = rw (t.opens, n.0) refl;
+        strings = cc (n.1, start);
+        distinct = fine.units.table.distinct;
+      }
     ]

@@ -1,5 +1,5 @@
 use Rattle.thorin_join.proofs.Joined.{input-keeps}
-use Rattle.thorin_join.proofs.joins.inputs_are_joined.Goals as goal
+use Rattle.thorin_join.proofs.laws.inputs_are_joined.Goals as goal
 
 pub returns : goal.returns
 returns c = record {
