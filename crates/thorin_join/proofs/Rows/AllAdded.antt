@@ -33,13 +33,10 @@ module _ (order : Endianness) (place : UnitSection) (row : IndexEntry) (own : Li
       let head = h.0 in
       let next : at ≡ offset + length head.own + length head.rest =
       omega (arith, ap length head.are, length-append head.own head.rest) in
-      let first : Heads order place offset r (bytes ++ own) = record {
-        own = head.own;
-        rest = head.rest ++ own;
-        are = rw (head.are, append_assoc);
-        range = head.range;
-        is = head.is;
-      } in
+      let rest = head.rest ++ own in
+      let are : bytes ++ own ≡ head.own ++ rest = rw (head.are, append_assoc) in
+      let first : Heads order place offset r (bytes ++ own) =
+      record { own = head.own; rest = rest; are = are; range = head.range; is = head.is } in
       (first, lie-append (offset + length head.own) rs head.rest next h.1)
 
 -- how the rows of a package lie
