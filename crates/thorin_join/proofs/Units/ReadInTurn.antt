@@ -81,15 +81,11 @@ module _ (source : Source) (T : UnitSection → Header → Type 0) where
   section-are used so (Some place) at us h =
       each-named source used.kind (λ reads us. ((k : ℕ) (unit : Header)
       → slice_get reads k ≡ Some (Ok unit) → T place unit) → Each (WasRead source T) us) (λ _. tt)
-      (λ unit name reads us named others so. (
-        record {
-          place = place;
-          from = kind-place used.kind place at;
-          so = so 0 unit refl;
-          named = named;
-        },
-        others (λ k. so (suc k)),
-      )) _ us h (so place at)
+      (λ unit name reads us named others so.
+      let from = kind-place used.kind place at in
+      let first = so 0 unit refl in
+      (record { place = place; from = from; so = first; named = named }, others (λ k. so (suc k))))
+      _ us h (so place at)
 
   pub sections-are : (sections : List Used) (us : Reads) → Each AllSo sections
       → named_sections source sections ≡ Ok us → Each (WasRead source T) us
@@ -201,12 +197,9 @@ record AreJoined (adding : Adding) (before after : New) (all : Reads) : Type 0 w
 steps-joined : (adding : Adding) (before after : New) (us : Reads)
     → Steps adding before us after → AreJoined adding before after us
 unfolding with_unit with_first
-steps-joined adding before after [] same = record {
-  added = [];
-  units = ap (λ (n : New). n.units) (sym same) ∙ sym (append-nil before.units);
-  are = tt;
-  defined = refl;
-}
+steps-joined adding before after [] same =
+    let units = ap (λ (n : New). n.units) (sym same) ∙ sym (append-nil before.units) in
+    record { added = []; units = units; are = tt; defined = refl }
 steps-joined adding before after (u ∷ us) h =
     let named = same_name u.0 in
     let there = is_some-lookup named before.units in
