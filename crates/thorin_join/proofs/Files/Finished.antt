@@ -175,13 +175,10 @@ module _ (order : Endianness) (contents : Contents) (compilations types : Option
         let found = found-unit unit f i has.0 has.1 in
         let g = present_unit finds_exactly pack name (entry_ids own) i f.place _ f.is.owns.encoding
         (record { index_is = there; slots = has.1.slots }) found in
-        record {
-          found = _;
-          count = g.count;
-          few = grind (arith, rows-counted of rows name, found.within, g.few);
-          counted = g.counted;
-          is = found-is unit f i has.0 has.1;
-        }
+        let few : g.count ≤ limit_of units =
+        grind (arith, rows-counted of rows name, found.within, g.few) in
+        let is = found-is unit f i has.0 has.1 in
+        record { found = _; count = g.count; few = few; counted = g.counted; is = is }
 
     pub package-finds : Gives (lookup (same_name name) (members of rows))
     package-finds =
