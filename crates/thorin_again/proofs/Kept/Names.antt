@@ -47,11 +47,9 @@ module _ (rest : List ℕ) where
   lie-more : (ds : List (ℕ × Declaration)) (i left : Input) → DeclarationsLie i ds left
       → DeclarationsLie (more i rest) ds (more left rest)
   lie-more [] i left lie = ap (λ j. more j rest) lie
-  lie-more (d ∷ ds) i left lie = (
-    more lie.0 rest,
-    takes_more (next_takes i (d, lie.0) lie.1) rest,
-    lie-more ds lie.0 left lie.2,
-  )
+  lie-more (d ∷ ds) i left lie =
+      let next = takes_more (next_takes i (d, lie.0) lie.1) rest in
+      (more lie.0 rest, next, lie-more ds lie.0 left lie.2)
 
   found-stays : (code : ℕ) (i : Input) (d : Declaration) → declaration code i ≡ Ok (Some d)
       → declaration code (more i rest) ≡ Ok (Some d)
@@ -101,12 +99,11 @@ pub keep-names : (order : Endianness) (encoding : Encoding) (c d : Contents) →
     → (rows : List IndexEntry) → EachRow (LieInside c) rows
     → EachRow (NamesItself order encoding c) rows → EachRow (NamesItself order encoding d) rows
 keep-names order encoding c d grows [] lie names = tt
-keep-names order encoding c d grows (row ∷ rows) lie names = (
-  λ unit rest read. let same = keep-part c d row grows lie.0 in
-      rw (same kinds.Abbrev) (names.0 unit rest
-      (rw (same (kind_of (place_of row.id row.debug_types))) at read)),
-  keep-names order encoding c d grows rows lie.1 names.1,
-)
+keep-names order encoding c d grows (row ∷ rows) lie names =
+    let same = keep-part c d row grows lie.0 in
+    let own = same (kind_of (place_of row.id row.debug_types)) in
+    let later = keep-names order encoding c d grows rows lie.1 names.1 in
+    (λ unit rest read. rw (same kinds.Abbrev) (names.0 unit rest (rw own at read)), later)
 
 grows-self : (c : Contents) → Grows c c
 grows-self c kind = record { rest = []; is = sym (append-nil (content_of kind c)) }
@@ -189,14 +186,11 @@ module _ {source : Source} {before now : InProgress} (plain : is_package source.
   names-kept has sound same named =
       let c = before.file.contents in
       let b = (parted a).file.contents in
-      let new = news-are a (OfOne source) (of-one source source.object.sections has) IsNew
-      (λ n r is goes w. (r, is, goes, w)) in
-      let all = with-each a Name _ one-named new (
-        grows-self b,
-        λ d up. keep-names order source.encoding c d
-            (grows-trans c b d (grows-with_parts a.parts c) up) before.rows
-            (sound-inside before sound) (rw same named),
-      ) in
+      let old = λ (d : Contents) (up : Grows b d). keep-names order source.encoding c d
+      (grows-trans c b d (grows-with_parts a.parts c) up) before.rows (sound-inside before sound)
+      (rw same named) in
+      let all = with-each a Name _ one-named (news-are a (OfOne source) (of-one source
+      source.object.sections has) IsNew (λ n r is goes w. (r, is, goes, w))) (grows-self b, old) in
       rw (order-added a ∙ sym same) (all.1 now.file.contents (grows-self _))
 
 -- a unit in info is of version 5, or no type unit
@@ -249,8 +243,7 @@ module _ (source : Source) (encoding : Encoding) where
       let five = unit-none _ _ _ known.read in
       let goes : GoesToInfo encoding head.0 =
       grind (arith, five, known.encoding, f.2, head.2, known.type) in
-      let there = list_any-append (same_name head.0) (keys a.0) (keys b.0) in
-      (head.0, there ∙ rw head.1 refl, goes))
+      (head.0, list_any-append (same_name head.0) (keys a.0) (keys b.0) ∙ rw head.1 refl, goes))
       (λ other. let l = first-named rest b.0 b.1 (rw other at e) in
       (l.0, list_any-append (same_name l.0) (keys a.0) (keys b.0) ∙ or-right _ _ l.1, l.2)))
 
@@ -285,10 +278,9 @@ module _ (name : DwarfObject) where
       let c = p.file.contents in
       let content = content-with_bytes kinds.Info (kind_of u.1.place) u.1.bytes c in
       let long = length-append (content_of kinds.Info c) u.1.bytes in
-      let later = units-put (with_unit_added p u) us in
       let stays = each-added HasInfo (λ u. Unit {0}) (λ p u one. has-more p u) (with_unit_added p u)
       us (each-all _ (λ u. tt) us) in
-      grind (arith, names-added p u, content, long, later, stays)
+      grind (arith, names-added p u, content, long, units-put (with_unit_added p u) us, stays)
 
 -- once an object with units was added, info has bytes
 pub info-there : {source : Source} {before now : InProgress} → Made source before now
