@@ -112,10 +112,8 @@ pub record AddsOwn (bytes : List ℕ) (old new : State) (e : Encoding) : Type 0 
 pub own-adds : (bytes : List ℕ) (old new : State) (e : Encoding) → taken bytes old ≡ Ok new
     → (new.own ≡ Some e) ↔ AddsOwn bytes old new e
 unfolding taken
-own-adds bytes old new e h = (
-  λ k. grind (arith, nat_tests, encoding-eq),
-  λ a. grind (arith, nat_tests, a),
-)
+own-adds bytes old new e h =
+    (λ k. grind (arith, nat_tests, encoding-eq), λ a. grind (arith, nat_tests, a))
 
 pub units-names : (begun : Option InProgress) → length (units_begun begun) ≡ length (names_in begun)
 units-names begun = grind (arith, length-map)
