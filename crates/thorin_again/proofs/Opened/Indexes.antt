@@ -242,13 +242,11 @@ module _ (order : Endianness) (encoding : Encoding) (c : Contents) (strings : Li
       let own = range_bytes bytes range in
       let inside = are.0.lie.inside kinds.StrOffsets range e in
       let part = part-inside bytes range inside in
-      let same = all 0 m (omega arith) in
       let read = λ (k : ℕ). are.0.shares.string strings table (take-length strings) k in
-      let long = slice-long bytes range.offset.0 range.size inside in (
-        whole,
-        are-named order encoding (data_of strings) own range.size long whole
-            (slice_get m.1.strings) (λ k. grind (arith, e, part, same, read k)),
-      )
+      let long = slice-long bytes range.offset.0 range.size inside in
+      let named = are-named order encoding (data_of strings) own range.size long whole
+      (slice_get m.1.strings) (λ k. grind (arith, e, part, all 0 m (omega arith), read k)) in
+      (whole, named)
   some-can (row ∷ rows) (m ∷ ms) are all (inr h) = some-can rows ms are.1
       (All-tail (λ (u : DwarfObject × Meaning). u.1.encoding ≡ encoding) m ms all) h
 
