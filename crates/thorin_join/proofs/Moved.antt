@@ -135,8 +135,7 @@ module _ (d : ℕ) where
       (attributes encoding specs (away i)) ≡ first_identifier (attributes encoding specs i)
   unfolding number_of
   first-same encoding [] i = refl
-  first-same encoding (s ∷ ss) i =
-      grind (arith, readings, attribute-shifts, first-same encoding ss)
+  first-same encoding (s ∷ ss) i = grind (arith, readings, attribute-shifts, first-same encoding ss)
 
   -- the identity in a root entry
   root-same : (section : Input) (unit other : Header) → IsShifted d unit other
@@ -200,8 +199,7 @@ module _ (d : ℕ) where
   unit-shifts : (place : UnitSection) (i : Input) → unit_at place (there d by i)
       ≡ moved (λ x. (unit_there x.0, there d by x.1)) (unit_at place i)
   unfolding unit_at header_at
-  unit-shifts place i =
-      grind (arith, length-shifts, readings, there-is, newer-shifts, older-shifts)
+  unit-shifts place i = grind (arith, length-shifts, readings, there-is, newer-shifts, older-shifts)
 
 -- with more behind them
 module _ (rest : List ℕ) where

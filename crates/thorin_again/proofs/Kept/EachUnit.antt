@@ -32,8 +32,7 @@ encoding-eq a b h = grind (arith, nat_tests)
 
 -- what is known of a unit of an input of one encoding
 abbrev pub OfOne : Source → UnitSection → Header → Type 0
-OfOne source place unit =
-    IsKnown source.object.order place unit × (unit.encoding ≡ source.encoding)
+OfOne source place unit = IsKnown source.object.order place unit × (unit.encoding ≡ source.encoding)
 
 pub of-one : (source : Source) (sections : List Used)
     → list_all (section_has source.encoding source.object.order) sections ≡ true

@@ -72,8 +72,7 @@ module _ (rest : List ℕ) where
   root-stays : (section : Input) (unit : Header) (name : Option DwarfObject)
       → root_identity section unit ≡ Ok name → root_identity (more section rest) unit ≡ Ok name
   unfolding root_identity
-  root-stays section unit name h =
-      grind (arith, from-stays unit.abbrev_offset section, found-stays)
+  root-stays section unit name h = grind (arith, from-stays unit.abbrev_offset section, found-stays)
 
 -- the identity that a unit has by a table of abbreviations it has too where bytes follow the table
 pub identity-stays : (section : Input) (rest : List ℕ) (unit : Header) (name : Option DwarfObject)

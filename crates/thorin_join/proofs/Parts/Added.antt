@@ -215,8 +215,7 @@ string-more : (section : List ℕ) (f : ℕ → ℕ) (i n j : ℕ) (l : List (Li
 unfolding strings_at
 string-more section f i zero j l string at h k =
     let here : i ≡ j = omega arith in grind arith
-string-more section f i (suc n) j l string at h k =
-    grind (arith, string-more section f (i + 1) n j)
+string-more section f i (suc n) j l string at h k = grind (arith, string-more section f (i + 1) n j)
 
 pub no-entries : (encoding : Encoding) → entry_count encoding 0 ≡ 0
 no-entries encoding = count-none encoding.format 0 (header_size encoding) (omega arith)

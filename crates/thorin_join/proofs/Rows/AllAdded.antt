@@ -114,13 +114,11 @@ AllNew names (u ∷ us) = (list_any (same_name u) names ≡ false) × AllNew (na
 pub joined-new : {X : Type 0} (names : List DwarfObject) (us : List (DwarfObject × X))
     → AllNew names (keys (joining names us))
 joined-new names [] = tt
-joined-new names (u ∷ us) =
-    grind (arith, joined-new names us, joined-new (names ++ u.0 ∷ []) us)
+joined-new names (u ∷ us) = grind (arith, joined-new names us, joined-new (names ++ u.0 ∷ []) us)
 
 pub names-added : (p : InProgress) (u : DwarfObject × NewUnit) → names_of (with_unit_added p u) ≡
     names_of p ++ u.0 ∷ []
-names-added p u =
-    rw (map-append, row-name u.1.row p.file.contents u.0 u.1.bytes u.1.place) refl
+names-added p u = rw (map-append, row-name u.1.row p.file.contents u.0 u.1.bytes u.1.place) refl
 
 -- units that can be added
 abbrev pub AllCanBeAdded : Endianness → Contents → List (List ℕ) → News → Members → Type 0

@@ -135,8 +135,7 @@ pub record RowShares (source : Source) (before parts : Contents) (after : List (
 none-found : {X : Type 0} (other test : X → Bool) → ((x : X) → other x ≡ true → test x ≡ false)
     → (xs : List X) → list_all other xs ≡ true → is_none (find test xs) ≡ true
 none-found other test fails [] pass = refl
-none-found other test fails (x ∷ xs) pass =
-    grind (arith, fails x, none-found other test fails xs)
+none-found other test fails (x ∷ xs) pass = grind (arith, fails x, none-found other test fails xs)
 
 module _ (source : Source) (before parts : Contents) (read : DwarfObject × UnitRead)
     (row : IndexEntry) (made : IsUnitRow source.indexes (whole_row source.encoding before parts)
@@ -147,8 +146,7 @@ module _ (source : Source) (before parts : Contents) (read : DwarfObject × Unit
   -- a kind of which it has a range is shared
   has-shared : (kind : SectionKind) (range : Contribution) → contribution_to kind row ≡ Some range
       → is_shared kind ≡ true
-  has-shared kind range h =
-      grind (arith, whole-else source.encoding before parts)
+  has-shared kind range h = grind (arith, whole-else source.encoding before parts)
 
   -- the unit by these ranges, which has these parts
   shares-by : (after : List (List ℕ)) (ranges : Option Ranges) (part : SectionKind → List ℕ)

@@ -112,8 +112,7 @@ module _ (adding : Adding) where
   steps-append : (before mid after : New) (us vs : Reads)
       → Steps before us mid → Steps mid vs after → Steps before (us ++ vs) after
   steps-append before mid after [] vs h k = rw h k
-  steps-append before mid after (u ∷ us) vs h k =
-      (h.0, h.1, steps-append h.0 mid after us vs h.2 k)
+  steps-append before mid after (u ∷ us) vs h k = (h.0, h.1, steps-append h.0 mid after us vs h.2 k)
 
   -- the units of a meaning are read and added
   pub record AreRead (before after : New) (meaning : Result Reads ErrorValue) : Type 0 where
@@ -160,8 +159,7 @@ module _ (adding : Adding) where
   pub units-read : (new : New) → new_units adding ≡ Ok new
       → AreRead (record { units = []; differing = [] }) new (source_units adding.source)
   unfolding new_units
-  units-read new h =
-      grind (arith, sections-read (none_met, record { units = []; differing = [] }))
+  units-read new h = grind (arith, sections-read (none_met, record { units = []; differing = [] }))
 
 -- a unit is added for one that was read, with its row
 pub record IsAdded (adding : Adding) (new : DwarfObject × NewUnit) (read : DwarfObject
