@@ -102,8 +102,7 @@ pub laid-lies : (made : InProgress) (parts : Contents)
     → ((place : UnitSection) → joined_parts (kind_of place) parts ≡ []) → IsLaid made
     → RowsLie made.file.order made.rows (with_parts parts made.file.contents)
 laid-lies made parts none laid =
-    let empty = append-nil {A = ℕ} in
-    grind (arith, content-with_parts, none, empty, laid.info, laid.types, laid.once)
+    grind (arith, content-with_parts, none, append-nil {A = ℕ}, laid.info, laid.types, laid.once)
 
 -- units whose names are new
 abbrev pub AllNew : List DwarfObject → List DwarfObject → Type 0
@@ -160,7 +159,6 @@ units-added base p (u ∷ us) ms (m ∷ added) grows new can rows lie =
     let a = units-added base q us (ms ++ m ∷ []) added (grows-trans base c q.file.contents grows
     more) (rw names new.1) can.1 (rows-next order q.file.contents p.strings p.rows ms _ m before
     row) (unit-lies order c p.rows u can.0.can lie) in
-    let rest = append_assoc ms (m ∷ []) added in
     let named = append_assoc (names_of p) (u.0 ∷ []) (keys us) in
-    rw new.0 (grind (arith, a, rest, names, named, content-with_bytes))
+    rw new.0 (grind (arith, a, append_assoc ms (m ∷ []) added, names, named, content-with_bytes))
 units-added base p _ ms _ grows new can rows lie = absurd can
