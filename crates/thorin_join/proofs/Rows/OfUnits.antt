@@ -200,8 +200,7 @@ module _ (source : Source) (before parts : Contents) (read : DwarfObject × Unit
     unfolding row_test row_of
     own =
         let part = made.parts Abbrev refl in
-        let found = adjusted-packed source.indexes name packed Abbrev _ _ part in
-        grind (arith, test, packed, found.1)
+        grind (arith, test, packed, (adjusted-packed source.indexes name packed Abbrev _ _ part).1)
 
     each-placed : (kind : SectionKind) → is_shared kind ≡ true → Placed (content_of kind before)
         (joined_parts kind parts) (range_in own.row kind) (contribution_to kind row)
