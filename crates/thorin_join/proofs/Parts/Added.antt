@@ -351,9 +351,8 @@ pub each-unit : (P : InProgress → News → InProgress → Type 0) → ((p : In
 unfolding with_new_units with_new_unit
 each-unit P none passed added p [] = none p
 each-unit P none passed added p (u ∷ us) =
-    let old = each-unit P none passed added p us in
     let new = each-unit P none passed added (with_unit_added p u) us in
-    grind (arith, passed p u us _ old, added p u us _ new)
+    grind (arith, passed p u us _ (each-unit P none passed added p us), added p u us _ new)
 
 -- units bring no strings
 pub units-strings : (p : InProgress) (us : News) → (with_new_units p us).strings ≡ p.strings
