@@ -95,10 +95,9 @@ alone-units bytes us now distinct joins means =
 alone-finds : (us vs : Members) (bytes : List ℕ) → IsPermutation us vs → IsDistinct same_name
     (keys us) → (p : IsPackageOf vs bytes) → Finds p.pack us
 alone-finds us vs bytes perm distinct p name =
-    let same = found-again us vs distinct perm name in
     let limit : look_limit us name ≡ look_limit vs name =
     ap limit_of (count-again (λ u. same_sort name u.0) us vs perm) in
-    rw (limit, same) (p.finds name)
+    rw (limit, found-again us vs distinct perm name) (p.finds name)
 
 -- what the state of a written file has
 data-there : (strings : List (List ℕ)) → 0 < length strings → 0 < length (data_of strings)
