@@ -55,9 +55,8 @@ module _ (source : Source) (before : InProgress) (parts : Contents) (after : Lis
       → Ready source (with_parts parts before.file.contents) after ns rs
   ready [] [] are go = record { members = []; are = refl; can = tt }
   ready (n ∷ ns) (r ∷ rs) are go =
-      let made = is-unit_row source.indexes _ r.0 n.1.row are.0.row in
-      let s = row-shares source before.file.contents parts r n.1.row made before.strings after table
-      h are.0.tested in
+      let s = row-shares source before.file.contents parts r n.1.row (is-unit_row source.indexes _
+      r.0 n.1.row are.0.row) before.strings after table h are.0.tested in
       let can = can-lie source before parts n r are.0 go.0 in
       let rest = ready ns rs are.1 go.1 in
       record {
