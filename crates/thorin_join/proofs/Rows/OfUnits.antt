@@ -157,10 +157,9 @@ module _ (source : Source) (before parts : Contents) (read : DwarfObject × Unit
       → RowShares source before parts after read row
   unfolding meaning_by
   shares-by after ranges part table is lies copied inside reads =
-      let old = first Str source.object.sections in
-      let offsets = offsets_by source ranges in
-      let strings = strings-there source.object.order source.encoding old offsets (λ i.
-      (reads after table (take-length after) i).readable) in
+      let strings = strings-there source.object.order source.encoding
+      (first Str source.object.sections) (offsets_by source ranges)
+      (λ i. (reads after table (take-length after) i).readable) in
       record {
         unit = record {
           bytes = read.1.unit.whole.bytes;
