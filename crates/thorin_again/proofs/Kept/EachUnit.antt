@@ -264,8 +264,7 @@ input-rows P bytes begun now new h old =
           let u = w.1 in
           let read : input_encoding bytes ≡ Ok u.source.encoding =
           rw (t.opens, u.object_is, u.encoding_is) refl in
-          let kept = rows-kept (source-made u.source before u.made u.with) P
-          (λ row format encoding. new row format (read ∙ ap (λ e. Ok e) (sym encoding))) was in
-          subst (λ b. EachRow P (rows_begun b)) u.is kept
+          subst (λ b. EachRow P (rows_begun b)) u.is (rows-kept (source-made u.source before u.made
+          u.with) P (λ row format encoding. new row format (read ∙ ap Ok (sym encoding))) was)
       | inr none ↦ subst (λ b. EachRow P (rows_begun b)) none.1 was
     ]
