@@ -127,9 +127,8 @@ taken-holds bytes old new sound holds h = record {
       let now = begun-now bytes old new h in
       let t = takes bytes old.begun new.begun now in
       let a = (own-adds bytes old new e h).0 k in
-      let keeps = input-keeps bytes old.begun new.begun sound now in
-      units-hold (λ unit. unit.encoding ≡ e) keeps.joins t
-      (λ u all read. each-all _ (λ r unit made. made.0 ∙ (own-units a.found t u).is) all)
+      units-hold (λ unit. unit.encoding ≡ e) (input-keeps bytes old.begun new.begun sound now).joins
+      t (λ u all read. each-all _ (λ r unit made. made.0 ∙ (own-units a.found t u).is) all)
       (begun-all (λ unit. unit.encoding ≡ e) old.begun
       (λ made is. rw is at (holds.all e (a.before made is))));
 }
