@@ -85,9 +85,8 @@ alone-units : (bytes : List ℕ) (us now : Members) → IsDistinct same_name (ke
     → input_meaning bytes ≡ Ok meant → IsPermutation (all_meant us) meant) → IsPermutation us now
 alone-units bytes us now distinct joins means =
     let perm = means joins.units joins.meaning in
-    let apart = apart-again (all_meant us) joins.units perm (rw map-map distinct) in
-    let units : joins.units ≡ all_meant joins.added = sym (joining-apart [] joins.units apart)
-    ∙ joins.joined in
+    let units : joins.units ≡ all_meant joins.added = sym (joining-apart [] joins.units (apart-again
+    (all_meant us) joins.units perm (rw map-map distinct))) ∙ joins.joined in
     let full = IsPermutation-map meant_or (all_meant us) _ (rw units at perm) in
     rw joins.is (rw (there-back us, there-back joins.added) at full)
 
@@ -190,9 +189,8 @@ module _ (state : State) (file : File) (sound : IsSoundBegun state.begun) (holds
         offsets = λ some. (strings-there some, given.0);
       }) in
       let opens = opened-elf (file_text file) (written_elf file) back in
-      let object = object-written file differ in
-      rw (t.is, opens, info-written file info, object, own.first) (and-then E _ _
-      (and-then E _ _ (and-then E _ _ parts (λ p e. rw abbreviations-tested
+      rw (t.is, opens, info-written file info, object-written file differ, own.first)
+      (and-then E _ _ (and-then E _ _ (and-then E _ _ parts (λ p e. rw abbreviations-tested
       (and-then E _ _ (given.1 p e) (λ new h. tt)))) (λ m h. tt)) (λ now h. tt))
 
   -- a package of its byte order takes them, unless it is foreseen otherwise
