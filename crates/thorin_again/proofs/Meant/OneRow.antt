@@ -212,12 +212,9 @@ module _ {encoding : Encoding} {file : File} {indexes : Indexes} {made : InProgr
   unfolding row_test
   row-tested = grind (arith, nat_tests, read.again.packed, own-range, there.1, row-first, looked)
 
-  abbrev abbreviations : Input
-  abbreviations =
-      section file.order (part_of (content_of kinds.Abbrev file.contents) row.debug_abbrev)
-
-  -- it has the name of its row
-  pub named-again : identity abbreviations h ≡ Ok (Some row.id) → name_for source kind h ≡ Ok row.id
+  -- it has the name of its row, by its row's abbreviations
+  pub named-again : identity (section file.order (part_of (content_of kinds.Abbrev file.contents)
+      row.debug_abbrev)) h ≡ Ok (Some row.id) → name_for source kind h ≡ Ok row.id
   unfolding name_for abbreviations_for row_abbreviations numbered_abbreviations identity
   named-again named =
       let inside = outside kinds.Abbrev in
