@@ -203,10 +203,6 @@ first-read : (encoding : Encoding) (reads : Listed) → first_encoding reads ≡
     → (unit : Header) × (slice_get reads 0 ≡ Some (Ok unit)) × (unit.encoding ≡ encoding)
 first-read encoding reads h = grind arith
 
--- units of the name go to info, wherever they stand
-abbrev GoesToInfo : Encoding → DwarfObject → Type 0
-GoesToInfo encoding name = (encoding.version ≡ 5) ⊎ (name_signature name ≡ None)
-
 -- a name is of these
 abbrev IsThere : DwarfObject → List DwarfObject → Type 0
 IsThere name names = list_any (same_name name) names ≡ true
@@ -226,7 +222,8 @@ module _ (source : Source) (encoding : Encoding) where
 
   first-named : (sections : List Used) (all : Reads) → named_sections source sections ≡ Ok all
       → first_encoding (units places.Info (section source.object.order (first kinds.Info sections)))
-      ≡ Ok encoding → (name : DwarfObject) × IsThere name (keys all) × GoesToInfo encoding name
+      ≡ Ok encoding → (name : DwarfObject) × IsThere name (keys all)
+      × ((encoding.version ≡ 5) ⊎ (name_signature name ≡ None))
   unfolding named_sections units units_within
   first-named [] all h e = absurd cc
   first-named (from ∷ rest) all h e =
@@ -240,7 +237,7 @@ module _ (source : Source) (encoding : Encoding) where
       grind (arith, a.1, is-same from.kind kinds.Info is) in
       let head = head-named from.kind _ a.0 read f.0 f.1 in
       let five = unit-none _ _ _ known.read in
-      let goes : GoesToInfo encoding head.0 =
+      let goes : (encoding.version ≡ 5) ⊎ (name_signature head.0 ≡ None) =
       grind (arith, five, known.encoding, f.2, head.2, known.type) in
       (head.0, list_any-append (same_name head.0) (keys a.0) (keys b.0) ∙ rw head.1 refl, goes))
       (λ other. let l = first-named rest b.0 b.1 (rw other at e) in
