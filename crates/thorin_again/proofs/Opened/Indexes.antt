@@ -30,7 +30,6 @@ use Rattle.thorin_again.proofs.Offsets.RewrittenAgain.{ranges-are, tile-lies, ti
 use Rattle.thorin_again.proofs.Offsets.RewrittenAgain.{used-chosen}
 use Rattle.thorin_package_input.specs.PackagedOffsets.{packaged_offsets, rewritten_from}
 use Rattle.dwp_table.specs.Table.{AreDistinct}
-use Rattle.thorin_join.specs.State.{names_of}
 use Rattle.thorin_join.proofs.Parts.Added.{rewritten-package, slice-long}
 use Rattle.dwp_base.specs.declared.section.SectionKind.TheVariants as kinds
 use Rattle.dwp_units.specs.declared.unit.UnitSection.TheVariants as places
@@ -142,7 +141,7 @@ module _ {state : State} {encoding : Encoding} {file : File} (own : IsOwn state 
       (first kind (written_object file).sections)) (sym (finished-order made file f))
       (rw (first-written kind file.contents own.kinds) (index-taken _ encoding _ _ text tested
       (chosen-fit b made.rows own.finished.identifiers)
-      (distinct_chosen b made.rows (names_of made) refl own-made.sound.apart)
+      (distinct_chosen b made.rows own-made.sound.apart)
       (All-filter (is_chosen b) (λ row. row.encoding.version ≡ encoding.version) made.rows
       own-made.version)))
 

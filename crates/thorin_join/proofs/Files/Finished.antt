@@ -6,7 +6,7 @@ use Terms.{contribution_to, data_of, DwarfObject, Endianness, entry_ids, false, 
 use Terms.{filter, GivesNone, held_content, identifier_of, IdentifiersFit, Index, index_for}
 use Terms.{index_tests, IndexEntry, InProgress, is_chosen, is_compilation, IsFinished, IsRowOf}
 use Terms.{IsSound, IsSoundBegun, IsTable, kind_of, length, length-map, List, lookup, map}
-use Terms.{MatchOption, Meaning, meaning_at, Members, names_of, nat_tests, None, not, Ok, Option}
+use Terms.{MatchOption, Meaning, meaning_at, Members, nat_tests, None, not, Ok, Option}
 use Terms.{Package, part_of, range_in, refl, row_bytes, rows_of, same_kind, same_name, SectionKind}
 use Terms.{sections_of, slice_get, slice_index, Some, suc, sym, take-length, true, units_in}
 use Terms.{units_of, UnitSection, with_bytes, zero, [], ℕ, ◌++◌, ◌+◌, ◌<◌, ◌∙◌, ◌∷◌, ◌≡◌, ◌≤◌}
@@ -241,7 +241,7 @@ module _ (made : InProgress) (file : File) (f : IsFinished made file) where
   package-is sound tested fits differ back =
       let of = meaning_at made.file.order made.file.contents made.strings in
       let units = sound.units in
-      let apart = λ (b : Bool). distinct_chosen b made.rows (names_of made) refl sound.apart in
+      let apart = λ (b : Bool). distinct_chosen b made.rows sound.apart in
       let c = index-read made.file.order (rows_of true made.rows) f.compilation_index f.compilations
       tested.compilation_rows (apart true) (chosen-fit true made.rows fits) in
       let t = index-read made.file.order (rows_of false made.rows) f.type_index f.types

@@ -61,14 +61,14 @@ chosen-distinct b (d ∷ rest) chosen apart i j hi hj h =
     grind (arith, long, at i d 0, at j d 0, chosen, sort, same-sort, apart i j d, apart j i d)
 
 -- rows whose names are apart: those of one kind have distinct identifiers
-pub distinct_chosen : (b : Bool) (rows : List IndexEntry) (names : List DwarfObject)
-    → map (λ r. r.id) rows ≡ names → AreApart names → AreDistinct (entry_ids (rows_of b rows))
-distinct_chosen b rows names h apart =
+pub distinct_chosen : (b : Bool) (rows : List IndexEntry) → AreApart (map (λ r. r.id) rows)
+    → AreDistinct (entry_ids (rows_of b rows))
+distinct_chosen b rows apart =
     chosen-distinct b (rows_of b rows) (filter_passes (is_chosen b) rows)
     (AllPairs-filter (λ r s. same_name r.id s.id ≡ false) (is_chosen b) rows
     (λ i j d before within. let at = get_or-at (λ (r : IndexEntry). r.id) rows in
     let long = length-map rows (λ (r : IndexEntry). r.id) in
-    grind (arith, h, long, at i d d.id, at j d d.id, apart i j d.id)))
+    grind (arith, long, at i d d.id, at j d d.id, apart i j d.id)))
 
 module _ (order : Endianness) (contents : Contents) (strings : List (List ℕ))
     (table : IsTable strings) where
