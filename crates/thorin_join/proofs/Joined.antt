@@ -6,12 +6,12 @@ use Terms.{DwarfObject, Each, Elf, false, first, has_info, indexes_of, inl, InPr
 use Terms.{input_file_of, InputFile, inr, IsSound, IsSoundBegun, IsTable, joined_parts, joining}
 use Terms.{Joins, keys, kind_of, List, map, Meaning, Members, names_of, New, new_units, None}
 use Terms.{offsets_used, Ok, opened, Option, order_test, package_or_new, parts_of, refl, Represents}
-use Terms.{Some, Source, source_units, Str, subst, sum_by, sym, true, unit_bytes, units_begun}
+use Terms.{Some, Source, source_units, Str, subst, sum_by, sym, true, units_begun}
 use Terms.{units_of, with_input, with_new_units, with_parts, with_source, [], ℕ, ◌++◌, ◌∙◌, ◌∷◌}
-use Terms.{◌≡◌, ◌⊎◌}
+use Terms.{map-map, ◌≡◌, ◌⊎◌}
 use Rattle.thorin_join.specs.State.{held_units, with_all}
 use Rattle.thorin_join.specs.Meaning.{input_meaning, meant, object_meaning, source_meaning}
-use Rattle.thorin_join.proofs.Units.InRows.{apart-none, joined_distinct, keys-units, rows-keys}
+use Rattle.thorin_join.proofs.Units.InRows.{apart-none, joined_distinct, keys-units}
 use Rattle.thorin_join.proofs.Units.InRows.{units-are}
 use Rattle.thorin_join.proofs.Units.ReadInTurn.{added-keys, AreAdded, each-joining, News, Reads}
 use Rattle.thorin_join.proofs.Units.ReadInTurn.{units-joined}
@@ -68,7 +68,7 @@ module _ (source : Source) (before : InProgress) (parts : Contents) (after : Lis
 
 -- the names of a package's units
 pub keys-held : (made : InProgress) → keys (held_units made) ≡ names_of made
-keys-held made = rows-keys (unit_bytes made.file.contents) made.rows
+keys-held made = rw map-map
 
 -- the package with the parts, before its units
 abbrev pub with_all_parts : InProgress → Contents → List (List ℕ) → List ℕ → InProgress

@@ -49,6 +49,7 @@ pub use Rattle.std.proofs.lemmas.List.{map-append, nil_from_length, take-append-
 pub use Rattle.std.proofs.lemmas.List.Elements.{filter-append, filter_passes}
 pub use Rattle.std.proofs.lemmas.List.Folds.{flat_map-map, list_any-append, list_any_at}
 pub use Rattle.std.proofs.lemmas.Option.{none-some, same_Some}
+pub use Rattle.std.proofs.lemmas.Simd.{map-map}
 pub use Rattle.std.specs.List.{AllByRecursion as Each, find, list_all, list_any, position_or_len}
 pub use Rattle.std.specs.List.{sum_by}
 pub use Rattle.std.specs.Map.{lookup}

@@ -7,7 +7,7 @@ use Terms.{false, filter_passes, get_or-at, identifier_of, IndexEntry, InProgres
 use Terms.{is_compilation, IsRowOf, IsTable, joining, keys, length-map, List, list_any, list_any_at}
 use Terms.{map, Meaning, meaning_at, Members, names_of, Ok, part_of, refl, Represents}
 use Terms.{result_unwrap_or, rows_of, same_name, strings_of, StrOffsets, sym, take-length, true}
-use Terms.{unit_bytes, units_of, [], ℕ, ◌++◌, ◌∷◌, ◌≡◌}
+use Terms.{map-map, unit_bytes, units_of, [], ℕ, ◌++◌, ◌∷◌, ◌≡◌}
 use Rattle.std.proofs.lemmas.List.Kept.{AllPairs-filter}
 use Rattle.std.proofs.lemmas.List.Quantifiers.{all_pairs_push}
 use Rattle.thorin_join.proofs.Parts.Ranges.{strings-are}
@@ -103,10 +103,5 @@ pub units-are : (made : InProgress) (ms : Members) → Represents made ms → ms
 units-are made ms has = rows-are made.file.order made.file.contents made.strings has.table
     made.rows ms has.rows
 
-pub rows-keys : {X : Type 0} (of : IndexEntry → X) (rows : List IndexEntry)
-    → keys (map {B = DwarfObject × X} (λ row. (row.id, of row)) rows) ≡ map (λ row. row.id) rows
-rows-keys of [] = refl
-rows-keys of (r ∷ rs) = ap (λ l. r.id ∷ l) (rows-keys of rs)
-
 pub keys-units : (made : InProgress) → keys (units_of made) ≡ names_of made
-keys-units made = rows-keys (meaning_at made.file.order made.file.contents made.strings) made.rows
+keys-units made = rw map-map
