@@ -8,7 +8,7 @@ use Terms.{AreRowsOf, arith, bind-was, content_of, Contents, DwarfObject, each-a
 use Terms.{elf_of, Encoding, encoding_in, encoding_of, Endianness, File, file_encoding, file_text}
 use Terms.{finished-is, finished-order, finished-own, first_encoding, found_counted, Header}
 use Terms.{header_at, HoldsOwn, HoldsPlain, IfSome, IndexEntry, inl, InProgress, Input, input-keeps}
-use Terms.{input_encoding, inr, IsPlain, IsSound, IsSoundBegun, Joins, kind_of, KindsDiffer, length}
+use Terms.{input_encoding, inr, IsSound, IsSoundBegun, Joins, kind_of, KindsDiffer, length}
 use Terms.{length-append, length-map, List, list_all, lookup, made-order, map, Meaning, meaning_at}
 use Terms.{Members, members, NamesItself, None, Ok, older_at, opened, Option, own_encoding, Package}
 use Terms.{package_of, package_or_new, place_of, ReadError, Reads, refl, same-begun, same-ok}
@@ -298,7 +298,7 @@ module _ (order : Endianness) (encoding : Encoding) (contents : Contents)
   abbrev Is : DwarfObject × Meaning → Type 0
   Is u = IsEncoded order u.1
 
-  rows-encoded : (rows : List IndexEntry)
+  pub rows-encoded : (rows : List IndexEntry)
       → AreRowsOf order contents strings rows (map {B = DwarfObject × Meaning} unit_of rows)
       → EachRow (NamesItself order encoding contents) rows → AllOf encoding (map {B = DwarfObject
       × Meaning} unit_of rows) → All Is (map {B = DwarfObject × Meaning} unit_of rows)
@@ -315,12 +315,6 @@ module _ (order : Endianness) (encoding : Encoding) (contents : Contents)
       All-cons Is (unit_of r) units (λ place found rest is. places-encoding place owns.place
       (section order bytes) (found, rest) u.0 is u.1 ∙ named.0 ∙ sym (All-head has
       (unit_of r) units all)) (rows-encoded rs are.1 names.1 (All-tail has (unit_of r) units all))
-
--- the units of an own package
-pub own-encoded : (made : InProgress) (encoding : Encoding) → IsSound made → IsPlain encoding made
-    → AllOf encoding (units_of made) → AreEncoded made.file.order (units_of made)
-own-encoded made encoding sound plain all = rows-encoded made.file.order encoding made.file.contents
-    made.strings made.rows sound.units.rows plain.units all
 
 -- a unit is encoded, and has the encoding
 abbrev pub IsAlike : Endianness → Encoding → DwarfObject × Meaning → Type 0

@@ -11,9 +11,9 @@ use Terms.{list_any-append, list_any_none, lookup, Meaning, Members, nat_tests, 
 use Terms.{new_units, None, Ok, Option, own_encoding, own_source, package_or_new, Parts, parts_of}
 use Terms.{refl, rewritten, same_name, same_name-self, same_name-true, SectionKind, Some, subst}
 use Terms.{sym, true, units_begun, units_in, units_of, with_source, written_elf, written_object, []}
-use Terms.{ℕ, ◌++◌, ◌<◌, ◌∙◌, ◌∷◌, ◌≡◌}
+use Terms.{IsSound, ℕ, ◌++◌, ◌<◌, ◌∙◌, ◌∷◌, ◌≡◌}
 use Rattle.thorin_again.proofs.Lists.{answers-whole, AreEncoded, Finds, first-of, input-order}
-use Rattle.thorin_again.proofs.Lists.{meant_or, own-encoded, there-back}
+use Rattle.thorin_again.proofs.Lists.{meant_or, rows-encoded, there-back}
 use Rattle.std.proofs.Common.{Bool, cond, filter, IsPermutation, ltb-true, nat_lt, not, ◌||◌}
 use Rattle.thorin_join.specs.Builder.{begun_by, finish_test, IsFinishedState, order_of, start}
 use Rattle.thorin_join.specs.Builder.{State, taken, with_source_or_new}
@@ -128,7 +128,10 @@ module _ (state : State) (file : File) (sound : IsSoundBegun state.begun) (holds
   all = subst (λ b. AllOf encoding (units_begun b)) f.begun (holds.all encoding there.1)
 
   encoded : AreEncoded f.made.file.order (units_of f.made)
-  encoded = own-encoded f.made encoding (rw f.begun at sound) plain all
+  encoded =
+      let fine : IsSound f.made = rw f.begun at sound in
+      rows-encoded f.made.file.order encoding f.made.file.contents f.made.strings f.made.rows
+      fine.units.rows plain.units all
 
   abbrev own : IsOwn state encoding file
   own =
