@@ -136,7 +136,7 @@ module _ {source : Source} {before now : InProgress} (plain : is_package source.
       let id = row-name n.1.row c n.0 x place in
       let place_is : place_of row.id row.debug_types ≡ place =
       ap (λ n. place_of n row.debug_types) id
-      ∙ sym (own-place n.1.row c n.0 x place (can-lie source before a.parts n r is goes).fits) in
+      ∙ sym (own-place n.1.row c n.0 x place (can-lie source before a.parts n r is goes)) in
       let own : unit_bytes d row ≡ x = ap (λ p. part_of (content_of (kind_of p) d)
       (contribution_to (kind_of p) row)) place_is ∙ ap (part_of (content_of k d))
       (row-own n.1.row c n.0 x place) ∙ put-stays (content_of k c) x (content-put k x c) (up k) in

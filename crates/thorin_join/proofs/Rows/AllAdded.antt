@@ -59,13 +59,13 @@ module _ (order : Endianness) (c : Contents) (rows : List IndexEntry) (u : Dwarf
 
   at-is : (other : UnitSection) → is_at other row ≡ same_place other place
   at-is other = rw (row-name u.1.row c u.0 u.1.bytes place)
-      (ap (same_place other) (sym (own-place u.1.row c u.0 u.1.bytes place can.fits)))
+      (ap (same_place other) (sym (own-place u.1.row c u.0 u.1.bytes place can)))
 
   pub unit-lies : RowsLie order rows c
       → RowsLie order (rows ++ row ∷ []) (with_bytes (kind_of place) u.1.bytes c)
   unit-lies lie =
       let range = row-own u.1.row c u.0 u.1.bytes place
-      ∙ place-put (kind_of place) u.1.bytes c can.fits.some in
+      ∙ place-put (kind_of place) u.1.bytes c can.whole.some in
       let behind = lie-append order place row u.1.bytes _ range (rw
       (row-name u.1.row c u.0 u.1.bytes place) can.whole) 0 _ _ (omega arith) (lie.lies place) in
       record {
@@ -77,7 +77,7 @@ module _ (order : Endianness) (c : Contents) (rows : List IndexEntry) (u : Dwarf
         once = All-append (λ row. (other : UnitSection) → is_at other row ≡ false
             → contribution_to (kind_of other) row ≡ None) rows (row ∷ []) lie.once (
               λ other apart.
-                  grind (arith, row-other, kinds-same, at-is other, can.no_info, can.fits.no_types),
+                  grind (arith, row-other, kinds-same, at-is other, can.no_info, can.no_types),
               tt,
             );
       }
