@@ -14,8 +14,8 @@ use Terms.{own_source, part-inside, range_bytes, refl, rewritten, rows_at, rows_
 use Terms.{same-ok, same_Some, SectionKind, slice_get, Some, source_for, subst, sym, take-length}
 use Terms.{TakesUpToParts, true, units_of, UnitSection, UnlessStringOffset, version_test}
 use Terms.{with_input, with_units, written_elf, written_object, [], ℕ, ◌<◌, ◌∙◌, ◌∷◌, ◌≡◌}
-use Rattle.thorin_join.proofs.Files.Finished.{finished-compilations, finished-content}
-use Rattle.thorin_join.proofs.Files.Finished.{finished-grows, finished-types, Tested, tested-state}
+use Rattle.thorin_join.proofs.Files.Finished.{finished-content, finished-grows, Tested}
+use Rattle.thorin_join.proofs.Files.Finished.{tested-state}
 use Rattle.std.proofs.Common.{Bool, cond, is_some, not, slice_index, ◌^◌, ◌||◌}
 use Rattle.thorin_join.specs.Builder.{IsFinished, order_of, order_test, same_order, State}
 use Rattle.thorin_index.proofs.Each.{have_passed, used_known}
@@ -147,10 +147,10 @@ module _ {state : State} {encoding : Encoding} {file : File} (own : IsOwn state 
 
   taken : (b : Bool) → IndexTaken file.order encoding (rows_of b made.rows)
       (first (cond b kinds.CuIndex kinds.TuIndex) (written_object file).sections)
-  taken true = sort-taken true kinds.CuIndex (rw (finished-compilations made file f
-      own-made.sound.units.no_compilations) f.compilations) own-made.tests.compilation_rows
-  taken false = sort-taken false kinds.TuIndex (rw (finished-types made file f
-      own-made.sound.units.no_types) f.types) own-made.tests.type_rows
+  taken true = sort-taken true kinds.CuIndex (rw (rw own-made.sound.units.no_compilations at
+      (finished-content made file f kinds.CuIndex)) f.compilations) own-made.tests.compilation_rows
+  taken false = sort-taken false kinds.TuIndex (rw (rw own-made.sound.units.no_types at
+      (finished-content made file f kinds.TuIndex)) f.types) own-made.tests.type_rows
 
   abbrev indexes-taken : Indexes
   indexes-taken = record { compilations = (taken true).index; types = (taken false).index }

@@ -222,14 +222,6 @@ module _ (made : InProgress) (file : File) (f : IsFinished made file) where
       file.contents ≡ data_of made.strings
   finished-strings none = rw none at (finished-content kinds.Str)
 
-  pub finished-compilations : content_of kinds.CuIndex made.file.contents ≡ []
-      → content_of kinds.CuIndex file.contents ≡ f.compilation_index
-  finished-compilations none = rw none at (finished-content kinds.CuIndex)
-
-  pub finished-types : content_of kinds.TuIndex made.file.contents ≡ [] → content_of kinds.TuIndex
-      file.contents ≡ f.type_index
-  finished-types none = rw none at (finished-content kinds.TuIndex)
-
   -- the units' own bytes
   pub finished-own : (place : UnitSection) → content_of (kind_of place) file.contents ≡ content_of
       (kind_of place) made.file.contents
@@ -253,8 +245,9 @@ module _ (made : InProgress) (file : File) (f : IsFinished made file) where
       record {
         pack = _;
         parsed = package_held (file_text file) file differ back c.index t.index
-            (rw (finished-order, finished-compilations units.no_compilations) c.read)
-            (rw (finished-order, finished-types units.no_types) t.read);
+            (rw (finished-order, rw units.no_compilations at (finished-content kinds.CuIndex))
+            c.read)
+            (rw (finished-order, rw units.no_types at (finished-content kinds.TuIndex)) t.read);
         named = rw (
           ← ids-chosen of is_compilation made.rows,
           ← ids-chosen of (λ name. not (is_compilation name)) made.rows,
