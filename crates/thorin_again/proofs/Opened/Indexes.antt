@@ -24,7 +24,6 @@ use Rattle.thorin_again.proofs.Opened.Sections.{first-written, info-written, obj
 use Rattle.thorin_again.proofs.Opened.Sections.{opened-elf}
 use Rattle.dwp_table.specs.Columns.{column_of}
 use Rattle.thorin_join.proofs.Units.InRows.{distinct_chosen}
-use Rattle.thorin_again.proofs.Meant.RowByRow.{IsAgain}
 use Rattle.thorin_again.proofs.Offsets.RewrittenAgain.{all-rewritten, are-named, CanRewrite}
 use Rattle.thorin_again.proofs.Offsets.RewrittenAgain.{ranges-are, tile-lies, tile-tested}
 use Rattle.thorin_again.proofs.Offsets.RewrittenAgain.{used-chosen}
@@ -98,10 +97,15 @@ lie-kept made file laid f places.Types =
 -- a finished package, read again of its file with these indexes
 pub record IsReadOf (encoding : Encoding) (file : File) (indexes : Indexes)
     (made : InProgress) : Type 0 where
+  pub packed : is_package indexes ≡ true
+  pub held : (kind : SectionKind)
+      → first kind (written_object file).sections ≡ content_of kind file.contents
+  pub strings_are : content_of kinds.Str file.contents ≡ data_of made.strings
+  pub compilations : HasRows indexes.compilations (rows_of true made.rows)
+  pub types : HasRows indexes.types (rows_of false made.rows)
   pub finished : IsFinished made file
   pub kinds : KindsDiffer file.contents
   pub own : OwnMade encoding made
-  pub again : IsAgain (own_source file encoding indexes) file.contents made.strings made.rows
 
 module _ {state : State} {encoding : Encoding} {file : File} (own : IsOwn state encoding file) where
   abbrev made : InProgress
@@ -170,12 +174,11 @@ module _ {state : State} {encoding : Encoding} {file : File} (own : IsOwn state 
       → IsReadOf encoding file indexes made
   read-of indexes read =
       let same : indexes ≡ indexes-taken = same-ok _ _ (sym read ∙ indexes-read) in
-      let units = own-made.sound.units in
       let held = λ (kind : SectionKind). first-written kind file.contents own.kinds in
-      let strings = finished-strings made file f units.no_strings in
-      let again : IsAgain (own_source file encoding indexes) file.contents made.strings made.rows =
-      rw same (assumption (indexes-packed, held, strings, (taken true).has, (taken false).has)) in
-      assumption own-made
+      let strings = finished-strings made file f own-made.sound.units.no_strings in
+      let c = (taken true).has in
+      let t = (taken false).has in
+      rw same (assumption (own-made, indexes-packed, held, strings, c, t))
 
 -- an own file is taken up to its parts
 pub up-to-parts : (state : State) (encoding : Encoding) (file : File)
@@ -262,14 +265,13 @@ module _ {encoding : Encoding} {file : File} {indexes : Indexes} {made : InProgr
   unfolding packaged_offsets
   offsets-are strings =
       let f = is.finished in
-      let again = is.again in
       let size = length (content_of kinds.StrOffsets made.file.contents) in
       let ranges = ranges-are _ encoding size tiled.ranges tiled.tile _ _ made.rows
-      again.compilations again.types tiled.rows tiled.named in
+      is.compilations is.types tiled.rows tiled.named in
       let tested = tile-tested _ encoding size 0 size 0 _ tiled.tile (omega arith) (omega arith) in
-      rewritten-package (own_source file encoding indexes) _ strings again.packed ∙ (λ i.
+      rewritten-package (own_source file encoding indexes) _ strings is.packed ∙ (λ i.
       packaged_offsets (finished-order made file f i) encoding indexes.compilations indexes.types
-      ((again.held kinds.Str ∙ again.strings_are) i)
+      ((is.held kinds.Str ∙ is.strings_are) i)
       (finished-shared made file f kinds.StrOffsets refl i) strings) ∙ rw (ranges, tested) refl
 
   -- unless an offset doesn't fit
