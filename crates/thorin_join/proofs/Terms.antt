@@ -62,7 +62,7 @@ pub use Rattle.thorin_index.specs.Entries.{contribution_to, entry_by}
 pub use Rattle.thorin_index.specs.EntryTests.{index_tests}
 pub use Rattle.thorin_index.specs.IndexText.{entry_ids, IsIndexOf}
 pub use Rattle.thorin_index.specs.declared.entry.IndexEntry.{IndexEntry}
-pub use Rattle.thorin_input.specs.Format.{is_copied, is_shared}
+pub use Rattle.thorin_input.specs.Format.{is_copied, is_in_format, is_shared}
 pub use Rattle.thorin_input.specs.Held.{unit_bytes}
 pub use Rattle.thorin_input.specs.Indexes.{Indexes, indexes_of, is_package, Source}
 unfoldable pub use Rattle.thorin_input.specs.InputStrings.{rewritten}

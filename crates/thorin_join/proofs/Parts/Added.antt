@@ -13,7 +13,7 @@ use Terms.{refl, remapped, result_unwrap_or, rewritten, same-ok, same-self, same
 use Terms.{slice_range, Source, stands_once, Str, string_at, strings_of, StrOffsets, subst, suc}
 use Terms.{sum_by, sym, take, take-length, true, Used, with_bytes, with_each_part, with_new_unit}
 use Terms.{with_new_units, with_offsets, with_part, with_parts, with_string, with_unit_added, zero}
-use Terms.{[], ℕ, ◌&&◌, ◌*◌, ◌++◌, ◌+◌, ◌-◌, ◌<◌, ◌||◌, ◌∙◌, ◌∷◌, ◌≡◌, ◌≤◌, ◌⊎◌}
+use Terms.{is_in_format, [], ℕ, ◌&&◌, ◌*◌, ◌++◌, ◌+◌, ◌-◌, ◌<◌, ◌||◌, ◌∙◌, ◌∷◌, ◌≡◌, ◌≤◌, ◌⊎◌}
 use Rattle.std.proofs.Math.Nat.{mul-le-mul_right}
 use Rattle.std.proofs.lemmas.List.Sums.{sum_by-append, sum_by-cons, sum_by_push}
 use Rattle.thorin_strings.specs.StringOffsets.{offset_at, remapped_entries, remapped_entry}
@@ -84,9 +84,10 @@ module _ (source : Source) where
       × (next ≡ (before.0 ++ (s.kind, s.bytes) ∷ [], before.1)))
       ⊎ ((same_kind s.kind StrOffsets ≡ false) × (is_copied s.kind ≡ false) × (next ≡ before)))
 
-  -- the section doesn't stand twice where it may not
+  -- the section doesn't stand twice where it may not, and is in the format
   pub record Step (before : Parts) (s : Used) (next : Parts) : Type 0 where
     pub once : (stands_once source s.kind && has_part s.kind before.0) ≡ false
+    pub format : is_in_format source.encoding s.kind ≡ true
     pub adds : Adds before s next
 
   pub step : (before : Parts) (s : Used) (next : Parts) → with_part source before s ≡ Ok next
