@@ -191,7 +191,7 @@ read-encoded source all has h =
     let a = w.so.0.0 in
     places-encoding place w.place (section order r.1.unit.whole.bytes) (found, rest)
     (a.alone, a.rest) (ap (λ l. unit_at place (section order l)) (sym made.1) ∙ is) a.read
-    ∙ a.encoding ∙ w.so.1 ∙ sym made.0) all (sections-are source
+    ∙ sym a.shifted.encoding ∙ w.so.1 ∙ sym made.0) all (sections-are source
     (OfOne source) source.object.sections all (of-one source source.object.sections has) h)
 
 -- so of units with all that belongs to each

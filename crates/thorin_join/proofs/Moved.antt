@@ -3,8 +3,8 @@ use Rattle.thorin_join.proofs.Terms
 use Terms.{after, ap, arith, Bool, cond, drop, drop-append-le, Encoding, Endianness, entry_identity}
 use Terms.{Err, first_identifier, Format, Header, identity, Input, is_address_size, is_some, length}
 use Terms.{length-append, List, nat_tests, number_front, offset_size, Ok, ReadError, refl, Result}
-use Terms.{root_identity, suc, sym, take, take-append-drop, take-append-le, true, type_signature}
-use Terms.{unit_takes, UnitSection, zero, [], ℕ, ◌++◌, ◌+◌, ◌-◌, ◌>>=◌, ◌∙◌, ◌∷◌, ◌≡◌, ◌≤◌, ◌⊎◌}
+use Terms.{root_identity, suc, sym, take-append-drop, take-append-le, true, type_signature}
+use Terms.{unit_takes, UnitSection, zero, [], ℕ, ◌++◌, ◌+◌, ◌-◌, ◌>>=◌, ◌∙◌, ◌∷◌, ◌≡◌, ◌⊎◌}
 use Rattle.dwp_bytes.specs.Input.{byte_at, number_at, offset_at, relocated_at, skip_at, split_at}
 use Rattle.dwp_bytes.specs.Leb.{sleb_at, uleb_at}
 use Rattle.dwp_units.proofs.Readings.{Answer, bind-bind, bind_alike, by-result, more, Reads}
@@ -237,13 +237,8 @@ pub record Moved (order : Endianness) (place : UnitSection) (own more : List ℕ
   pub unit : Header
   pub read : unit_at place (plain order d (own ++ more))
       ≡ Ok (unit, after (length u.whole.bytes) (plain order d (own ++ more)))
-  pub encoding : u.encoding ≡ unit.encoding
-  pub type : u.unit_type ≡ unit.unit_type
   pub whole : unit.whole ≡ plain order d u.whole.bytes
-  pub fits : length u.whole.bytes ≤ length own
-  pub front : take (length u.whole.bytes) own ≡ u.whole.bytes
-  pub offset : unit.abbrev_offset ≡ u.abbrev_offset
-  pub entries : unit.entries ≡ shifted d u.entries
+  pub shifted : IsShifted d u unit
 
 -- a unit of some bytes alone is read alike at another place, with more behind them
 pub unit-moves : (order : Endianness) (place : UnitSection) (own more : List ℕ) (d : ℕ) (u : Header)
@@ -260,13 +255,8 @@ unit-moves order place own rest d u r h =
     record {
       unit = unit_there d u;
       read = grind (arith, read, t.goes.is, size, drop-append-le k own rest t.goes.enough);
-      encoding = refl;
-      type = refl;
       whole = grind (arith, t.whole);
-      fits = rw size t.goes.enough;
-      front = grind (arith, size, t.whole);
-      offset = refl;
-      entries = grind (arith, t.inside.is, t.whole);
+      shifted = grind (arith, t.inside.is, t.whole);
     }
 
 -- the same of both sections: units of version 5

@@ -156,7 +156,7 @@ module _ {source : Source} {before now : InProgress} (plain : is_package source.
       ∙ put-stays (content_of kinds.Abbrev before.file.contents) (joined_parts kinds.Abbrev a.parts)
       (content-with_parts kinds.Abbrev a.parts before.file.contents) (grown kinds.Abbrev)
       ∙ parts-copied source before.strings a.parts a.after a.parts_are kinds.Abbrev refl ∙ f.is in (
-        ap (λ (u : Header). u.encoding) same ∙ v.encoding ∙ w.so.1,
+        ap (λ (u : Header). u.encoding) same ∙ sym v.shifted.encoding ∙ w.so.1,
         (λ i. identity (section order (part i)) (same i))
             ∙ identity-stays (section order table) f.rest v.alone (Some r.0)
             (sym (identity-shifted (section order table) v.behind v.alone r.1.unit v.shifted)
@@ -238,7 +238,7 @@ module _ (source : Source) (encoding : Encoding) where
       let head = head-named from.kind _ a.0 read f.0 f.1 in
       let five = unit-none _ _ _ known.read in
       let goes : (encoding.version ≡ 5) ⊎ (name_signature head.0 ≡ None) =
-      grind (arith, five, known.encoding, f.2, head.2, known.type) in
+      grind (arith, five, known.shifted.encoding, f.2, head.2, known.shifted.type) in
       (head.0, list_any-append (same_name head.0) (keys a.0) (keys b.0) ∙ rw head.1 refl, goes))
       (λ other. let l = first-named rest b.0 b.1 (rw other at e) in
       (l.0, list_any-append (same_name l.0) (keys a.0) (keys b.0) ∙ or-right _ _ l.1, l.2)))

@@ -120,11 +120,11 @@ module _ (order : Endianness) (contents : Contents) (place : UnitSection) (rows 
         range = head.range;
         part = part-middle pre own head.rest _ offset content_is at;
         whole = moved.whole ∙ ap (plain order offset) head.is.whole;
-        sort = ap type_signature (sym moved.type) ∙ head.is.sort;
+        sort = ap type_signature moved.shifted.type ∙ head.is.sort;
         alone = head.is.unit;
         rest = head.is.rest;
         read = head.is.read;
-        shifted = assumption (sym moved.type, sym moved.encoding);
+        shifted = moved.shifted;
       }) (from (before ++ r ∷ []) rs (pre ++ own) head.rest end (n - 1) next once.1
       (All-push (IsBelow kind end) before r
       (All-weaker (IsBelow kind offset) (IsBelow kind end) (λ x h c e. omega (arith, h c e))
