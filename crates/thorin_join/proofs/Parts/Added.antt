@@ -56,8 +56,7 @@ pub joined_parts-more : (kind : SectionKind) (a : Contents) (k : SectionKind) (b
     (same_kind k kind) bytes []
 joined_parts-more kind [] k bytes = ap (λ v. cond (same_kind k kind) v []) (append-nil bytes)
 joined_parts-more kind (p ∷ ps) k bytes =
-    rw (joined_parts-more kind ps k bytes) (by-bool _ (same_kind p.0 kind)
-    (λ same. rw same (sym (append_assoc p.1 (joined_parts kind ps) _))) (λ other. rw other))
+    grind (arith, joined_parts-more kind ps k bytes, append_assoc p.1 (joined_parts kind ps))
 
 pub joined_parts-other : (kind : SectionKind) (a : Contents) (k : SectionKind) (bytes : List ℕ)
     → same_kind k kind ≡ false → joined_parts kind (a ++ (k, bytes) ∷ []) ≡ joined_parts kind a
