@@ -23,11 +23,6 @@ same_name-self a = grind arith
 pub same_name-sym : (a b : DwarfObject) → same_name a b ≡ true → same_name b a ≡ true
 same_name-sym a b h = grind arith
 
-pub apart-more : (names : List DwarfObject) (name : DwarfObject) → AreApart names
-    → list_any (same_name name) names ≡ false → AreApart (names ++ name ∷ [])
-apart-more names name h e = all_pairs_push (λ a b. same_name a b ≡ false) names name h
-    (λ k d within. grind (arith, list_any_at (same_name name) names k d within, same_name-sym))
-
 pub apart-none : AreApart []
 apart-none i j d before within = absurd (omega arith)
 
@@ -37,7 +32,9 @@ pub joined_distinct : {X : Type 0} (names : List DwarfObject) (all : List (Dwarf
 joined_distinct names [] h = rw (append-nil names) h
 joined_distinct names (u ∷ rest) h =
     let new = λ (n : list_any (same_name u.0) names ≡ false). rw append_assoc at
-    (joined_distinct (names ++ u.0 ∷ []) rest (apart-more names u.0 h n)) in
+    (joined_distinct (names ++ u.0 ∷ []) rest (all_pairs_push (λ a b. same_name a b ≡ false) names
+    u.0 h (λ k d within. grind (arith, n, list_any_at (same_name u.0) names k d within,
+    same_name-sym)))) in
     grind (arith, joined_distinct names rest h, new)
 
 -- two rows of one kind with one identifier have one name
