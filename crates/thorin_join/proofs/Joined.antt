@@ -151,11 +151,7 @@ source-joins bytes source before now sound same meaning h =
         units = rw are at has;
         apart = rw (a.names, added, keys-held before)
             (joined_distinct (names_of before) j.all sound.apart);
-        laid = record {
-          info = rw a.order (a.lie.lies places.Info);
-          types = rw a.order (a.lie.lies places.Types);
-          once = a.lie.once;
-        };
+        laid = grind (arith, a.order, a.lie.lies places.Info, a.lie.lies places.Types, a.lie.once);
       };
     })
 
