@@ -31,10 +31,7 @@ pub content-appended : (kind k : SectionKind) (bytes : List ℕ) (c : Contents) 
     (appended k bytes c) ≡ cond (same_kind k kind) (content_of kind c ++ bytes) (content_of kind c)
 content-appended kind k bytes [] = refl
 content-appended kind k bytes (d ∷ ds) =
-    by-bool _ (same_kind d.0 k) (λ same. rw (same, ← is-same d.0 k same)
-    (by-bool _ (same_kind d.0 kind) (λ here. rw here) (λ later. rw later)))
-    (λ other. rw other (by-bool _ (same_kind d.0 kind) (λ here. rw here (grind arith))
-    (λ later. rw (later, content-appended kind k bytes ds))))
+    grind (arith, is-same d.0 k, content-appended kind k bytes ds)
 
 pub content-with_bytes : (kind k : SectionKind) (bytes : List ℕ) (c : Contents)
     → content_of kind (with_bytes k bytes c) ≡ (if same_kind k kind then content_of kind c ++ bytes
