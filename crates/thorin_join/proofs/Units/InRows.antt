@@ -13,7 +13,6 @@ use Rattle.std.proofs.lemmas.List.Quantifiers.{all_pairs_push}
 use Rattle.thorin_join.proofs.Parts.Ranges.{strings-are}
 
 -- one name is the other
-
 pub same_name-true : (a b : DwarfObject) → same_name a b ≡ true → a ≡ b
 same_name-true a b h = grind arith
 
@@ -38,7 +37,6 @@ joined_distinct names (u ∷ rest) h =
     grind (arith, joined_distinct names rest h, new)
 
 -- two rows of one kind with one identifier have one name
-
 pub same-sort : (a b : DwarfObject) → is_compilation a ≡ is_compilation b
     → identifier_of a ≡ identifier_of b → same_name a b ≡ true
 same-sort a b sort e = grind arith
