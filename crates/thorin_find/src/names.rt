@@ -44,8 +44,8 @@ const MOST_READ: usize = 16384;
 /// How many bytes a name is sought in.
 const MOST_NAMED: u64 = 4096;
 
-/// The names of a unit's source, `DW_AT_name` of its unit DIE, and of its object, `DW_AT_dwo_name` or
-/// `DW_AT_GNU_dwo_name` there.
+/// The names of a unit's source, `DW_AT_name` of its unit DIE, and of its object, `DW_AT_dwo_name`
+/// or `DW_AT_GNU_dwo_name` there.
 #[tactic(auto, unfolding(crate::specs::Names::source_name, crate::specs::Names::object_name))]
 pub(crate) fn names_of<'a>(
     pack: &PackageFile<'a>,

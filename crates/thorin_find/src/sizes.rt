@@ -134,8 +134,8 @@ impl UnitRanges {
         Ok(totals)
     }
 
-    /// The bytes of the distinct ranges of a section, and how many more all of them have. The ranges
-    /// are sorted.
+    /// The bytes of the distinct ranges of a section, and how many more all of them have: the
+    /// ranges are sorted.
     fn range_total(&self, section: u8) -> RangeTotal {
         let mut total = RangeTotal { once: 0, shared: 0 };
         let mut before: Option<SectionRange> = None;
