@@ -32,9 +32,7 @@ use thorin_identity::RangeTables;
 /// What a unit's own bytes say of its identifier.
 #[derive(Drop)]
 pub(crate) enum OwnIdentifier {
-    /// The identifier.
     Is(DwarfObject),
-    /// It has none.
     Nameless,
     /// Why it can't be read.
     Unread(String),
@@ -261,9 +259,6 @@ impl<'a> TablesByTurns<'a> {
     /// What `RangeTables` says of a unit whose abbreviations stand in the section from the byte
     /// `start` up to the byte `end`. Where a unit's identifier stands behind them it goes on with
     /// the tables of this range, or for want of memory with those of the ranges used first.
-    ///
-    /// # Errors
-    /// Those of `dwo_identifier_of_unit`, of the range.
     pub(crate) fn identifier(
         &mut self,
         start: usize,

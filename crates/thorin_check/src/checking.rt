@@ -62,7 +62,6 @@ pub fn check_by<F: FileReader, O: Write>(
 /// A package that is checked.
 #[derive(Clone, Copy)]
 pub(crate) struct IndexedPackage<'m, 'a> {
-    /// The package.
     pub pack: &'m PackageFile<'a>,
     /// The units that its slots name, by row.
     pub entries: &'m [UnitEntry],

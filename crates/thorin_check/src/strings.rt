@@ -114,9 +114,7 @@ pub(crate) struct StringRange {
     offset: u64,
     /// How many bytes they have.
     size: u64,
-    /// The unit's version.
     version: u16,
-    /// The unit's format.
     format: Format,
 }
 
