@@ -71,11 +71,9 @@ pub fn list_by<F: FileReader, O: Write>(
 /// A package that is listed.
 #[derive(Clone, Copy)]
 struct Listed<'m, 'a> {
-    /// The package.
     pack: &'m PackageFile<'a>,
     /// How many bytes its file has.
     file_size: usize,
-    /// What its lines are to have.
     form: ListForm,
 }
 
@@ -135,9 +133,6 @@ fn put_rest(
 
 /// Prints the lines of units, up to one that can't be looked up: then it answers false. The last
 /// of them are left to be printed.
-///
-/// # Errors
-/// `Line` or `Memory`.
 #[tactic(auto, using(crate::proofs::Walk::printed_next, crate::proofs::Walk::not_found, crate::proofs::Walk::all_found, crate::proofs::Walk::begun, crate::proofs::Walk::begun_next, thorin_print::proofs::Lines::drop_next))]
 fn print_lines<O: Write>(
     listed: Listed<'_, '_>,
@@ -164,9 +159,6 @@ fn print_lines<O: Write>(
 }
 
 /// Prints what waits in a text, where it is much: then nothing waits.
-///
-/// # Errors
-/// `Line` where the writer doesn't take all.
 #[tactic(auto, using(crate::proofs::Walk::all_waits, crate::proofs::Walk::none_waits, crate::proofs::Walk::not_printed))]
 fn print_much<O: Write>(waiting: &mut String, out: &mut O) -> Result<(), Failure>
     ensures whole { OnOk result (PrintsFront (O.contents out.old) (O.contents out.new)

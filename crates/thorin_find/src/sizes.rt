@@ -22,7 +22,6 @@ struct SectionRange {
 #[derive(Clone, Copy)]
 pub(crate) struct UnitSizes {
     object: DwarfObject,
-    /// How many bytes it has.
     size: u64,
     // Which of the ranges are its own: the number of the first, and that behind the last.
     first: usize,
@@ -34,7 +33,6 @@ pub(crate) struct UnitSizes {
 pub(crate) struct Total {
     /// The short name of the section, or `file`.
     name: &'static str,
-    /// How many bytes it has.
     size: u64,
     /// Where units can have ranges of it, how many bytes the distinct ones of these have, and how
     /// many more all of them have.
