@@ -8,9 +8,8 @@ ghost use Rattle.dwp_index.specs.Contents.{content};
 ghost use Rattle.dwp_dwarf.specs.Attributes.{attribute_of, attributes_left, entry_of, root_of};
 ghost use Rattle.dwp_units.specs.Units.{unit_of};
 ghost use Rattle.thorin_find.specs.Names as spec;
-ghost use Rattle.thorin_find.specs.Names.{header_in, die_of, named, short_string_at};
-ghost use Rattle.thorin_find.specs.Names.{string_number, string_of, object_in, source_name};
-ghost use Rattle.thorin_find.specs.Names.{object_name};
+ghost use Rattle.thorin_find.specs.Names.{header_in, die_of, named, string_of, object_in};
+ghost use Rattle.thorin_find.specs.Names.{short_string_at, string_number, source_name, object_name};
 
 use dwp_base::{Endianness, SectionKind};
 use dwp_bytes::{ReadError, Reader, SliceReader, StringOffsets, string_at};
