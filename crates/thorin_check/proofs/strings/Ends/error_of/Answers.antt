@@ -8,14 +8,8 @@ returns-in_default c = grind (arith, none_there)
 pub returns-then-offset-self : goal.returns-then-offset-self
 unfolding string_at string_in
 returns-then-offset-self c =
-    grind (
-      arith,
-      nat_tests,
-      c.requires.order_is,
-      c.requires.inside,
-      c.requires.reach
-          c.in-Some.offset,
-    )
+    let ends = c.requires in
+    grind (arith, nat_tests, ends.order_is, ends.inside, ends.reach c.in-Some.offset)
 
 pub returns-then-self-offset : goal.returns-then-self-offset
 unfolding string_at string_in
@@ -24,11 +18,5 @@ returns-then-self-offset c = grind (arith, nat_tests, c.requires.order_is, c.req
 pub returns-else-self-offset : goal.returns-else-self-offset
 unfolding string_at string_in
 returns-else-self-offset c =
-    grind (
-      arith,
-      nat_tests,
-      c.requires.order_is,
-      c.requires.size,
-      c.requires.reach
-          c.in-Some.offset,
-    )
+    let ends = c.requires in
+    grind (arith, nat_tests, ends.order_is, ends.size, ends.reach c.in-Some.offset)
