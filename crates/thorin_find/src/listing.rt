@@ -133,7 +133,7 @@ fn put_rest(
 
 /// Prints the lines of units, up to one that can't be looked up: then it answers false. The last
 /// of them are left to be printed.
-#[tactic(auto, using(crate::proofs::Walk::printed_next, crate::proofs::Walk::not_found, crate::proofs::Walk::all_found, crate::proofs::Walk::begun, crate::proofs::Walk::begun_next, thorin_print::proofs::Lines::drop_next))]
+#[tactic(auto, using(crate::proofs::Listed::printed_next, crate::proofs::Listed::not_found, crate::proofs::Listed::all_found, crate::proofs::Listed::begun, crate::proofs::Listed::begun_next, thorin_print::proofs::Lines::drop_next))]
 fn print_lines<O: Write>(
     listed: Listed<'_, '_>,
     entries: &[UnitEntry],
@@ -159,7 +159,7 @@ fn print_lines<O: Write>(
 }
 
 /// Prints what waits in a text, where it is much: then nothing waits.
-#[tactic(auto, using(crate::proofs::Walk::all_waits, crate::proofs::Walk::none_waits, crate::proofs::Walk::not_printed))]
+#[tactic(auto, using(crate::proofs::Listed::all_waits, crate::proofs::Listed::none_waits, crate::proofs::Listed::not_printed))]
 fn print_much<O: Write>(waiting: &mut String, out: &mut O) -> Result<(), Failure>
     ensures whole { OnOk result (PrintsFront (O.contents out.old) (O.contents out.new)
         (string_bytes waiting.old) (string_bytes waiting.new)) }
