@@ -157,10 +157,7 @@ fn comes_behind(before: Option<StringRange>, range: StringRange) -> bool
 fn is_wide(format: Format) -> bool
     ensures { result ≡ is_wide format }
 {
-    match format {
-        Format::Dwarf32 => false,
-        Format::Dwarf64 => true,
-    }
+    matches!(format, Format::Dwarf64)
 }
 
 /// The units whose strings are still to be checked. Most units' are while the unit is at hand.
