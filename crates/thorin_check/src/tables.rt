@@ -97,10 +97,8 @@ fn check_versions<O: Write>(
 fn lacks_column(pack: &PackageFile<'_>, kind: SectionKind) -> bool
     ensures { result ≡ lacks_column pack.now kind }
 {
-    if pack.content(kind).is_empty() {
-        return false;
-    }
-    !(has_column(pack.compilation_index(), kind) || has_column(pack.type_index(), kind))
+    !pack.content(kind).is_empty()
+        && !(has_column(pack.compilation_index(), kind) || has_column(pack.type_index(), kind))
 }
 
 /// Whether an index has a column for a section.
