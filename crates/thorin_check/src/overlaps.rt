@@ -193,9 +193,7 @@ impl Overlaps {
     fn mark(&mut self, kind: SectionKind, range: Placed, other: Placed, entries: &[UnitEntry]) {
         if let Some(clash) = self.clashes.get_mut(range.entry) {
             if let Some(other) = entries.get(other.entry) {
-                if clash.is_none() {
-                    *clash = Some((kind, other.object));
-                }
+                clash.get_or_insert((kind, other.object));
             }
         }
     }
