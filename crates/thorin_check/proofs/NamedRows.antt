@@ -21,9 +21,6 @@ use Rattle.thorin_check.proofs.Told.{what_told, none_told, then_or, told_then, t
 
 -- ---- rows that are told one after the other
 
-nothing_from : (kind : List ℕ) (first : ℕ) → [] ≡ row_faults kind first first
-nothing_from kind first = let none : first - first ≡ 0 = omega arith in rw none refl
-
 rows_more : (kind : List ℕ) (first row : ℕ) → first ≤ row
     → row_faults kind first (row + 1) ≡ row_faults kind first row ++ (row_fault kind row ∷ [])
 rows_more kind first row le =
@@ -32,7 +29,8 @@ rows_more kind first row le =
 
 pub rows_none : (kind : List ℕ) (first : ℕ) (a : Progress)
     → Told (Is (row_faults kind first first)) a a
-rows_none kind first a = none_told (Is (row_faults kind first first)) (nothing_from kind first) a
+rows_none kind first a = none_told (Is (row_faults kind first first))
+    (let none : first - first ≡ 0 = omega arith in rw none refl) a
 
 -- one more row, of which a text was made
 pub row_or : {E : Type 0} (kind : List ℕ) (first row : ℕ) {a b : Progress} (c : Progress)
