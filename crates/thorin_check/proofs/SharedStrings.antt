@@ -155,12 +155,6 @@ nothing_gathered pack strings ends last none = record {
   are = rw none (All-nil (IsOfUnit pack));
 }
 
-kept_behind : (pack : Package) (listed more : Listed) (range : StringRange)
-    → IsGathered pack listed range → IsGathered pack (listed ++ more) range
-kept_behind pack listed more range (inl all) = inl all
-kept_behind pack listed more range (inr there) =
-    inr (there.0, Contains-append_left listed more (range, there.0) there.1)
-
 module _ (pack : Package) (old : UnreadStrings) (unit : FoundUnit) (object : DwarfObject)
     (g : Gathers pack old) (is : found pack object ≡ Ok (Some unit)) where
   -- it has no string offsets
@@ -213,8 +207,11 @@ module _ (pack : Package) (old : UnreadStrings) (unit : FoundUnit) (object : Dwa
             are = rw unread (All-push (IsOfUnit pack) old.unread.items (range, object) g.are
                 (unit, is, sym has));
           };
-          kept = λ other there.
-              rw unread (kept_behind pack old.unread.items _ other there);
+          kept = λ other there. elim there [
+            | inl all ↦ inl all
+            | inr listed ↦ inr (listed.0, rw unread (Contains-append_left old.unread.items
+                ((range, object) ∷ []) (other, listed.0) listed.1))
+          ];
           added = λ other e. rw (← this other e) here;
         }
 
