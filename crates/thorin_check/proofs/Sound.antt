@@ -248,14 +248,6 @@ map_none f (x ∷ xs) e = absurd cc
 
 -- the slots are the entries, in another order
 module _ (pack : Package) (entries : List UnitEntry) (by_row : AreByRow pack entries) where
-  of_slots : All (IsSoundUnit pack) entries → All (IsSoundUnit pack) (slots pack)
-  of_slots all = All-permutation (IsSoundUnit pack) entries (slots pack)
-      (IsPermutation-sym (slots pack) entries by_row.all) all
-
-  among_slots : (entry : UnitEntry) → Contains entries entry → Contains (slots pack) entry
-  among_slots entry = Contains-permutation entries (slots pack) entry
-      (IsPermutation-sym (slots pack) entries by_row.all)
-
   in_entries : (slot : UnitEntry) → Contains (slots pack) slot → Contains entries slot
   in_entries slot = Contains-permutation (slots pack) entries slot by_row.all
 
@@ -272,7 +264,8 @@ module _ (pack : Package) (entries : List UnitEntry) (by_row : AreByRow pack ent
         | inl told ↦ (let there = rw none at told in let l = there.1 in absurd (omega arith))
         | inr named ↦ record {
           slot = named.slot;
-          is_slot = among_slots named.slot named.is_slot;
+          is_slot = Contains-permutation entries (slots pack) named.slot
+              (IsPermutation-sym (slots pack) entries by_row.all) named.is_slot;
           is_kind = named.is_kind;
           is_row = named.is_row;
         }
@@ -291,7 +284,8 @@ no_fault_told offer executables pack entries by_row t =
     let behind = none_in_turn _ _ tables.1 in
     let indexes = none_in_turn _ _ behind.0 in
     let rows = none_in_turn _ _ behind.1 in
-    let sound = of_slots pack entries by_row
+    let sound = All-permutation (IsSoundUnit pack) entries (slots pack)
+    (IsPermutation-sym (slots pack) entries by_row.all)
     (All-weaker (λ entry. TellsSlot pack parts.0.0 entry []) (IsSoundUnit pack)
     (sound_unit pack parts.0.0 units.1) entries
     (none_for_each (TellsSlot pack parts.0.0) entries units.0.0)) in
