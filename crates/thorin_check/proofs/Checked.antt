@@ -38,9 +38,6 @@ module _ (executable : List ℕ) (named : Named)
       → of_unit named.0 text ∷ [] ≡ missing_faults executable named looked
   missing_none e text is = rw (e, is) refl
 
-long_is : (path : List ℕ) → longest_path < length path → long_size path ≡ length path
-long_is path long = grind (arith, nat_tests)
-
 -- the end behind one more, that takes some room
 end_behind : (executable : List ℕ) (room less : ℕ) (x : Named) (first : List Named)
     (left : Listed) (faults : List FaultValue) → room ≤ less + long_size x.1
@@ -85,7 +82,7 @@ module _ (pack : Package) (executable : List ℕ) where
       → longest_path < length first.1 → room < length first.1 → IsBroken executable faults
       → TellsListed pack executable room (first ∷ after.0, after.1) faults
   long_first room first after faults long over broken =
-      let size = long_is first.1 long in
+      let size : long_size first.1 ≡ length first.1 = grind (arith, nat_tests) in
       let all : room < long_bytes (first ∷ []) = omega (arith, size, over) in
       record {
         first = [];
