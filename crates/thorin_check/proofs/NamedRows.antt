@@ -147,12 +147,10 @@ module _ (kind : List ℕ) (is_types : Bool) (end : ℕ) (slots : List UnitEntry
     in_range : (row : ℕ) → next ≤ row → row < last
         → Contains (range_with_len next (last - next)) row
     in_range row le lt =
-        let here : row - next < last - next = omega arith in
-        let size = length-range_with_len next (last - next) in (
+        let back : next + (row - next) ≡ row = omega arith in (
           row - next,
-          rw size here,
-          get_or-range_with_len next (last - next) (row - next) row here
-              ∙ (let back : next + (row - next) ≡ row = omega arith in back),
+          omega (arith, length-range_with_len next (last - next)),
+          get_or-range_with_len next (last - next) (row - next) row (omega arith) ∙ back,
         )
 
     all_unnamed : All (IsUnnamed slots is_types end) (range_with_len next (last - next))
