@@ -140,10 +140,6 @@ module _ (kind : List ℕ) (is_types : Bool) (end : ℕ) (slots : List UnitEntry
               let same = named.is_row in omega arith)
         ]
 
-    unnamed_row : (row : ℕ) → next ≤ row → row < last → IsUnnamed slots is_types end row
-    unnamed_row row le lt =
-        let some = c.some in (omega arith, omega arith, unnamed_between row le lt)
-
     in_range : (row : ℕ) → next ≤ row → row < last
         → Contains (range_with_len next (last - next)) row
     in_range row le lt =
@@ -157,8 +153,9 @@ module _ (kind : List ℕ) (is_types : Bool) (end : ℕ) (slots : List UnitEntry
     all_unnamed = All-from_get_or (IsUnnamed slots is_types end)
         (range_with_len next (last - next)) 0
         (λ k lt. let here : k < last - next = rw (length-range_with_len next (last - next)) at lt in
+        let some = c.some in
         rw (get_or-range_with_len next (last - next) k 0 here)
-        (unnamed_row (next + k) (omega arith) (omega arith)))
+        (omega arith, omega arith, unnamed_between (next + k) (omega arith) (omega arith)))
 
     pub reached : (told : List FaultValue) → Is (row_faults kind next last) told
         → TellsBefore last (faults ++ told)
