@@ -51,9 +51,6 @@ module _ (pack : Package) (range : StringRange) (object : DwarfObject)
   up_to_next None behind other up = absurd up
   up_to_next (Some last) behind other up = λ has is. let le = up has is in omega arith
 
-  up_to_this : IsUpTo pack (Some range) object
-  up_to_this has is = rw (one_range pack object has range is this) (omega arith)
-
   shares_none : (before : Option StringRange) → IsBehind before range → (other : DwarfObject)
       → IsUpTo pack before other → ShareNone pack other object
   shares_none None behind other up = absurd up
@@ -125,7 +122,7 @@ module _ (pack : Package) (listed : Listed) where
           up_to = All-push (IsUpTo pack (Some range)) t.objects object
               (All-weaker (IsUpTo pack before) (IsUpTo pack (Some range))
               (up_to_next pack range object is before behind) t.objects t.up_to)
-              (up_to_this pack range object is);
+              (λ has there. rw (one_range pack object has range there is) (omega arith));
           last = λ other e. rw (← same_Some range other e) here;
           told = for_each_more (λ object. TellsStringsOf object (found pack object)) t.objects
               object faults more t.told told;
