@@ -175,11 +175,6 @@ end_none executable room first ([], None) h = (refl, refl)
 end_none executable room first ([], Some error) h = absurd (some_told _ _ h.1)
 end_none executable room first (named ∷ left, end) h = absurd (some_told _ _ h.2.1)
 
-not_missing : (executable : List ℕ) (named : Named)
-    (looked : Result (Option FoundUnit) PackageError)
-    → missing_faults executable named looked ≡ [] → looked ≢ Ok None
-not_missing executable named looked h e = let told = rw e at h in absurd cc
-
 none_missing : (pack : Package) (executable : List ℕ) (named : List Named)
     → flat_map (λ named. missing_faults executable named (found pack named.0)) named ≡ []
     → All (λ named. found pack named.0 ≢ Ok None) named
@@ -187,7 +182,7 @@ none_missing pack executable [] e = All-nil _
 none_missing pack executable (first ∷ named) e =
     let both = none_of_both (missing_faults executable first (found pack first.0)) _ (sym e) in
     All-cons (λ named. found pack named.0 ≢ Ok None) first named
-    (not_missing executable first (found pack first.0) both.0)
+    (λ (e : found pack first.0 ≡ Ok None). let told = rw e at both.0 in absurd cc)
     (none_missing pack executable named both.1)
 
 module _ (offer : Offer) (reading : Reading) (pack : Package) where
