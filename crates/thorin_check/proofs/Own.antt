@@ -59,31 +59,23 @@ module _ (contents : Sections) (row : Ranges) where
   IsInside kind = (range : Contribution) → range_in row kind ≡ Some range
       → range.offset.0 + range.size ≤ length (content contents kind)
 
-  pub no_column : (kind : SectionKind) → column_of row.version kind ≡ None
-      → range_in row kind ≡ None
+  absent_inside : (kind : SectionKind) → column_of 5 kind ≡ None → column_of 2 kind ≡ None
+      → IsInside kind
   unfolding range_in column_place
-  no_column kind e = rw e refl
-
-  absent_inside : (kind : SectionKind) → column_of row.version kind ≡ None → IsInside kind
-  absent_inside kind e range is = let none = no_column kind e in absurd cc
-
-  pub columnless : (version : ℕ) (kind : SectionKind) → column_of 5 kind ≡ None
-      → column_of 2 kind ≡ None
-      → column_of version kind ≡ None
-  columnless version kind standard gnu = by-bool _ (nat_eq version 5)
-      (λ e. rw e standard) (λ e. rw e gnu)
+  absent_inside kind standard gnu range is =
+      let column : column_of row.version kind ≡ None = by-bool _ (nat_eq row.version 5)
+      (λ e. rw e standard) (λ e. rw e gnu) in
+      let none : range_in row kind ≡ None = rw column refl in absurd cc
 
   pub all_inside_of : first_outside contents row ≡ None → LiesInside contents row
   unfolding first_outside
   all_inside_of e =
-      let none = λ (kind : SectionKind) (s : column_of 5 kind ≡ None) (g : column_of 2 kind ≡ None).
-      absent_inside kind (columnless row.version kind s g) in
       each IsInside (find_misses
       (λ kind. is_outside (content contents kind) (range_in row kind)) IsInside
       (λ kind. inside_of (content contents kind) (range_in row kind)) contribution_kinds
       (kinds.Str ∷ kinds.CuIndex ∷ kinds.TuIndex ∷ [])
-      (none kinds.Str refl refl, (none kinds.CuIndex refl refl, (none kinds.TuIndex refl refl, tt)))
-      e)
+      (absent_inside kinds.Str refl refl, (absent_inside kinds.CuIndex refl refl,
+      (absent_inside kinds.TuIndex refl refl, tt))) e)
 
 -- ---- the unit that is found
 
