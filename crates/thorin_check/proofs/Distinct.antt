@@ -159,13 +159,8 @@ for_each_weaker : {X : Type 0} (P Q : X → List FaultValue → Type 0)
     → ((x : X) (faults : List FaultValue) → P x faults → Q x faults) → (xs : List X)
     → (faults : List FaultValue) → ForEach P xs faults → ForEach Q xs faults
 for_each_weaker P Q goes [] faults h = h
-for_each_weaker P Q goes (x ∷ xs) faults h = record {
-  first = h.first;
-  rest = h.rest;
-  is_first = goes x h.first h.is_first;
-  is_rest = for_each_weaker P Q goes xs h.rest h.is_rest;
-  all = h.all;
-}
+for_each_weaker P Q goes (x ∷ xs) faults h =
+    grind (arith, goes x h.first h.is_first, for_each_weaker P Q goes xs h.rest h.is_rest)
 
 -- what is told of the units of slots; where that is nothing, none of their ranges clash
 abbrev pub TellsUnitsOnly : Package → Listed → List UnitEntry → List FaultValue → Type 0
