@@ -97,10 +97,7 @@ module _ (kind : List ℕ) (is_types : Bool) (end : ℕ) (slots : List UnitEntry
 
   past_on : (next later : ℕ) (slot : UnitEntry) → next ≤ later → IsPast next slot
       → IsPast later slot
-  past_on next later slot le h is = elim (h is) [
-    | inl lt ↦ inl (omega arith)
-    | inr past ↦ inr past
-  ]
+  past_on next later slot le h is = let past = h is in grind (arith)
 
   passed_by : (next : ℕ) (slot : UnitEntry) → is_next is_types end slot next ≡ false
       → IsPast next slot
