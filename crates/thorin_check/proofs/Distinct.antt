@@ -22,13 +22,8 @@ use Rattle.thorin_check.proofs.Told.{told_as, tells_as, in_turn, for_each_more, 
 
 among_more : (pack : Package) (objects more : List DwarfObject) (range : StringRange)
     → IsRangeOfOne pack objects range → IsRangeOfOne pack (objects ++ more) range
-among_more pack objects more range one = record {
-  object = one.object;
-  is_one = Contains-append_left objects more one.object one.is_one;
-  unit = one.unit;
-  is_found = one.is_found;
-  is_range = one.is_range;
-}
+among_more pack objects more range one =
+    grind (arith, Contains-append_left objects more one.object one.is_one)
 
 -- a unit has no string offsets behind some, if there are some
 abbrev pub IsUpTo : Package → Option StringRange → DwarfObject → Type 0
