@@ -210,8 +210,7 @@ stays_seen pack seen is = record { seen = is; kept = λ range there. there }
 pub text_made : {E : Type 0} {P : Type 0} (object : DwarfObject)
     (text : Result (Option (String Global)) E) (a b : Progress) → OnOk text P
     → TellsText object text a b (Ok tt) → P
-text_made object (Ok text) a b is h = is
-text_made object (Err cause) a b is h = absurd (let e = h.0 in cc)
+text_made object text a b is h = grind (arith)
 
 module _ (pack : Package) where
   pub text_seen : {E : Type 0} (listed : Listed) (entry : UnitEntry)
