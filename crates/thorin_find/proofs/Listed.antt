@@ -32,9 +32,7 @@ all_waits old new text rest none h =
 pub not_printed : (failure : Failure) (text : List ℕ) (old new : Option (List ℕ))
     → Comes (Err failure) (record { printed = text; answer = Ok 0 }) old new
     → Begins failure text old new
-not_printed failures.Line text old new h = record { cause = tt; begun = h }
-not_printed failures.Memory text old new h = record { cause = tt; begun = h }
-not_printed _ text old new h = absurd (cc h.0)
+not_printed failure text old new h = grind (arith)
 
 -- more of it waited, of which some was printed
 front_next : (old middle new : Option (List ℕ)) (all waiting more next rest : List ℕ)
