@@ -219,9 +219,7 @@ listed_behind false form lines false front waiting text given all split h = reco
 -- why printing failed
 begun_comes : (failure : Failure) (meant : Answer) (old new : Option (List ℕ))
     → IsOfPrinting failure → HasBeginning old new meant.printed → Comes (Err failure) meant old new
-begun_comes failures.Line meant old new cause h = h
-begun_comes failures.Memory meant old new cause h = h
-begun_comes _ meant old new cause h = absurd cause
+begun_comes failure meant old new cause h = grind (arith)
 
 begun_front : (old middle new : Option (List ℕ)) (front rest : List ℕ) → Appends old middle front
     → HasBeginning middle new rest → HasBeginning old new (front ++ rest)
