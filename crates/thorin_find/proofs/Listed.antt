@@ -231,14 +231,9 @@ comes_behind : (result given : Result ℕ Failure) (front rest : List ℕ)
     (old middle new : Option (List ℕ)) → Appends old middle front
     → Comes result (record { printed = rest; answer = given }) middle new
     → Comes result (record { printed = front ++ rest; answer = given }) old new
-comes_behind (Ok status) given front rest old middle new printed h =
-    (h.0, Appends-trans old middle new front rest printed h.1)
-comes_behind (Err failures.Line) given front rest old middle new printed h =
-    begun_front old middle new front rest printed h
-comes_behind (Err failures.Memory) given front rest old middle new printed h =
-    begun_front old middle new front rest printed h
-comes_behind (Err _) given front rest old middle new printed h =
-    (h.0, Appends-trans old middle new front rest printed h.1)
+comes_behind result given front rest old middle new printed h =
+    grind (arith, Appends-trans old middle new front rest printed,
+    begun_front old middle new front rest printed)
 
 module _ (form : ListForm) (pack : Package) (entries : List UnitEntry)
     (by_row : AreByRow pack entries)
