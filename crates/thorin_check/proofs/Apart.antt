@@ -16,10 +16,7 @@ use Rattle.thorin_check.specs.declared.overlaps.Placed.{Placed}
 
 -- two ranges that are the same, or both absent
 pub one_range : (a b : Option Contribution) → same_range a b ≡ true → a ≡ b
-one_range None None e = refl
-one_range None (Some b) e = absurd cc
-one_range (Some a) None e = absurd cc
-one_range (Some a) (Some b) e = grind (arith, nat_tests)
+one_range a b e = grind (arith, nat_tests)
 
 before_or : (j k : ℕ) → j < k + 1 → (j < k) ⊎ (j ≡ k)
 before_or j k lt = grind arith
