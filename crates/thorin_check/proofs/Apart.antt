@@ -157,12 +157,10 @@ two_swapped a b (inl same) = inl (sym same.0, sym same.1)
 two_swapped a b (inr (inl le)) = inr (inr le)
 two_swapped a b (inr (inr le)) = inr (inl le)
 
-module _ (p q : Placed) (a : Contribution) (s t : Option Contribution) (some : 0 < a.size)
-    (p_at : p.offset ≡ a.offset.0) (p_of : p.size ≡ a.size) (q_at : q.offset ≡ a.offset.0)
-    (q_of : q.size ≡ a.size) (p_by : p.tables ≡ s) (q_by : q.tables ≡ t) where
-  read_alike : IsApart p q → s ≡ t
-  read_alike (inl same) = sym p_by ∙ same.2 ∙ q_by
-  read_alike (inr le) = absurd (omega arith)
+read_alike : (p q : Placed) (a : Contribution) (s t : Option Contribution) → 0 < a.size
+    → p.offset ≡ a.offset.0 → p.size ≡ a.size → q.offset ≡ a.offset.0 → q.size ≡ a.size
+    → p.tables ≡ s → q.tables ≡ t → IsApart p q ⊎ IsApart q p → s ≡ t
+read_alike p q a s t some p_at p_of q_at q_of p_by q_by apart = grind (arith)
 
 module _ (pack : Package) (slots : List UnitEntry) (kind : SectionKind) (ranges : List Placed)
     (has : HasRanges pack slots kind ranges) (apart : AllPairs IsApart ranges) where
@@ -193,12 +191,8 @@ module _ (pack : Package) (slots : List UnitEntry) (kind : SectionKind) (ranges 
 
   both_alike : (a : Contribution) (s t : Option Contribution) → 0 < a.size → HasRange ranges a s
       → HasRange ranges a t → s ≡ t
-  both_alike a s t some one other = elim (placed_apart one.0 other.0 one.1 other.1) [
-    | inl apart ↦ read_alike one.0 other.0 a s t some one.2 one.3 other.2 other.3 one.4 other.4
-        apart
-    | inr apart ↦ sym (read_alike other.0 one.0 a t s some other.2 other.3 one.2 one.3 other.4
-        one.4 apart)
-  ]
+  both_alike a s t some one other = read_alike one.0 other.0 a s t some one.2 one.3 other.2
+      other.3 one.4 other.4 (placed_apart one.0 other.0 one.1 other.1)
 
   slots_by : (a b : UnitEntry) → Contains slots a → Contains slots b → (r s : Option Contribution)
       → slot_range pack a kind ≡ r → slot_range pack b kind ≡ s → overlap r s ≡ false
