@@ -141,10 +141,7 @@ AreTwoApart a b = ((a.offset.0 ≡ b.offset.0) × (a.size ≡ b.size))
 
 not_overlap : (a b : Contribution) → 0 < a.size → 0 < b.size → AreTwoApart a b
     → overlap (Some a) (Some b) ≡ false
-not_overlap a b some more (inl same) =
-    let offset = same.0 in let size = same.1 in grind (arith, nat_tests)
-not_overlap a b some more (inr (inl le)) = grind (arith, nat_tests)
-not_overlap a b some more (inr (inr le)) = grind (arith, nat_tests)
+not_overlap a b some more apart = grind (arith, nat_tests)
 
 module _ (p q : Placed) (a b : Contribution) (p_at : p.offset ≡ a.offset.0) (p_of : p.size ≡ a.size)
     (q_at : q.offset ≡ b.offset.0) (q_of : q.size ≡ b.size) where
