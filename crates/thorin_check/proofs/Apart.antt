@@ -143,16 +143,9 @@ not_overlap : (a b : Contribution) → 0 < a.size → 0 < b.size → AreTwoApart
     → overlap (Some a) (Some b) ≡ false
 not_overlap a b some more apart = grind (arith, nat_tests)
 
-module _ (p q : Placed) (a b : Contribution) (p_at : p.offset ≡ a.offset.0) (p_of : p.size ≡ a.size)
-    (q_at : q.offset ≡ b.offset.0) (q_of : q.size ≡ b.size) where
-  two_apart : IsApart p q → AreTwoApart a b
-  two_apart (inl same) = inl (sym p_at ∙ same.0 ∙ q_at, sym p_of ∙ same.1 ∙ q_of)
-  two_apart (inr le) = inr (inl (rw (← p_at, ← p_of, ← q_at) le))
-
-two_swapped : (a b : Contribution) → AreTwoApart a b → AreTwoApart b a
-two_swapped a b (inl same) = inl (sym same.0, sym same.1)
-two_swapped a b (inr (inl le)) = inr (inr le)
-two_swapped a b (inr (inr le)) = inr (inl le)
+two_apart : (p q : Placed) (a b : Contribution) → p.offset ≡ a.offset.0 → p.size ≡ a.size
+    → q.offset ≡ b.offset.0 → q.size ≡ b.size → IsApart p q ⊎ IsApart q p → AreTwoApart a b
+two_apart p q a b p_at p_of q_at q_of apart = grind (arith)
 
 read_alike : (p q : Placed) (a : Contribution) (s t : Option Contribution) → 0 < a.size
     → p.offset ≡ a.offset.0 → p.size ≡ a.size → q.offset ≡ a.offset.0 → q.size ≡ a.size
@@ -180,11 +173,8 @@ module _ (pack : Package) (slots : List UnitEntry) (kind : SectionKind) (ranges 
 
   both_apart : (a b : Contribution) (s t : Option Contribution) → HasRange ranges a s
       → HasRange ranges b t → AreTwoApart a b
-  both_apart a b s t one other = elim (placed_apart one.0 other.0 one.1 other.1) [
-    | inl apart ↦ two_apart one.0 other.0 a b one.2 one.3 other.2 other.3 apart
-    | inr apart ↦ two_swapped b a
-        (two_apart other.0 one.0 b a other.2 other.3 one.2 one.3 apart)
-  ]
+  both_apart a b s t one other = two_apart one.0 other.0 a b one.2 one.3 other.2 other.3
+      (placed_apart one.0 other.0 one.1 other.1)
 
   both_alike : (a : Contribution) (s t : Option Contribution) → 0 < a.size → HasRange ranges a s
       → HasRange ranges a t → s ≡ t
