@@ -110,11 +110,7 @@ gone_on ranges i e lt farthest further before true twin behind g last goes more 
 
 begun : (range : Option Contribution) (offset size : ℕ) → contribution offset size ≡ range
     → (c : Contribution) → range ≡ Some c → 0 < c.size
-begun range offset size e c is = by-bool _ (nat_eq size 0)
-    (λ none. let absent = rw none at e in absurd (let some = absent ∙ is in cc))
-    (λ some. let there = rw some at e in
-    let same = same_Some (record { offset = record { 0 = offset }; size = size }) c (there ∙ is) in
-    rw (← same) (grind (arith, nat_tests)))
+begun range offset size e c is = grind (arith, nat_tests)
 
 range_has : (row : Ranges) (kind : SectionKind) (place : Option ℕ)
     → column_place row.version row.columns kind ≡ place → (c : Contribution)
