@@ -90,8 +90,7 @@ module _ (pack : Package) (entry : UnitEntry) where
 module _ (unit : FoundUnit) where
   read_whole : (object : DwarfObject) (i : ℕ) (read : Result (Option (List ℕ)) ReadError)
       → TellsString object i read [] → result_err read ≡ None
-  read_whole object i (Ok string) h = refl
-  read_whole object i (Err cause) h = absurd (some_told _ _ h.1)
+  read_whole object i read h = grind (arith)
 
   past_all : (i : ℕ) → string_count unit ≤ i → result_err (string_of unit i) ≡ None
   unfolding string_count string_in entry_in
