@@ -229,16 +229,13 @@ module _ (offer : Offer) (reading : Reading) (pack : Package) where
 
 none_wrong : (kind : SectionKind) (is_so : Bool) (what : List ℕ)
     → Is (section_faults kind is_so what) [] → is_so ≡ false
-none_wrong kind true what h = absurd (some_told _ _ h)
-none_wrong kind false what h = refl
+none_wrong kind is_so what h = grind (arith)
 
 one_version : (versions : Option (ℕ × ℕ)) → Is (versions_faults versions) [] → versions ≡ None
-one_version None h = refl
-one_version (Some versions) h = absurd (some_told _ _ h)
+one_version versions h = grind (arith)
 
 map_none : {X Y : Type 0} (f : X → Y) (xs : List X) → [] ≡ map f xs → xs ≡ []
-map_none f [] e = refl
-map_none f (x ∷ xs) e = absurd cc
+map_none f xs e = grind (arith)
 
 -- the slots are the entries, in another order
 module _ (pack : Package) (entries : List UnitEntry) (by_row : AreByRow pack entries) where
