@@ -65,13 +65,11 @@ module _ (pack : Package) (entry : UnitEntry) where
 
   in_its_row : (unit : FoundUnit) → TellsFound pack entry unit []
       → (unit.number ≡ entry.row) × TellsInRow pack entry.object unit (is_bare pack unit) []
-  in_its_row unit (inl h) = absurd (some_told _ _ h.1)
-  in_its_row unit (inr h) = h
+  in_its_row unit h = grind (arith)
 
   whole_row : (unit : FoundUnit) (bare : Bool) → TellsInRow pack entry.object unit bare []
       → (bare ≡ false) × TellsItself pack entry.object unit []
-  whole_row unit true h = absurd (some_told _ _ h)
-  whole_row unit false h = (refl, h)
+  whole_row unit bare h = grind (arith)
 
   by_own : (own : Option (Option DwarfObject)) → TellsOwn entry.object own []
       → own ≡ Some (Some entry.object)
