@@ -73,15 +73,11 @@ module _ (pack : Package) (entry : UnitEntry) where
 
   by_own : (own : Option (Option DwarfObject)) → TellsOwn entry.object own []
       → own ≡ Some (Some entry.object)
-  by_own None h = absurd (some_told _ _ h.1)
-  by_own (Some None) h = absurd (some_told _ _ h)
-  by_own (Some (Some own)) (inl h) = rw h.0 refl
-  by_own (Some (Some own)) (inr h) = absurd (some_told _ _ h.1)
+  by_own own h = grind (arith)
 
   its_own : (unit : FoundUnit) → TellsItself pack entry.object unit []
       → own_of entry.object unit ≡ Some (Some entry.object)
-  its_own unit (inl h) = absurd (some_told _ _ h.2)
-  its_own unit (inr h) = by_own (own_of entry.object unit) h
+  its_own unit h = grind (arith, by_own (own_of entry.object unit))
 
 -- ---- strings
 
