@@ -164,9 +164,7 @@ named_once pack all is_types a b here there is so row =
 
 end_none : (executable : List ℕ) (room : ℕ) (first : List Named) (left : Listed)
     → TellsEnd executable room first left [] → (left.0 ≡ []) × (left.1 ≡ None)
-end_none executable room first ([], None) h = (refl, refl)
-end_none executable room first ([], Some error) h = absurd (some_told _ _ h.1)
-end_none executable room first (named ∷ left, end) h = absurd (some_told _ _ h.2.1)
+end_none executable room first left h = grind (arith)
 
 none_missing : (pack : Package) (executable : List ℕ) (named : List Named)
     → flat_map (λ named. missing_faults executable named (found pack named.0)) named ≡ []
