@@ -159,11 +159,7 @@ module _ (pack : Package) (old : UnreadStrings) (unit : FoundUnit) (object : Dwa
     (g : Gathers pack old) (is : found pack object ≡ Ok (Some unit)) where
   -- it has no string offsets
   pub none_added : None ≡ range_of unit → Adds pack old old unit
-  none_added none = record {
-    gathers = g;
-    kept = λ range there. there;
-    added = λ range e. absurd (let some = none ∙ e in cc);
-  }
+  none_added none = grind (arith)
 
   module _ (range : StringRange) (has : Some range ≡ range_of unit) where
     -- it has those of the unit before
