@@ -51,12 +51,7 @@ pub of_one_kind : (P : Bool → DwarfObject → DwarfObject → Type 0)
     → ((x y : DwoId) → P false (Compilation x) (Compilation y))
     → ((x y : DebugTypeSignature) → P true (TypeUnit x) (TypeUnit y)) → (is_types : Bool)
     → (a b : DwarfObject) → is_of is_types a ≡ true → is_of is_types b ≡ true → P is_types a b
-of_one_kind P cu tu false (Compilation x) (Compilation y) is so = cu x y
-of_one_kind P cu tu false (Compilation x) (TypeUnit y) is so = absurd cc
-of_one_kind P cu tu false (TypeUnit x) b is so = absurd cc
-of_one_kind P cu tu true (TypeUnit x) (TypeUnit y) is so = tu x y
-of_one_kind P cu tu true (TypeUnit x) (Compilation y) is so = absurd cc
-of_one_kind P cu tu true (Compilation x) b is so = absurd cc
+of_one_kind P cu tu is_types a b is so = grind (arith, cu, tu)
 
 le_of : (m n : ℕ) (is_types : Bool) (a b : DwarfObject) → is_of is_types a ≡ true
     → is_of is_types b ≡ true → place_by a m ≤ place_by b n → m ≤ n
