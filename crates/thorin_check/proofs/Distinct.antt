@@ -190,15 +190,11 @@ module _ (pack : Package) (entries : List UnitEntry) (listed : Listed) (any : Bo
       → (any ≡ false → AreApart pack entries contribution_kinds)
       → (any && nat_eq b.count a.count) ≡ false → Told (ForEach (TellsSeen pack listed) entries) a b
       → Told (TellsUnitsOnly pack listed entries) a b
-  units_apart {a} {b} apart not_all t = record {
-    faults = t.faults;
-    are = (t.are, λ none. apart (by_count any a.count b.count not_all (rw none at t.counted)));
-    handed = t.handed;
-    added = t.added;
-    split = t.split;
-    counted = t.counted;
-    formed = t.formed;
-  }
+  units_apart {a} {b} apart not_all t =
+      let none = λ (none : t.faults ≡ []).
+      apart (by_count any a.count b.count not_all (rw none at t.counted)) in
+      let are : TellsUnitsOnly pack listed entries t.faults = (t.are, none) in
+      grind (arith)
 
 -- ---- units that are gone through
 
