@@ -183,10 +183,7 @@ fn read_behind<'a>(
 fn numbers_of(range: Option<Contribution>) -> (u64, u64)
     ensures { result ≡ numbers_of range }
 {
-    match range {
-        Some(range) => (range.offset.0, range.size),
-        None => (0, 0),
-    }
+    range.map_or((0, 0), |range| (range.offset.0, range.size))
 }
 
 /// What is told of a unit whose own bytes say this of its identifier, if anything.
