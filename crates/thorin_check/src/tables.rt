@@ -105,10 +105,7 @@ fn lacks_column(pack: &PackageFile<'_>, kind: SectionKind) -> bool
 fn has_column(index: Option<&UnitIndex<'_>>, kind: SectionKind) -> bool
     ensures { result ≡ has_column kind (option_copied index.entry) }
 {
-    match index {
-        Some(index) => index.has_column(kind),
-        None => false,
-    }
+    index.is_some_and(|index| index.has_column(kind))
 }
 
 /// Whether a slot names a row of an index before its end, and none before the next.
