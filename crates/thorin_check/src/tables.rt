@@ -122,10 +122,7 @@ fn end_of(index: Option<&UnitIndex<'_>>) -> u64
     ensures end { result ≡ row_end (option_copied index.entry) }
     ensures some { 0 < result }
 {
-    match index {
-        Some(index) => u64::from(index.unit_count()) + 1,
-        None => 1,
-    }
+    index.map_or(1, |index| u64::from(index.unit_count()) + 1)
 }
 
 /// A slot names each row of an index up to its end: tells each row before that of a slot of its
