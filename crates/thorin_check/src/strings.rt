@@ -55,13 +55,12 @@ impl Ends {
 
     /// Why the string of a number of a unit can't be read, where that is so: what
     /// `PackagedUnit::string` answers, but no string is read.
+    #[tactic(auto, using(crate::proofs::SharedStrings::none_there))]
     pub(crate) fn error_of(self, unit: &PackagedUnit<'_>, i: u64) -> Option<ReadError>
         requires { HasEnds self unit.now.order (content unit.now.contents SectionKind.Str) }
         ensures { result ≡ result_err (string_of unit.now i) }
     {
-        let Some(offset) = self.offsets_of(unit).entry(i) else {
-            return None;
-        };
+        let offset = self.offsets_of(unit).entry(i)?;
         if offset < self.reach {
             None
         } else if self.size < offset {

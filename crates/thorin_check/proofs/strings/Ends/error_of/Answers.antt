@@ -1,15 +1,11 @@
 use Rattle.thorin_check.proofs.Terms.{arith, nat_tests, string_at, string_in}
-use Rattle.thorin_check.proofs.SharedStrings.{none_there}
 use Rattle.thorin_check.proofs.strings.Ends.error_of.Goals as goal
-
-pub returns-in_default : goal.returns-in_default
-returns-in_default c = grind (arith, none_there)
 
 pub returns-then-offset-self : goal.returns-then-offset-self
 unfolding string_at string_in
 returns-then-offset-self c =
     let ends = c.requires in
-    grind (arith, nat_tests, ends.order_is, ends.inside, ends.reach c.in-Some.offset)
+    grind (arith, nat_tests, ends.order_is, ends.inside, ends.reach c.in_ok-offset.offset)
 
 pub returns-then-self-offset : goal.returns-then-self-offset
 unfolding string_at string_in
@@ -19,4 +15,4 @@ pub returns-else-self-offset : goal.returns-else-self-offset
 unfolding string_at string_in
 returns-else-self-offset c =
     let ends = c.requires in
-    grind (arith, nat_tests, ends.order_is, ends.size, ends.reach c.in-Some.offset)
+    grind (arith, nat_tests, ends.order_is, ends.size, ends.reach c.in_ok-offset.offset)
