@@ -291,20 +291,14 @@ fn put_names<'a>(
 {
     let (source, name) = names_of(listed.pack, object, unit);
     let form = listed.form.form;
-    match form {
-        Form::Lines => {
-            text.push_str("\t")?;
-            put_spelled_or(source, form, text)?;
-            text.push_str("\t")?;
-            put_spelled_or(name, form, text)
-        }
-        Form::Json => {
-            text.push_str(",\"name\":")?;
-            put_spelled_or(source, form, text)?;
-            text.push_str(",\"dwo_name\":")?;
-            put_spelled_or(name, form, text)
-        }
-    }
+    let (before_source, before_name) = match form {
+        Form::Lines => ("\t", "\t"),
+        Form::Json => (",\"name\":", ",\"dwo_name\":"),
+    };
+    text.push_str(before_source)?;
+    put_spelled_or(source, form, text)?;
+    text.push_str(before_name)?;
+    put_spelled_or(name, form, text)
 }
 
 /// Adds the sizes on the line of a unit, and gathers its ranges.
