@@ -198,16 +198,8 @@ module _ (offer : Offer) (reading : Reading) (pack : Package) where
 
   has_units : (executable : List ℕ) → TellsExecutable offer reading pack executable []
       → HasUnitsOf offer reading pack executable
-  has_units executable t =
-      let units = of_named executable (room_of t.bytes)
-      (skeletons_by reading.nameless t.bytes) t.tells in
-      record {
-        bytes = t.bytes;
-        read = t.read;
-        whole = units.0;
-        names = units.1;
-        present = units.2;
-      }
+  has_units executable t = grind (arith, of_named executable (room_of t.bytes)
+      (skeletons_by reading.nameless t.bytes) t.tells)
 
   all_units : (executables : List (Bor (List ℕ)))
       → TellsExecutables offer reading pack executables []
