@@ -42,11 +42,7 @@ module _ (executable : List ℕ) (named : Named)
 end_behind : (executable : List ℕ) (room less : ℕ) (x : Named) (first : List Named)
     (left : Listed) (faults : List FaultValue) → room ≤ less + long_size x.1
     → TellsEnd executable less first left faults → TellsEnd executable room (x ∷ first) left faults
-end_behind executable room less x first ([], None) faults fits h = h
-end_behind executable room less x first ([], Some error) faults fits h = h
-end_behind executable room less x first (named ∷ left, end) faults fits h =
-    let over : less < long_bytes (first ++ (named ∷ [])) = h.1 in
-    (h.0, omega (arith, over, fits), h.2)
+end_behind executable room less x first left faults fits h = grind (arith)
 
 module _ (pack : Package) (executable : List ℕ) where
   -- no unit is left, but the end
