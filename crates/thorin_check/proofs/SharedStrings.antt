@@ -164,11 +164,7 @@ module _ (pack : Package) (old : UnreadStrings) (unit : FoundUnit) (object : Dwa
   module _ (range : StringRange) (has : Some range ≡ range_of unit) where
     -- it has those of the unit before
     pub last_added : old.last ≡ Some range → Adds pack old old unit
-    last_added last = record {
-      gathers = g;
-      kept = λ other there. there;
-      added = λ other e. g.last other (last ∙ has ∙ e);
-    }
+    last_added last = grind (arith, g.last)
 
     this : (other : StringRange) → range_of unit ≡ Some other → range ≡ other
     this other e = same_Some range other (has ∙ e)
