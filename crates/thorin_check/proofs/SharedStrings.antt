@@ -76,14 +76,10 @@ all_read ends order strings h encoding range end le below i =
 
 -- ---- ranges
 
-ranges_same : (a b : StringRange) → IsTrue (ranges.eq-value.it a b) → a ≡ b
-ranges_same a b equal = grind (arith, nat_tests)
-
 -- string offsets are those before, as `==` tells
 pub same_range : (before : Option StringRange) (range : StringRange)
     → IsTrue (option_eq ranges.eq-value.it before (Some range)) → before ≡ Some range
-same_range None range equal = absurd cc
-same_range (Some last) range equal = ap Some (ranges_same last range equal)
+same_range before range equal = grind (arith, nat_tests)
 
 -- the size of addresses is nothing to strings
 read_alike : (order : Endianness) (encoding : Encoding) (strings bytes : List ℕ) (i : ℕ)
