@@ -81,8 +81,7 @@ gone_more ranges i e lt farthest further before g here more end = record {
 pub is_behind : (twin : Bool) (farthest offset : ℕ)
     → (twin || (nat_le farthest offset && nat_lt farthest (2 ^ 64 - 1))) ≡ true
     → (twin ≡ true) ⊎ ((farthest ≤ offset) × (farthest < 2 ^ 64 - 1))
-is_behind true farthest offset e = inl refl
-is_behind false farthest offset e = inr (grind (arith, nat_tests))
+is_behind twin farthest offset e = grind (arith, nat_tests)
 
 pub gone_on : (ranges : List Placed) (i : ℕ) (e : Placed) → i < length ranges
     → (farthest further : ℕ) (before : Option Placed) (any twin behind : Bool)
