@@ -135,5 +135,5 @@ fn finish<O: Write>(units: usize, faults: &mut Faults, out: &mut O) -> Result<u8
     put_totals(faults.form, units as u64, count, &mut faults.waiting)?;
     print(faults.waiting.as_str(), out)?;
     flush(out)?;
-    Ok(if count == 0 { 0 } else { 1 })
+    Ok(u8::from(count != 0))
 }
