@@ -59,9 +59,6 @@ module _ (bytes : List ℕ) (at n : ℕ) (few : n ≤ 64) (room : at + n ≤ len
       let passed = clear eqb next (replicate n 0) same_long (omega (arith, long)) k in
       grind (arith, nat_tests, lane, long, passed)
 
-  pub lanes_all : mask_of eqb next (replicate n 0) ≡ 0 → get_or bytes (at + k) 0 ≢ 0
-  lanes_all none = lanes_some (rw none (omega (arith, trailing_of_zero 64)))
-
   -- the byte at the lowest bit that is set
   pub lanes_zero : k ≡ trailing_zeros w64 (mask_of eqb next (replicate n 0))
       → get_or bytes (at + k) 0 ≡ 0
