@@ -36,8 +36,7 @@ start_at n (p ∷ ps) (suc k) within = grind (arith, start_at (n + length p) ps 
 -- a start and a part of its piece are within the whole
 pub start_within : (ps : List (List ℕ)) (at part : ℕ) → at < length ps
     → part ≤ length (get_or ps at []) → get_or (starts_from 0 ps) at 0 + part ≤ length (concat ps)
-start_within ps at part there within =
-    grind (arith, start_at, concat_around ps at, length-append)
+start_within ps at part there within = grind (arith, start_at, concat_around ps at, length-append)
 
 -- some piece begins at the front
 pub first_start : (ps : List (List ℕ)) → get_or (starts_from 0 ps) 0 0 ≡ 0
@@ -130,8 +129,7 @@ kept_within f (p ∷ ps) (suc i) =
     grind (arith, kept_within f ps i, length-append, length-filter, count_by-le-length)
 
 -- no piece is longer
-pub short_filter : (f : ℕ → Bool) (ps : List (List ℕ)) → AreShort ps
-    → AreShort (map (filter f) ps)
+pub short_filter : (f : ℕ → Bool) (ps : List (List ℕ)) → AreShort ps → AreShort (map (filter f) ps)
 short_filter f ps short = All-map (λ p. length p ≤ 1024) (filter f) ps (λ k d within.
     grind (arith, length-filter, count_by-le-length, short k d))
 

@@ -330,8 +330,7 @@ module _ (e : Entries) (table : IsHashed e) (s : List ℕ) (h : ℕ) (is_hash : 
   -- nor one that doesn't stand at the place of its hash, where strings don't share that
   pub misplaced : (p : ℕ) → place_in e h ≡ Some p → p ≢ shared
       → (BeginsAt e.bytes p × (string_from e.bytes p ≡ s) → ⊥) → Contains (held e) s → ⊥
-  misplaced p has own other there =
-      grind (arith, found_at there, stands_there e table s there, other)
+  misplaced p has own far there = grind (arith, found_at there, stands_there e table s there, far)
 
   -- nor one that isn't among those in order, where it is looked for there
   pub unordered : (r : ℕ) → IsOrdered e.places.slots.items e.places.size e.places.is_full h
@@ -449,12 +448,10 @@ pub inserted_or : (bytes ordered s : List ℕ) (r p : ℕ) (new : List ℕ)
     → IsIndexed bytes new × ((q : ℕ) → Contains ordered q → Contains new q)
 inserted_or bytes ordered s r p new (Ok u) table stands there is ok err =
     rw ok (indexed_more bytes ordered s r p table stands there is, among_more ordered r p)
-inserted_or bytes ordered s r p new (Err e) table stands there is ok err =
-    rw err (table, λ q among. among)
+inserted_or bytes ordered s r p new (Err e) table _ _ _ _ err = rw err (table, λ q among. among)
 
 -- a number below a limit stays
-kept_below : (xs : List ℕ) (m y : ℕ) → y < m → Contains xs y
-    → Contains (filter (λ x. ltb x m) xs) y
+kept_below : (xs : List ℕ) (m y : ℕ) → y < m → Contains xs y → Contains (filter (λ x. ltb x m) xs) y
 kept_below xs m y below there =
     let low : ℕ → Bool = λ x. ltb x m in
     let high : ℕ → Bool = λ x. not (ltb x m) in

@@ -117,8 +117,7 @@ distinct_push ss s distinct absent = all_pairs_push (λ s t. s ≢ t) ss s disti
 pub offset_of-absent : (ss : List (List ℕ)) (s : List ℕ) → list_any (λ t. bytes_eq t s) ss ≡ false
     → offset_of ss s ≡ length (data_of ss)
 offset_of-absent [] s none = refl
-offset_of-absent (t ∷ ss) s none =
-    grind (arith, offset_of-absent ss s, length-data_of-cons t ss)
+offset_of-absent (t ∷ ss) s none = grind (arith, offset_of-absent ss s, length-data_of-cons t ss)
 
 pub offsets_from-append : (n : ℕ) (ss ts : List (List ℕ)) → offsets_from n (ss ++ ts) ≡ offsets_from
     n ss ++ offsets_from (n + length (data_of ss)) ts
@@ -146,11 +145,9 @@ offsets_from-above n (s ∷ ss) =
     λ i d within. grind (arith, offsets_from-above (n + length s + 1) ss (i - 1) d)
 
 -- no string has its offset past the section's end
-pub offset_within : (strings : List (List ℕ)) (string : List ℕ) → offset_of strings string ≤ length
-    (data_of strings)
-offset_within [] string = omega arith
-offset_within (t ∷ strings) string =
-    grind (arith, length-data_of-cons t strings, offset_within strings string)
+pub offset_within : (ss : List (List ℕ)) (s : List ℕ) → offset_of ss s ≤ length (data_of ss)
+offset_within [] s = omega arith
+offset_within (t ∷ ss) s = grind (arith, length-data_of-cons t ss, offset_within ss s)
 
 -- a string is among those of a list
 abbrev pub has : List (List ℕ) → List ℕ → Bool

@@ -30,8 +30,7 @@ module _ (slots : List Slot) (h k : ℕ) where
   slot_from : (at n : ℕ) → at ≤ k → ArePassed slots at k h → k < at + n → slot.behind ≢ 0
       → slot.hash ≡ h → place_from slots at n h ≡ Some (slot.behind - 1)
   slot_from at zero low passed high some same = absurd (omega arith)
-  slot_from at (suc n) low passed high some same =
-      grind (arith, slot_from (at + 1) n, passed at)
+  slot_from at (suc n) low passed high some same = grind (arith, slot_from (at + 1) n, passed at)
 
   -- a free one, or the end of those that are looked at, that there is none
   none_from : (at n : ℕ) → at ≤ k → ArePassed slots at k h → (k < at + n → slot.behind ≡ 0)

@@ -11,8 +11,7 @@ there c = omega (arith, length-pieces c.args.chunks.now)
 
 halved : (c : goal.After-index) → IsHalved (pieces c.args.chunks.now.items)
     (pieces c.insert.new.self.items) c.args.at
-halved c =
-    piece_halved c.args.chunks.now.items c.args.at c.index_mut-chunk.result.now (grind arith)
+halved c = piece_halved c.args.chunks.now.items c.args.at c.index_mut-chunk.result.now (grind arith)
     (grind (arith, c.index_mut-chunk.ensures.value)) c.insert.new.self.items c.len-half.result
     c.truncate.new.self c.in_ok-upper.upper (omega arith) c.truncate.ensures.items
     (grind (arith, c.in_ok-upper.ensures.items)) (grind (arith, c.insert.ensures.items))
