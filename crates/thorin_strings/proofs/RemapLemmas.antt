@@ -89,8 +89,7 @@ module _ (order : Endianness) (encoding : Encoding) (bytes : List ℕ) (index : 
   no_entry : entry_in order encoding bytes index ≡ None
       → entry_at order encoding bytes index ≡ Err (OffsetAtIndex UnexpectedEof index)
   unfolding entry_in offset_at
-  no_entry is =
-      grind (arith, in_range encoding.format index (header_size encoding) (length bytes))
+  no_entry is = grind (arith, in_range encoding.format index (header_size encoding) (length bytes))
 
 -- a string that was read and used, and is to fit the format
 module _ (format : Format) (section : List ℕ) (named place : ℕ) (old new : List (List ℕ))

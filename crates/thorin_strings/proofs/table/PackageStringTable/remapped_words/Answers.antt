@@ -83,8 +83,7 @@ loop-index-preserved c =
     let before = c.write_told-index.new.self in
     let new = c.match-other_offset.self in
     let is = entry_is Little range.encoding range.strings.now range.offsets.now
-    c.write_told-index.result c.word_at-named.result before
-    (rw same at c.word_at-named.ensures) in
+    c.write_told-index.result c.word_at-named.result before (rw same at c.word_at-named.ensures) in
     let now : (remapped_entry Little range.encoding range.strings.now range.offsets.now
     c.write_told-index.result before ≡ Ok (c.match-other_offset.offset, new))
     × (take (length before) new ≡ before)
