@@ -243,10 +243,9 @@ module _ (ps qs : List (List ℕ)) (at : ℕ) (within : at < length ps)
         second = λ more. grind (arith, halves_begun, get_or-insert_above, length-starts_from);
       }
 
-pub length-pieces : {A B : Type 0} (chunks : Vec (Vec ℕ A) B) → length (pieces chunks.items) ≡
-    chunks.len
-length-pieces {A} chunks =
-    omega (arith, length-map chunks.items (λ (chunk : Vec ℕ A). chunk.items), chunks.ok.0)
+pub length-pieces : {A B : Type 0} (all : Vec (Vec ℕ A) B) → length (pieces all.items) ≡ all.len
+length-pieces {A} all =
+    omega (arith, length-map all.items (λ (chunk : Vec ℕ A). chunk.items), all.ok.0)
 
 -- how many chunks and starts there are
 pub ruleset counts = (length-starts_from, length-pieces)

@@ -110,10 +110,9 @@ alike_front [] ys end within within' is_zero is_zero' same = absurd (omega arith
 alike_front (x ∷ xs) [] end within within' is_zero is_zero' same = absurd (omega arith)
 
 -- the first zero ends it
-pub ended_front : (rest : List ℕ) (end : ℕ) → IsFirstZero rest end → front_string rest ≡ take end
-    rest
-ended_front rest end is_zero =
-    let first = position_or_len_is (λ b. eqb b 0) rest end 0 in
+pub ended_front : (xs : List ℕ) (end : ℕ) → IsFirstZero xs end → front_string xs ≡ take end xs
+ended_front xs end is_zero =
+    let first = position_or_len_is (λ b. eqb b 0) xs end 0 in
     grind (arith, nat_tests, first, is_zero)
 
 -- a string and the zero behind it

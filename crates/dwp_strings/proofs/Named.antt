@@ -18,10 +18,9 @@ use Terms.{terminated, true, with_string, zero, ℕ, ◌++◌, ◌+◌, ◌-◌,
 use Rattle.dwp_bytes.specs.StringOffsets.{string_at}
 use Rattle.memchr.specs.Find.{IsFirstByte, is_byte}
 
-pub before_first-ended : (s rest : List ℕ) → IsZeroFree s → before_first (λ b. eqb b 0)
-    (s ++ 0 ∷ rest) ≡ s
-before_first-ended s rest free =
-    let first = position_or_len_is (λ b. eqb b 0) (s ++ 0 ∷ rest) (length s) 0 in
+before_first-ended : (s xs : List ℕ) → IsZeroFree s → before_first (λ b. eqb b 0) (s ++ 0 ∷ xs) ≡ s
+before_first-ended s xs free =
+    let first = position_or_len_is (λ b. eqb b 0) (s ++ 0 ∷ xs) (length s) 0 in
     let before = λ (k : ℕ). free k 0 in
     grind (arith, nat_tests, first, before, get_or_at, get_or_append_left, take_at, length-append)
 
@@ -30,12 +29,11 @@ pub string_from-ended : (front s rest : List ℕ) (n : ℕ) → length front ≡
     → string_from (front ++ (s ++ 0 ∷ rest)) n ≡ s
 string_from-ended front s rest n long free = grind (arith, drop_at, before_first-ended s rest free)
 
-pub strings_in-ended : (s rest : List ℕ) → IsZeroFree s → strings_in (s ++ 0 ∷ rest) ≡ s
-    ∷ strings_in rest
-strings_in-ended [] rest free = refl
-strings_in-ended (b ∷ s) rest free =
+pub strings_in-ended : (s xs : List ℕ) → IsZeroFree s → strings_in (s ++ 0 ∷ xs) ≡ s ∷ strings_in xs
+strings_in-ended [] xs free = refl
+strings_in-ended (b ∷ s) xs free =
     let other = All-head (λ b. b ≢ 0) b s free in
-    grind (arith, nat_tests, other, strings_in-ended s rest (All-tail (λ b. b ≢ 0) b s free))
+    grind (arith, nat_tests, other, strings_in-ended s xs (All-tail (λ b. b ≢ 0) b s free))
 
 pub data_of-cons : (s : List ℕ) (ss : List (List ℕ)) → data_of (s ∷ ss) ≡ s ++ 0 ∷ data_of ss
 data_of-cons s ss = append_assoc s (0 ∷ []) (data_of ss)
@@ -235,10 +233,9 @@ read_later ss final s kept free h =
     grind (arith, list_any-append (λ b. eqb b 0) s (0 ∷ stands.0))
 
 -- a string that was read is the one there
-pub string_was : (section s : List ℕ) (at : ℕ) → string_at section at ≡ Ok s
-    → string_from section at ≡ s
+pub string_was : (bytes s : List ℕ) (at : ℕ) → string_at bytes at ≡ Ok s → string_from bytes at ≡ s
 unfolding string_at
-string_was section s at is = grind arith
+string_was bytes s at is = grind arith
 
 -- what is read has no zero
 pub read_free : (section : List ℕ) (at : ℕ) → IsZeroFree (string_from section at)
