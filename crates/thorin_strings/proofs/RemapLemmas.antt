@@ -57,11 +57,10 @@ unfolding offset_read
 read_used section at place old new string read used = rw (read, used.0, used.1) refl
 
 -- what was read and used is known
-pub known_used : (section : List ℕ) (at place : ℕ) (old new : List (List ℕ)) (string : List ℕ)
-    → string_read section at ≡ Ok string → IsPlaced old new string place
-    → IsKnown section new (at, place)
+pub known_used : (section : List ℕ) (at place : ℕ) (old new : List (List ℕ)) (s : List ℕ)
+    → string_read section at ≡ Ok s → IsPlaced old new s place → IsKnown section new (at, place)
 unfolding offset_read
-known_used section at place old new string read used = grind (arith, there_once_used old string)
+known_used section at place old new s read used = grind (arith, there_once_used old s)
 
 -- what is known stays so once more strings have come
 pub are_known_later : (section : List ℕ) (old new : List (List ℕ)) (pairs : List (ℕ × ℕ))
