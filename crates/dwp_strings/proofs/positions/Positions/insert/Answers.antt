@@ -1,6 +1,6 @@
-use Rattle.dwp_strings.proofs.Terms.{IsChunked, ap, arith, common_steps, concat, elements}
-use Rattle.dwp_strings.proofs.Terms.{get_or_default, get_or_read, insert, length, pieces, sym}
-use Rattle.dwp_strings.proofs.Terms.{with_items_is, ◌+◌, ◌∙◌, ◌≡◌}
+use Rattle.dwp_strings.proofs.Terms.{IsChunked, ap, arith, common_steps, concat, get_or_default}
+use Rattle.dwp_strings.proofs.Terms.{get_or_read, insert, length, pieces, sym, with_items_is, ◌+◌}
+use Rattle.dwp_strings.proofs.Terms.{◌∙◌, ◌≡◌}
 use Rattle.dwp_strings.proofs.ChunkLemmas.{chunk_inserted, length-starts_from, placed, raised}
 use Rattle.dwp_strings.proofs.ChunkLemmas.{start_within}
 use Rattle.dwp_strings.proofs.positions.Positions.insert.Goals.{After-raise}
@@ -39,6 +39,3 @@ pub returns-clause-ok : goal.returns-clause-ok
 returns-clause-ok c =
     (inserted (goal.at.returns-clause-ok c).After-raise).0 ∙ ap (λ l.
     insert l c.args.rank c.args.position) (c.in_ok-at.ensures.same ∙ c.self.view_is)
-
-pub overflow_sub-place : goal.overflow_sub-place
-overflow_sub-place c = grind (arith, elements)
