@@ -1,4 +1,4 @@
-use Rattle.dwp_strings.proofs.Terms.{arith, elements, get_or_read, length, pieces, rules, ◌<◌, ◌∙◌}
+use Rattle.dwp_strings.proofs.Terms.{arith, get_or_read, length, pieces, rules, ◌<◌, ◌∙◌}
 use Rattle.dwp_strings.proofs.ChunkLemmas.{IsInHalf, counts, first_start, halves_room, in_half}
 use Rattle.dwp_strings.proofs.positions.room_at.Goals.{In_ok-cut}
 use Rattle.dwp_strings.proofs.positions.room_at.Goals as goal
@@ -33,9 +33,3 @@ returns-else-rank-index c =
     let room = (halves_room _ _ c.chunk_of-at.result (there after) c.in_ok-cut.ensures.halved
     c.requires.short).1 in
     search rules
-
-pub returns-then-is_empty-clause-at : goal.returns-then-is_empty-clause-at
-returns-then-is_empty-clause-at c = grind (arith, counts)
-
-pub returns-then-is_empty-clause-room : goal.returns-then-is_empty-clause-room
-returns-then-is_empty-clause-room c = grind (arith, elements)
