@@ -1,4 +1,4 @@
-use Rattle.dwp_strings.proofs.Terms.{arith, cases_lt, elements, refl, ⊎_elim, ◌*◌, ◌+◌, ◌-◌}
+use Rattle.dwp_strings.proofs.Terms.{arith, cases_lt, refl, ⊎_elim, ◌*◌, ◌+◌, ◌-◌}
 use Rattle.dwp_strings.proofs.LaneLemmas.{lanes_some, lanes_zero}
 use Rattle.dwp_strings.proofs.ends.short_end.Goals as goal
 
@@ -33,9 +33,3 @@ returns-then-some-lt-LANES-clause-near c = record {
   within = omega arith;
   before = omega arith;
 }
-
-pub returns-then-bytes-at-lt-LANES-clause-none : goal.returns-then-bytes-at-lt-LANES-clause-none
-returns-then-bytes-at-lt-LANES-clause-none c = grind (arith, elements)
-
-pub returns-clause-none : goal.returns-clause-none
-returns-clause-none c = grind (arith, elements)
