@@ -1,4 +1,4 @@
-use Rattle.thorin_strings.proofs.Terms.{Little, arith, elements, ◌∙◌}
+use Rattle.thorin_strings.proofs.Terms.{Little, arith, ◌∙◌}
 use Rattle.thorin_strings.proofs.RemapLemmas.{entry_read, fits_word, kept_more, one_written}
 use Rattle.thorin_strings.proofs.table.PackageStringTable.write_told.Goals as goal
 
@@ -18,6 +18,3 @@ loop-index-preserved c = record {
       c.write_word.ensures.written (c.loop-index.invariant.told old front so_far);
   kept = kept_more _ _ _ c.loop-index.invariant.kept c.guessed_offset.ensures.kept;
 }
-
-pub loop-index-init : goal.loop-index-init
-loop-index-init c = grind (arith, elements)
