@@ -89,9 +89,8 @@ module _ (bytes positions s : List ℕ) (m : ℕ) (sorted : AllPairs (λ p q.
       → IsBefore s (string_from bytes (get_or positions k 0))
   behind_more greater = λ k above within.
       let middle = string_from bytes (get_or positions m 0) in
-      let before = nat_list_cmp_total.antisymm s middle in
       let next = nat_list_cmp_total.trans s middle (string_from bytes (get_or positions k 0)) in
-      grind (arith, sorted m k 0, before, next)
+      grind (arith, sorted m k 0, nat_list_cmp_total.antisymm s middle, next)
 
 -- no byte of it is zero
 pub ended_free : (rest : List ℕ) (end : ℕ) → IsFirstZero rest end → IsZeroFree (take end rest)
