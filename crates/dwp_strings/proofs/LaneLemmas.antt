@@ -110,8 +110,7 @@ module _ (n : ℕ) (few : n ≤ 64) (bytes other : List ℕ) (at to : ℕ) (room
       let same = clear (λ a b. not (eqb a b)) l m (omega (arith, long_l, long_m))
       (omega (arith, long_l, few)) k (omega (arith, long_l, within)) less in
       let first = get_or-chunk at n bytes k 0 within in
-      let second = get_or-chunk to n other k 0 within in
-      grind (arith, nat_tests, first, second, same)
+      grind (arith, nat_tests, first, get_or-chunk to n other k 0 within, same)
 
   -- all of them where none do
   pub lanes_same : mask_of (λ a b. not (eqb a b)) l m ≡ 0
