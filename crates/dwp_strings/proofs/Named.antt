@@ -41,9 +41,8 @@ data_of-cons s ss = append_assoc s (0 ∷ []) (data_of ss)
 pub strings_in-data_of : (ss : List (List ℕ)) → All IsZeroFree ss → strings_in (data_of ss) ≡ ss
 strings_in-data_of [] free = refl
 strings_in-data_of (s ∷ ss) free =
-    let first = All-head IsZeroFree s ss free in
     let others = strings_in-data_of ss (All-tail IsZeroFree s ss free) in
-    grind (arith, data_of-cons, strings_in-ended, first, others)
+    grind (arith, data_of-cons, strings_in-ended, All-head IsZeroFree s ss free, others)
 
 onto_first-zero_free : (b : ℕ) (ss : List (List ℕ)) → b ≢ 0 → All IsZeroFree ss
     → All IsZeroFree (onto_first b ss)
@@ -133,8 +132,7 @@ offsets_from-take (suc n) at (s ∷ ss) = grind (arith, offsets_from-take n (at 
 pub offsets_from-below : (n : ℕ) (ss : List (List ℕ)) → All (λ p. p < n + length (data_of ss))
     (offsets_from n ss)
 offsets_from-below n (s ∷ ss) = λ i d within.
-    let rest = offsets_from-below (n + length s + 1) ss (i - 1) d in
-    grind (arith, length-data_of-cons s ss, rest)
+    grind (arith, length-data_of-cons s ss, offsets_from-below (n + length s + 1) ss (i - 1) d)
 offsets_from-below n [] = All-nil _
 
 pub offsets_from-above : (n : ℕ) (ss : List (List ℕ)) → All (λ p. n ≤ p) (offsets_from n ss)
