@@ -114,9 +114,8 @@ pub strings_push : (bytes s : List ℕ) → data_of (strings_in bytes) ≡ bytes
     × (data_of (strings_in (bytes ++ terminated s)) ≡ bytes ++ terminated s)
 strings_push bytes s ended free =
     let ss = strings_in bytes in
-    let whole = flat_map_more terminated [] ss s in
     let each = All-push IsZeroFree ss s (zero_free-strings_in bytes) free in
-    grind (arith, whole, strings_in-data_of (ss ++ s ∷ []) each)
+    grind (arith, flat_map_more terminated [] ss s, strings_in-data_of (ss ++ s ∷ []) each)
 
 -- where its strings begin
 grown_offsets : (bytes s : List ℕ) → data_of (strings_in bytes) ≡ bytes → IsZeroFree s
@@ -278,8 +277,7 @@ pub used_new : (bytes new s : List ℕ) (n : ℕ) → data_of (strings_in bytes)
     → IsPlaced (strings_in bytes) (strings_in new) s n
 used_new bytes new s n ended free is_new is_long absent =
     let ss = strings_in bytes in
-    let push = strings_push bytes s ended free in
-    grind (arith, has_Decides ss s, offset_of-absent ss s, push)
+    grind (arith, has_Decides ss s, offset_of-absent ss s, strings_push bytes s ended free)
 
 -- the place that a hash has among those of entries
 abbrev pub place_in : Entries → ℕ → Option ℕ
