@@ -90,10 +90,9 @@ pub insert_in_order : (R : ℕ → ℕ → Type 0) (xs : List ℕ) (r y : ℕ) �
     → ((k : ℕ) → k < r → R (get_or xs k 0) y) → ((k : ℕ) → r ≤ k → k < length xs
     → R y (get_or xs k 0)) → AllPairs R (insert xs r y)
 insert_in_order R xs r y apart fits before behind = λ i j d less within.
-    let lower = apart i j 0 in
     let across = apart i (j - 1) 0 in
     let upper = apart (i - 1) (j - 1) 0 in
-    grind (arith, inserted, get_or_default, lower, across, upper, before i, behind (j - 1))
+    grind (arith, inserted, get_or_default, apart i j 0, across, upper, before i, behind (j - 1))
 
 -- strings stay where they are when bytes come behind them
 agree_longer : (bytes rest positions : List ℕ) → data_of (strings_in bytes) ≡ bytes
@@ -309,8 +308,7 @@ module _ (e : Entries) (table : IsHashed e) where
       let ss = held e in
       let at = offset_of-at ss 0 there.0 [] p table.findable.indexed.distinct in
       let stands = stands_there (get_or ss there.0 []) in
-      let among = Contains-get_or ss there.0 [] in
-      grind (arith, there.2, length-offsets_from 0 ss, at, stands, among)
+      grind (arith, there.2, length-offsets_from 0 ss, at, stands, Contains-get_or ss there.0 [])
 
 module _ (e : Entries) (table : IsHashed e) (s : List ℕ) (h : ℕ) (is_hash : h ≡ hash s) where
   -- it is found
