@@ -84,12 +84,10 @@ module _ (ps : List (List ℕ)) (starts : List ℕ) (rank at start : ℕ)
       let low : start ≤ rank = grind (arith, piece.low) in
       let long : length (concat (take (at + 1) ps)) ≡ start + length (get_or ps at []) =
       grind (arith, common_steps, concat-append, take_more) in
-      let next = start_at 0 ps (at + 1) in
       let last : (rank < start + length (get_or ps at []))
       ⊎ (length (concat ps) ≡ start + length (get_or ps at [])) =
-      grind (arith, long, next, piece.high, length-starts_from, take_all) in
-      let around = concat_around ps at there in
-      grind (arith, last, around, get_or-append_right, get_or_append_left)
+      grind (arith, long, start_at 0 ps (at + 1), piece.high, length-starts_from, take_all) in
+      grind (arith, last, concat_around ps at there, get_or-append_right, get_or_append_left)
 
   -- the chunks once one stands there
   pub chunk_inserted : (qs : List (List ℕ)) (new : List ℕ) (count v : ℕ)
