@@ -77,8 +77,7 @@ module _ (slots : List Slot) (s : Slot) (k : ℕ) where
     put_from at zero low high used none = absurd (omega arith)
     put_from at (suc n) low high used none =
         let here = get_or-set_same slots k s free within in
-        let other = get_or-set_other slots k at s free in
-        grind (arith, put_from (at + 1) n, used at, here, other)
+        grind (arith, put_from (at + 1) n, used at, here, get_or-set_other slots k at s free)
 
     -- or where it has one, once that is another
     pub given_of : (size : ℕ) → IsSlotOf slots size s.hash k
