@@ -144,6 +144,7 @@ pub(crate) struct HashedPlaces {
     pub is_full: bool,
 }
 
+#[tactic(auto, using(crate::proofs::PlacesLemmas::slot_within))]
 impl HashedPlaces {
     /// No places, which take no memory.
     pub fn new(alloc: Global) -> Self {
