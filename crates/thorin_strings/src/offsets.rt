@@ -264,6 +264,7 @@ impl PackageStringTable {
 
     /// The offset of a string, which is read where it isn't remembered, and is to fit the format.
     #[inline(never)]
+    #[tactic(auto, using(crate::proofs::RemapLemmas::read_fitting, crate::proofs::RemapLemmas::read_large, std::proofs::lemmas::List::take_all))]
     pub(crate) fn fitting_offset(
         &mut self,
         repeats: &mut Repeats,
