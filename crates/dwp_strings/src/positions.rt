@@ -113,7 +113,7 @@ fn cut(
 }
 
 /// Makes room for a number at a rank, and gives the chunk in which it goes.
-#[tactic(auto, using(crate::proofs::ChunkLemmas::counts))]
+#[tactic(auto, using(crate::proofs::ChunkLemmas::counts, crate::proofs::ChunkLemmas::first_start))]
 fn room_at(
     alloc: Global,
     chunks: &mut Vec<Vec<u64>>,

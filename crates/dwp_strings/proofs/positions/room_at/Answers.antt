@@ -1,10 +1,7 @@
 use Rattle.dwp_strings.proofs.Terms.{arith, get_or_read, length, pieces, rules, ◌<◌, ◌∙◌}
-use Rattle.dwp_strings.proofs.ChunkLemmas.{IsInHalf, counts, first_start, halves_room, in_half}
+use Rattle.dwp_strings.proofs.ChunkLemmas.{IsInHalf, counts, halves_room, in_half}
 use Rattle.dwp_strings.proofs.positions.room_at.Goals.{In_ok-cut}
 use Rattle.dwp_strings.proofs.positions.room_at.Goals as goal
-
-pub chunk_of-at-requires-clause-first : goal.chunk_of-at-requires-clause-first
-chunk_of-at-requires-clause-first c = grind (arith, first_start)
 
 there : (c : goal.In_ok-cut) → c.chunk_of-at.result < length (pieces c.args.chunks.now.items)
 there c = grind (arith, counts)
