@@ -14,8 +14,8 @@ use Rattle.std.proofs.lemmas.Map.Made.{length-le_from_is_member}
 use Rattle.std.specs.declared.alloc.AllocError.{AllocError}
 use Rattle.dwp_strings.proofs.Terms
 use Terms.{All, All-contains, All-permutation, AllPairs, BeginsAt, Bool, Contains, Decides-eqb, Err}
-use Terms.{IfErr, IsBefore, IsFindable, IsHashed, IsIndexed, IsOrdered, IsPermutation-insert}
-use Terms.{IsPlaced, IsTable, IsZeroFree, List, None, Ok, OnErr, OnOk, Option, Result, Slot, Some}
+use Terms.{IsBefore, IsFindable, IsHashed, IsIndexed, IsOrdered, IsPermutation-insert, IsPlaced}
+use Terms.{IsTable, IsZeroFree, List, None, Ok, OnErr, OnOk, Option, Result, Slot, Some}
 use Terms.{StandsAt, [], ap, append-nil, arith, by-bool, cases_eq, cases_lt, common_steps}
 use Terms.{cond-true, data_of, drop, eqb, false, filter, get_or, get_or-map, get_or-take}
 use Terms.{get_or_default, held, insert, length, length-append, length-take, lt-ltb, ltb, ltb-true}
@@ -250,13 +250,6 @@ pub offset_there : (bytes : List ℕ) (at : ℕ) → BeginsAt bytes at
     → Contains (offsets_from 0 (strings_in bytes)) at
 offset_there bytes at begins = grind (arith, offset_from 0 bytes at begins)
 
--- of the string that begins there
-pub known_place_in : (bytes s : List ℕ) (at : ℕ) → data_of (strings_in bytes) ≡ bytes
-    → AllPairs (λ s t. s ≢ t) (strings_in bytes) → BeginsAt bytes at → string_from bytes at ≡ s
-    → Contains (strings_in bytes) s × (at ≡ offset_of (strings_in bytes) s)
-known_place_in bytes s at ended distinct begins is = known_offset_in bytes s at ended distinct
-    (offset_there bytes at begins) is
-
 -- a string that is there
 pub used_found : (ss : List (List ℕ)) (s : List ℕ) (p : ℕ) → Contains ss s → p ≡ offset_of ss s
     → IsPlaced ss ss s p
@@ -267,7 +260,8 @@ pub used_there : (bytes positions s : List ℕ) (at : ℕ) → IsIndexed bytes p
     → BeginsAt bytes at × (string_from bytes at ≡ s)
     → IsPlaced (strings_in bytes) (strings_in bytes) s at
 used_there bytes positions s at table here =
-    let known = known_place_in bytes s at table.ended table.distinct here.0 here.1 in
+    let begins = offset_there bytes at here.0 in
+    let known = known_offset_in bytes s at table.ended table.distinct begins here.1 in
     used_found (strings_in bytes) s at known.0 known.1
 
 -- a new one, which went last
@@ -420,12 +414,6 @@ added e new s h n table free is_hash absent is_new is_long is_count indexed more
       placed = used_new e.bytes new.bytes s n ended free is_new is_long absent;
       kept = grind (arith, push, take_at);
     }
-
--- what a search that found no string says
-pub absent_there : (bytes now ordered s : List ℕ) (r : ℕ) (answer : Result ℕ ℕ) → now ≡ bytes
-    → answer ≡ Err r → IfErr answer (StandsAt now ordered s) → StandsAt bytes ordered s r
-absent_there bytes now ordered s r answer same is_err absent =
-    rw (is_err, same) at absent
 
 -- what is in a list is so when one more goes in
 pub among_more : (xs : List ℕ) (r y p : ℕ) → Contains xs p → Contains (insert xs r y) p
