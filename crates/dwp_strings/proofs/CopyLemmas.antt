@@ -30,13 +30,7 @@ module _ (bytes room : List ℕ) (at n : ℕ) (within : at + n ≤ length bytes)
       let long = length-chunk at n bytes within in
       grind (arith, below, above, stored_there k, long, cases_lt k at, cases_lt k (at + n))
 
--- room of a list, once it is written to
-pub room_long : (items room : List ℕ) (used k : ℕ) → used ≤ length items
-    → length room ≡ length items - used → k ≡ length items - used
-    → length (take used items ++ (room ++ drop k (drop used items))) ≡ length items
-room_long items room used k within long is =
-    grind (arith, length-append, length-take-le, length-drop)
-
+-- room of a list, once it is written to:
 -- what stands in it is behind what is used
 pub in_room : {Z : Type 0} (v : Vec ℕ Z) (items room : List ℕ) (used k n : ℕ)
     → length items ≡ v.len → used ≤ length items → length room ≡ length items - used
@@ -47,7 +41,7 @@ in_room v items room used k n whole within long is fits =
     let front = take used items in
     let behind = drop k (drop used items) in
     ap (take (used + n)) (with_items_is v (front ++ (room ++ behind))
-    (room_long items room used k within long is ∙ whole))
+    (grind (arith, length-append, length-take-le, length-drop)))
     ∙ ap (λ u. take (u + n) (front ++ (room ++ behind))) (sym (length-take-le used items within))
     ∙ take-append-add front (room ++ behind) n
     ∙ ap (λ l. front ++ l) (take-append-le n room behind fits)
