@@ -82,10 +82,6 @@ map-string_from front (s ∷ ss) rest n long free =
     let others = map-string_from (front ++ terminated s) ss rest (n + length s + 1) in
     grind (arith, append_assoc, length-append, first, others, All-tail IsZeroFree s ss free)
 
-pub AllPairs-rest : {X : Type 0} (R : X → X → Type 0) (x : X) (xs : List X)
-    → AllPairs R (x ∷ xs) → AllPairs R xs
-AllPairs-rest R x xs h = λ i j d less within. h (suc i) (suc j) d (omega arith) (omega arith)
-
 pub length-offsets_from : (n : ℕ) (ss : List (List ℕ)) → length (offsets_from n ss) ≡ length ss
 length-offsets_from n [] = refl
 length-offsets_from n (s ∷ ss) = ap suc (length-offsets_from (n + length s + 1) ss)
@@ -96,7 +92,8 @@ pub offset_of-at : (ss : List (List ℕ)) (n i : ℕ) (d : List ℕ) (e : ℕ) �
 offset_of-at [] n i d e apart within = absurd (omega arith)
 offset_of-at (t ∷ ss) n zero d e apart within = grind (arith, bytes_eq-Decides t t)
 offset_of-at (t ∷ ss) n (suc i) d e apart within =
-    let rest = offset_of-at ss (n + length t + 1) i d e (AllPairs-rest (λ s t. s ≢ t) t ss apart) in
+    let rest = offset_of-at ss (n + length t + 1) i d e
+    (λ j k f less below. apart (suc j) (suc k) f (omega arith) (omega arith)) in
     grind (arith, rest, bytes_eq-Decides t (get_or ss i d), apart 0 (suc i) d)
 
 -- whether a string is there
