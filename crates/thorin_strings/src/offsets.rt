@@ -101,9 +101,8 @@ pub(crate) fn dwarf32(encoding: Encoding) -> Encoding
     ensures { result ≡ encoding }
 {
     Encoding {
-        version: encoding.version,
         format: Format::Dwarf32,
-        address_size: encoding.address_size,
+        ..encoding
     }
 }
 
