@@ -119,12 +119,9 @@ impl PackageStringTable {
             old self.new out.new }
         ensures kept { take (length self.old) self.new ≡ self.old }
     {
-        let StringOffsets {
-            strings,
-            offsets,
-            encoding,
-            ..
-        } = *range;
+        let strings = range.strings;
+        let offsets = range.offsets;
+        let encoding = range.encoding;
         let first = encoding.string_offsets_header_size();
         let last = (out.len() - first) / 4 - 1;
         if from < tried_from || (strings.len() as u64) < SHORT {
