@@ -188,11 +188,8 @@ impl PackageStringTable {
         ensures kept { take (length self.old) self.new ≡ self.old }
         ensures known { AreKnown range.now.strings.now self.new repeats.new }
     {
-        let StringOffsets {
-            order,
-            encoding,
-            ..
-        } = *range;
+        let order = range.order;
+        let encoding = range.encoding;
         if section_size == 0 {
             return Ok(Vec::new(self.alloc));
         }
