@@ -1,4 +1,4 @@
-use Rattle.thorin_strings.proofs.Terms.{Little, arith, ◌∙◌}
+use Rattle.thorin_strings.proofs.Terms.{Little, arith}
 use Rattle.thorin_strings.proofs.RemapLemmas.{entry_read, kept_more, one_written}
 use Rattle.thorin_strings.proofs.table.PackageStringTable.write_told.Goals as goal
 
@@ -6,7 +6,6 @@ pub loop-index-preserved : goal.loop-index-preserved
 loop-index-preserved c = record {
   further = omega (arith, c.loop-index.invariant.further);
   within = omega arith;
-  long = c.write_word.ensures.long ∙ c.loop-index.invariant.long;
   read = c.word_at-after.ensures;
   told = λ old front so_far. one_written c.args.range.now.encoding c.requires.form
       c.args.range.now.strings.now c.args.range.now.offsets.now _ c.loop-index.index _
