@@ -1,6 +1,6 @@
 -- The strings of a table: some positions of them, in their order; places at which they begin, and
 -- strings that are used. Strings of entries, found by their hashes, or else by their order.
-use Rattle.std.proofs.lemmas.List.{flat_map_more, length-map, map-append, nil_from_length, take-map}
+use Rattle.std.proofs.lemmas.List.{flat_map_more, length-map, map-append, take-map}
 use Rattle.std.proofs.lemmas.List.Concat.{flat_map-append}
 use Rattle.std.proofs.lemmas.List.Edits.{get_or-insert_above, get_or-insert_at, get_or-insert_below}
 use Rattle.std.proofs.lemmas.List.Edits.{length-insert}
@@ -218,18 +218,6 @@ indexed_take bytes positions n m table long =
 pub strings_few : (ss : List (List ℕ)) → length ss ≤ length (data_of ss)
 strings_few [] = omega arith
 strings_few (s ∷ ss) = omega (arith, strings_few ss, length-data_of-cons s ss)
-
--- nothing came after a mark of so many bytes
-pub nothing_after : (bytes : List ℕ) (strings : List (List ℕ)) (n m : ℕ)
-    → data_of (strings_in bytes) ≡ bytes → strings_in bytes ≡ strings
-    → m ≡ length (data_of (take n strings)) → length bytes ≤ m → strings ≡ take n strings
-nothing_after bytes strings n m ended is_strings is_mark long =
-    let back = drop n strings in
-    let parts = take-append-drop n strings in
-    let whole = flat_map-append terminated (take n strings) back in
-    let none : length back ≡ 0 =
-    grind (arith, strings_few back, parts, whole, ended, length-append) in
-    grind (arith, parts, nil_from_length back none, append-nil)
 
 offset_from : (n : ℕ) (bytes : List ℕ) (at : ℕ) → BeginsAt bytes at
     → Contains (offsets_from n (strings_in bytes)) (n + at)
