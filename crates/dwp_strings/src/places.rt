@@ -71,7 +71,6 @@ fn put_next(slots: &mut [Slot], number: usize, slot: Slot) -> bool
     ensures kept { (size h n : ℕ) → place_of slots.old size h ≡ Some n
         → place_of slots.new size h ≡ Some n }
     ensures same { result ≡ false → slots.new ≡ slots.old }
-    ensures long { length slots.new ≡ length slots.old }
 {
     if number >= slots.len() {
         return false;
@@ -87,7 +86,6 @@ fn put(slots: &mut [Slot], size: u32, slot: Slot) -> bool
         → place_of slots.new size slot.hash ≡ Some n }
     ensures kept { (h n : ℕ) → place_of slots.old size h ≡ Some n
         → place_of slots.new size h ≡ Some n }
-    ensures long { length slots.new ≡ length slots.old }
 {
     match find(slots, size, slot.hash) {
         Ok(_) => false,
@@ -99,7 +97,6 @@ fn put(slots: &mut [Slot], size: u32, slot: Slot) -> bool
 fn put_again(slots: &mut [Slot], size: u32, others: &[Slot]) -> Option<usize>
     ensures kept { IfSome result (λ _. (other h n : ℕ) → place_of others.now other h ≡ Some n
         → place_of slots.new size h ≡ Some n) }
-    ensures long { length slots.new ≡ length slots.old }
 {
     let mut used: usize = 0;
     for number in 0..others.len() {
