@@ -216,9 +216,8 @@ impl HashedPlaces {
         false
     }
 
-    /// Enters the place of a hash that has none, by the slot that is next for it; false where that
-    /// can't be, and then no more are entered. At most five of eight slots are used, and where none
-    /// is free for a hash there are made more, if a quarter is used.
+    /// Enters the place of a hash that has none, by the slot that is next for it, or among more
+    /// slots; false where that can't be, and then no more are entered.
     pub fn enter(&mut self, hash: u32, next: usize, place: usize) -> bool
         requires open { self.old.is_full ≡ false }
         requires none { place_of self.old.slots.items self.old.size hash ≡ None }
