@@ -20,7 +20,7 @@ use Rattle.thorin.specs.Run.{Ran, Took}
 use Rattle.thorin.proofs.Running.{join-append}
 use Rattle.thorin_commands.specs.Archives.{AreTakenFor, StandsFor, is_archive}
 use Rattle.thorin_commands.specs.Opened.{AreAllAccepted, TookAll, TookInputs, TookNone, TookNext}
-use Rattle.thorin_commands.specs.Opened.{TookEach, TookMembers, TookBytes, accepted_in, added_in}
+use Rattle.thorin_commands.specs.Opened.{TookEach, TookMembers, accepted_in, added_in}
 use Rattle.thorin_commands.specs.Opened.{unit_count}
 use Rattle.thorin_commands.specs.Taken.{IsTakenFor, Manner, Offer}
 
@@ -71,19 +71,20 @@ module _ {opens : Bool} {manner : Manner} {offer : Offer} where
   }
 
   -- the object at a path, by its bytes
-  pub took_object : {path : Path} {bytes : List ℕ} {old new : State} → opens ≡ true
-      → offer (path_bytes path) (Ok bytes) → is_archive bytes ≡ false
-      → TookBytes offer bytes old new → TookAll opens manner offer (inputs.Object path) old new
-  took_object {old = old} {new = new} opened offered none by = record {
-    list = inputs.Bytes by.bytes ∷ [];
+  pub took_object : {path : Path} {bytes : Bor (List ℕ)} {old new : State} → opens ≡ true
+      → offer (path_bytes path) (Ok bytes.now) → is_archive bytes.now ≡ false
+      → Took offer (inputs.Bytes bytes) old (Ok tt) new
+      → TookAll opens manner offer (inputs.Object path) old new
+  took_object {bytes = bytes} {old = old} {new = new} opened offered none took = record {
+    list = inputs.Bytes bytes ∷ [];
     stands = rw opened (inl (record {
-      file = by.bytes;
-      offered = rw by.is offered;
-      begins = rw by.is none;
+      file = bytes;
+      offered = offered;
+      begins = none;
       list_is = refl;
     }));
-    accepted = by.took.accepted;
-    ran = ran_one offer (inputs.Bytes by.bytes) old new by.took;
+    accepted = took.accepted;
+    ran = ran_one offer (inputs.Bytes bytes) old new took;
   }
 
   -- the archive at a path
@@ -137,23 +138,17 @@ module _ {manner : Manner} {offer : Offer} where
   each_none = record { list = []; taken = tt; accepted = []; ran = (refl, refl) }
 
   -- what is taken for one content
-  pub each_one : {content taken : List ℕ} {old new : State}
-      → IsTakenFor manner content taken → TookBytes offer taken old new
-      → TookEach manner offer (content ∷ []) old new
-  each_one {old = old} {new = new} is by = record {
-    list = inputs.Bytes by.bytes ∷ [];
-    taken = (rw by.is is, tt);
-    accepted = by.took.accepted;
-    ran = ran_one offer (inputs.Bytes by.bytes) old new by.took;
-  }
-
   pub content_took : {content : List ℕ} {bytes : Bor (List ℕ)} {old new : State}
       → IsTakenFor manner content bytes.now
       → (r : Result (Unit {0}) (NotTaken Error Growth))
       → Took offer (inputs.Bytes bytes) old (outcome_of r) new
       → OnOk r (TookEach manner offer (content ∷ []) old new)
-  content_took {bytes = bytes} is (Ok tt) took =
-      each_one is (record { bytes = bytes; is = refl; took = took })
+  content_took {bytes = bytes} {old = old} {new = new} is (Ok tt) took = record {
+    list = inputs.Bytes bytes ∷ [];
+    taken = (is, tt);
+    accepted = took.accepted;
+    ran = ran_one offer (inputs.Bytes bytes) old new took;
+  }
   content_took is (Err why) took = tt
 
   -- what is taken for contents, and for more behind them
