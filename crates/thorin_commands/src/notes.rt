@@ -158,36 +158,28 @@ impl Notes {
     /// Keeps the object of a unit that an executable names, once it was taken or passed over, and
     /// the unit where it isn't there.
     pub(crate) fn after_unit(&self, unit: DwarfObject, is_there: bool, now: Holding<'_>) {
-        let object = self.named.replace(None);
+        let (path, unread) = match self.named.replace(None) {
+            Some(NamedObject { path, unread }) => (Some(path), unread),
+            None => (None, None),
+        };
         let Some(executable) = self.own.replace(None) else {
             return;
         };
-        if let Some(object) = &object {
-            let taken = Origin::Named(executable.as_str(), object.path.as_str());
-            self.keep_taken(taken, now);
+        if let Some(path) = &path {
+            self.keep_taken(Origin::Named(executable.as_str(), path.as_str()), now);
         }
         match unit {
             DwarfObject::Compilation(unit) if !is_there => {
-                self.keep_absent(unit, executable.as_str(), object);
+                let mut absent = self.absent_units();
+                let _ = absent.add(unit.0, executable.as_str(), path, unread);
+                self.absent.set(absent);
             }
             _ => {}
         }
         self.own.set(Some(executable));
     }
 
-    /// Keeps a unit that isn't there once its object was taken, or passed over.
-    fn keep_absent(&self, unit: DwoId, executable: &str, object: Option<NamedObject>) {
-        let (path, unread) = match object {
-            Some(NamedObject { path, unread }) => (Some(path), unread),
-            None => (None, None),
-        };
-        let mut absent = self.absent_units();
-        let _ = absent.add(unit.0, executable, path, unread);
-        self.absent.set(absent);
-    }
-
-    /// The units that executables name and that weren't there once their objects were taken. Asked
-    /// for once.
+    /// The units that weren't there once their objects were taken. Asked for once.
     pub(crate) fn absent_units(&self) -> AbsentUnits {
         self.absent.replace(AbsentUnits::new(self.alloc))
     }
