@@ -18,7 +18,7 @@ use crate::reading::Inputs;
 use dwp_bytes::RelocationEntry;
 use std::alloc::{AllocError, Global};
 use std::io::Write;
-use std::path::{AsPath, Path};
+use std::path::AsPath;
 use thorin::{DwarfPackage, Input, NotTaken};
 use thorin_errors::Error;
 use thorin_inputs::{
@@ -94,19 +94,6 @@ pub(crate) fn lack_of<I: Inputs>(inputs: &I, input: Input<'_>, room: &[u8], adde
     }
 }
 
-/// Why a regular file that was taken for an executable added no unit: it is read again for that.
-fn lack_at<I: Inputs>(alloc: Global, inputs: &I, input: Input<'_>, path: Path<'_>) -> Lack {
-    if !inputs.is_regular(path.path_text()) {
-        return Lack::Unknown;
-    }
-    let mut room = Vec::new(alloc);
-    inputs.begin(input);
-    match inputs.read_into(true, path, &mut room) {
-        Ok(bytes) => Lack::of(bytes, true),
-        Err(_) => Lack::Unknown,
-    }
-}
-
 /// Warns of each object whose type units were passed over. Where the package has no units and
 /// nothing is missing, of each other input too: none of them has split units. Where something is
 /// missing, of objects alone: some executable has split units.
@@ -164,10 +151,18 @@ fn warn_for<I: Inputs, E: LineOutput>(
         _ => {}
     }
     let name = shown(alloc, path.path_text())?;
-    let lack = if is_executable {
-        lack_at(alloc, inputs, input, path)
-    } else {
+    let mut room = Vec::new(alloc);
+    let lack = if !is_executable {
         lack
+    } else if inputs.is_regular(path.path_text()) {
+        // A regular file that was taken for an executable is read again for that.
+        inputs.begin(input);
+        match inputs.read_into(true, path, &mut room) {
+            Ok(bytes) => Lack::of(bytes, true),
+            Err(_) => Lack::Unknown,
+        }
+    } else {
+        Lack::Unknown
     };
     let why = format!(in alloc; "{lack}")?;
     let line = format!(in alloc; "warning: {name}: no split units{why}\n")?;
