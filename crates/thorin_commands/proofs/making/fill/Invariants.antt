@@ -1,6 +1,6 @@
 use Rattle.std.proofs.Common.{take}
 use Rattle.thorin_commands.specs.Made.{TookTelling}
-use Rattle.thorin_commands.proofs.making.take_all.Given as goal
+use Rattle.thorin_commands.proofs.making.fill.Given as goal
 
 -- the inputs so far were taken and told
 abbrev pub invariant-loop-input : goal.invariant-loop-input
