@@ -248,27 +248,6 @@ fn packed<F: FileSystem, E: LineOutput>(
 {
     let list = inputs_of(alloc, packing)?;
     let inputs = InputFiles::new(alloc, files, packing)?;
-    packed_by(alloc, &inputs, packing, list.as_slice(), err)
-}
-
-/// What `packed` gives, by these inputs, of the list of what is asked for.
-#[tactic(auto, using(crate::proofs::Causes::told_for, crate::proofs::Causes::empty_for))]
-fn packed_by<I: Inputs, E: LineOutput>(
-    alloc: Global,
-    inputs: &I,
-    packing: &Packing<'_, '_>,
-    list: &[Input<'_>],
-    err: &mut E,
-) -> Result<(WritableObject, Vec<DebugTypeSignature>, String), NoPackage>
-    requires asked { map asked list.now ≡ asks packing.now }
-    requires opens { I.opens inputs.now ≡ packing.now.opens_archives }
-    requires manner { I.manner inputs.now ≡ manner_of packing.now }
-    requires warns { I.warns_of_macros inputs.now ≡ packing.now.warns_of_macros }
-    ensures ready { IfOk result (λ made. IsReady (I.offer inputs.now) packing.now
-        (E.contents err.old) (E.contents err.new) made.0 made.1.items (string_bytes made.2)) }
-    ensures told { IfErr result (Refuses E.contents E.failed err.new (IsCauseFor
-        (I.offer inputs.now) (I.declines inputs.now) packing.now)) }
-{
     let options = ReportOptions {
         alloc,
         verbose: packing.verbose,
@@ -276,13 +255,13 @@ fn packed_by<I: Inputs, E: LineOutput>(
         partial: packing.partial,
         names: packing.tells_differences(),
     };
-    match packed_inputs(inputs, list, options, err) {
+    match packed_inputs(&inputs, list.as_slice(), options, err) {
         Ok((object, differing, named)) => {
             let mut lines = inputs.macro_warnings();
             lines.push_str(named.as_str())?;
             Ok((object, differing, lines))
         }
-        Err(NoPackage::Empty) if packing.lets_empty => packed_unsplit(alloc, inputs, packing, err),
+        Err(NoPackage::Empty) if packing.lets_empty => packed_unsplit(alloc, &inputs, packing, err),
         Err(refusal) => Err(refusal),
     }
 }
