@@ -1,4 +1,4 @@
-use Rattle.std.proofs.Common.{◌≡◌, arith, inr, rules}
+use Rattle.std.proofs.Common.{◌≡◌, inr, rules}
 use Rattle.std.specs.Prelude.{Some}
 use Rattle.thorin_commands.specs.Packing.{out_of}
 use Rattle.thorin_commands.proofs.Made.{packs_telling}
@@ -64,22 +64,3 @@ returns-then-overwrites-clause-why g c = (
     leads = c.overwrites.ensures.leads (search (rules, c.if-overwrites));
   },
 )
-
-pub returns-in-Ok-write_then_warn-clause-refused :
-    goal.returns-in-Ok-write_then_warn-clause-refused
-returns-in-Ok-write_then_warn-clause-refused g c = λ e. absurd cc
-
-pub returns-in-Ok-write_then_warn-clause-told : goal.returns-in-Ok-write_then_warn-clause-told
-returns-in-Ok-write_then_warn-clause-told g c = λ e. absurd cc
-
-pub returns-in-Ok-write_then_warn-clause-why : goal.returns-in-Ok-write_then_warn-clause-why
-returns-in-Ok-write_then_warn-clause-why g c = tt
-
-pub returns-in-Err-Told-clause-packed : goal.returns-in-Err-Told-clause-packed
-returns-in-Err-Told-clause-packed g c = λ e. absurd cc
-
-pub returns-in-Err-Told-clause-warned : goal.returns-in-Err-Told-clause-warned
-returns-in-Err-Told-clause-warned g c = λ e. absurd cc
-
-pub returns-in-Err-Told-clause-status : goal.returns-in-Err-Told-clause-status
-returns-in-Err-Told-clause-status g c = omega arith
