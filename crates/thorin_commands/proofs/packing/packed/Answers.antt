@@ -1,9 +1,10 @@
 use Rattle.std.proofs.Common.{◌≡◌, true, inl, map, refl, rules, string_bytes}
 use Rattle.std.proofs.Common.{[]}
+use Rattle.std.proofs.lemmas.Result.{IfOk-weaker}
 use Rattle.thorin_commands.specs.Packing.{asked, asks, declines, manner_of, reads}
 use Rattle.thorin_commands.specs.Warned.{TellsInputs}
 use Rattle.thorin_commands.proofs.Causes.{empty_for}
-use Rattle.thorin_commands.proofs.Made.{if_ok_as, made_for, made_ready, made_twice}
+use Rattle.thorin_commands.proofs.Made.{made_for, made_ready, made_twice}
 use Rattle.thorin_commands.proofs.Warned.{no_macros}
 use Rattle.thorin_commands.proofs.packing.packed.Goals as goal
 
@@ -40,7 +41,7 @@ returns-in-Err-Empty-clause-ready g c =
     let are : map asked c.as_slice.result.now ≡ asks packing =
     rw c.as_slice.ensures.value c.in_ok-list.ensures in
     let lets : packing.lets_empty ≡ true = search rules in
-    if_ok_as c.packed_unsplit.result (λ made it.
+    IfOk-weaker c.packed_unsplit.result _ _ (λ made it.
     made_ready packing (string_bytes made.2) [] (string_bytes made.2)
     (no_macros packing.warns_of_macros) refl
     (made_twice packing c.as_slice.result.now _ _ _ refl refl lets are ((rw (
