@@ -218,14 +218,7 @@ module _ {W : Type 0} (contents : W → Option (List ℕ)) (failed : W → Type 
     (offer : Offer) (declines : Reasons) (packing : Packing) where
   module _ (opens : Bool) (manner : Manner) (list : List Input)
       (o : opens ≡ packing.opens_archives) (m : manner ≡ manner_of packing) where
-    -- of those that were asked for; and where none of them began a package
-    pub told_for : map asked list ≡ asks packing → (refusal : NoPackage)
-        → Refuses contents failed writer
-        (IsCauseOf packing.partial opens manner offer declines list) refusal
-        → Refuses contents failed writer (IsCauseFor offer declines packing) refusal
-    told_for are refusal t = refuses_by contents failed writer
-        (cause_for offer declines packing opens manner list o m (inl are)) refusal t
-
+    -- of those that were asked for, where none of them began a package
     pub empty_for : map asked list ≡ asks packing
         → IsCauseOf packing.partial opens manner offer declines list
         (Unfinished NoOutputObjectCreated)
