@@ -58,10 +58,8 @@ fn main(rt: HostRuntime) -> ExitCode {
 }
 
 /// The words of the command line, the program's name among them. Each is read into `word`, which
-/// keeps the first that isn't UTF-8; empty where that is longer than a word can be.
-///
-/// # Errors
-/// `InvalidData` where there is such a word, want of memory by its kind.
+/// keeps the first that isn't UTF-8, which is `InvalidData`; empty where that is longer than a word
+/// can be.
 fn words_of(rt: &HostRuntime, word: &mut Vec<u8>) -> io::Result<Vec<String>> {
     let mut words = Vec::new(rt.alloc());
     word.resize(MOST_BYTES, 0)?;

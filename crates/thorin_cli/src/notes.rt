@@ -44,8 +44,7 @@ impl<'a> Lookup<'a> {
     }
 }
 
-/// Prints the note on a failure of a command that reads: which of the files it is about, or the
-/// word.
+/// Prints the note on a failure of a command that reads: the file or the word that it is about.
 #[tactic(auto, using(thorin_print::proofs::Printed::none_grown))]
 pub(crate) fn note_reading<R: NotedReader, E: Write>(
     alloc: Global,
@@ -115,8 +114,7 @@ fn object_note(kind: FileKind) -> &'static str {
     }
 }
 
-/// Prints the note on a failure of packing that is about the package's file, and why that couldn't
-/// be written.
+/// Prints the note on the package's file, where packing failed for that, and why, if it is known.
 #[tactic(auto, using(thorin_print::proofs::Printed::none_grown))]
 pub(crate) fn note_packing<E: Write>(
     alloc: Global,
@@ -188,8 +186,7 @@ fn machine_name(machine: u16) -> &'static str {
     }
 }
 
-/// Prints the note on a file that was listed and is an object; on a terminal also on another without
-/// an index.
+/// Prints the note on a listed file that is an object; on a terminal also on one without an index.
 #[tactic(auto, using(thorin_print::proofs::Printed::none_grown))]
 pub(crate) fn note_listed<E: Write>(
     alloc: Global,

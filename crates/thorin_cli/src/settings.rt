@@ -58,8 +58,7 @@ fn macros_of(arguments: PackArguments<'_, '_>, manner: ProgramManner) -> KeptMac
     }
 }
 
-/// Whether an object is warned of that has several sections of macros: all count, and warnings are
-/// printed.
+/// Whether objects with several sections of macros are warned of: where all of these count.
 fn warns(macros: KeptMacros, warnings: Warnings) -> bool
     ensures { result ≡ spec.warns macros warnings }
 {

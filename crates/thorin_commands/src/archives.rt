@@ -110,8 +110,7 @@ struct OpenedFile<'f> {
     options: ReportOptions,
 }
 
-/// Takes the members of an archive that have split units, in order, and tells what came of it where
-/// that is asked for.
+/// Takes the members of an archive that have split units, in order, and tells what came of it.
 #[tactic(auto, using(crate::proofs::Causes::stops_by))]
 fn take_members<'o, 's: 'o, Sess: Session<RelocationEntry>, I: Inputs, E: LineOutput>(
     inputs: &I,

@@ -40,8 +40,7 @@ use thorin_inputs::Growth;
 use thorin_print::{Failure, LineOutput};
 use thorin_sessions::Session;
 
-/// The object to be written for these inputs, the signatures of type units that differ, and their
-/// lines.
+/// The object to be written for these inputs, the type units that differ, and their lines.
 pub(crate) fn packed_inputs<I: Inputs, E: LineOutput>(
     inputs: &I,
     list: &[Input<'_>],
@@ -110,8 +109,7 @@ fn fill<'o, 's: 'o, Sess: Session<RelocationEntry>, I: Inputs, E: LineOutput>(
     Ok(lines)
 }
 
-/// Takes an input, or where it is an archive that is to be opened the members of it, and tells what
-/// came of it.
+/// Takes an input, or the members of an archive that is to be opened, and tells what came of it.
 fn take<'o, 's: 'o, Sess: Session<RelocationEntry>, I: Inputs, E: LineOutput>(
     inputs: &I,
     builder: &mut DwarfPackage<'o, 's, Sess>,
@@ -232,10 +230,7 @@ fn finished<'o, 's: 'o, Sess: Session<RelocationEntry>, I: Inputs, E: LineOutput
     Err(NoPackage::Told)
 }
 
-/// Tests the size of an object's file.
-///
-/// # Errors
-/// `ObjectWrite` where it has a number that is too large.
+/// Tests whether the numbers of an object's file fit.
 #[tactic(auto, using(crate::proofs::Readable::readable))]
 fn can_be_written(object: &WritableObject) -> Result<(), Error>
     ensures whole { OnOk result ((units : Members) → IsPackageOnceWritten units object.now

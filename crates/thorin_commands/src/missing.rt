@@ -26,8 +26,7 @@ use thorin_output::FileSystem;
 use thorin_print::{Failure, LineOutput, buffer, flush, shown};
 use thorin_sessions::Session;
 
-/// Where that is asked for, warns of each unit that an executable names and the package lacks, and
-/// leaves it out.
+/// Where that is asked for, warns of each unit that the package lacks, and leaves it out.
 #[tactic(auto, using(crate::proofs::Warned::none_left))]
 pub(crate) fn leave_out<'o, 's: 'o, Sess: Session<RelocationEntry>, I: Inputs, E: LineOutput>(
     inputs: &I,

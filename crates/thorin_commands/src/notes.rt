@@ -23,8 +23,7 @@ use thorin_inputs::{
 };
 use thorin_sessions::Session;
 
-/// How many bytes of names of types and inputs are kept, and how many are printed. Behind them the
-/// signature alone is told.
+/// How many bytes of names are kept, and are printed. Behind them the signature alone is told.
 const MOST: usize = 1 << 24;
 
 /// What was taken, by its path.
@@ -120,8 +119,7 @@ impl Notes {
     }
 
     /// Looks at a file of the input, at a member of it or at an object that it names by a path: at
-    /// the names of its types and its encoding, and for several sections of macros, where these are
-    /// asked for.
+    /// its encoding, and where these are asked for at the names of its types and its macros.
     pub(crate) fn inspect(
         &self,
         file: &[u8],
@@ -146,8 +144,7 @@ impl Notes {
         looked
     }
 
-    /// Keeps an object that an executable names, and why it can't be read, if it can't. Where there
-    /// is no memory for its path, notes do without.
+    /// Keeps an object that an executable names, if there is memory, and why it can't be read.
     pub(crate) fn keep_named(&self, path: Result<String, AllocError>, unread: Option<String>) {
         self.named.set(match path {
             Ok(path) => Some(NamedObject { path, unread }),
@@ -219,9 +216,6 @@ impl Notes {
 
     /// Adds words and what brought the unit at a place to a line, where that is known: the first
     /// behind which the package has more units than stand before it. Their numbers grow.
-    ///
-    /// # Errors
-    /// Want of memory.
     pub(crate) fn put_origin(
         &self,
         words: &str,
@@ -240,11 +234,7 @@ impl Notes {
         put
     }
 
-    /// What is known of a type unit that differs, by its number among them, and by the place of the
-    /// one kept among the package's units.
-    ///
-    /// # Errors
-    /// Want of memory.
+    /// What is known of a type unit that differs, by its number, and by the place of the one kept.
     fn difference(&self, number: usize, kept: Option<usize>) -> Result<String, AllocError> {
         let mut line = String::new(self.alloc);
         let Some(differing) = self.differing.replace(None) else {
@@ -334,8 +324,7 @@ pub(crate) fn place_of_refused<'o, 's: 'o, Sess: Session<RelocationEntry>>(
     }
 }
 
-/// The lines of all type units that differ, which are printed once the package is written, where
-/// that is asked for.
+/// The lines of all type units that differ, to be printed behind the package, if asked for.
 #[tactic(auto, using(crate::proofs::Warned::without_names))]
 pub(crate) fn lines_of_differing<'o, 's: 'o, Sess: Session<RelocationEntry>, I: Inputs>(
     inputs: &I,

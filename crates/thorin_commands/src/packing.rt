@@ -87,8 +87,7 @@ impl Packing<'_, '_> {
         Ok(name?)
     }
 
-    /// Whether each type unit that differs is told of with the inputs that brought it and the one
-    /// kept.
+    /// Whether each type unit that differs is told of with the inputs of it and of the one kept.
     pub(crate) fn tells_differences(&self) -> bool
         ensures { result ≡ names self.now.verbose self.now.warnings }
     {
@@ -231,9 +230,8 @@ pub fn pack<F: FileSystem, O: Write, E: LineOutput>(
     }
 }
 
-/// The object to be written for what is asked for, the signatures of type units that were passed
-/// over and differ from the ones kept, and lines: the warnings of sections of macros, and those of
-/// these type units by name.
+/// The object to be written for what is asked for, the type units that differ from the ones kept,
+/// and lines: the warnings of sections of macros, and those of these type units by name.
 fn packed<F: FileSystem, E: LineOutput>(
     alloc: Global,
     files: &F,
@@ -266,8 +264,7 @@ fn packed<F: FileSystem, E: LineOutput>(
     }
 }
 
-/// The object to be written where nothing is split: an executable is taken as an object too, which
-/// has nothing to be packed.
+/// The object to be written where nothing is split: an executable is taken as an object too.
 #[tactic(auto, using(crate::proofs::Whys::uncounted))]
 fn packed_unsplit<I: Inputs, E: LineOutput>(
     alloc: Global,

@@ -63,8 +63,7 @@ pub(crate) trait Inputs: InputReader<Refusal = Growth> {
     /// Whether there is a regular file at a path.
     fn is_regular(&self, path: &str) -> bool;
 
-    /// How many units the file at a path has, which is read for that; none where it is no regular
-    /// file.
+    /// How many units the file at a path has, which is read for that, if it is a regular file.
     ///
     /// # Errors
     /// `Input` where the read fails, `Memory`.
@@ -86,8 +85,7 @@ pub(crate) struct InputFiles<'f, F> {
     pub(crate) files: &'f F,
     /// How they are read.
     pub(crate) packing: &'f Packing<'f, 'f>,
-    /// The prefixes that others take the place of, and where the paths stand that the command line
-    /// names, if there are any.
+    /// The prefixes that are replaced, and where the given paths stand, if there are any.
     pub(crate) prefixes: Prefixes<'f>,
     places: Places<'f>,
     /// Whether the input is an executable.
@@ -209,10 +207,7 @@ impl<'f, F: FileSystem> InputFiles<'f, F> {
     }
 
     /// The bytes of an input with plain sections, where that is asked for; none where they stay as
-    /// they are.
-    ///
-    /// # Errors
-    /// `Memory`; `Declined` where sections overlap, or no file has the plain ones.
+    /// they are. Declined are sections that overlap, and those whose plain ones no file has.
     #[tactic(auto, unfolding(crate::specs::Taken::IsPlainFor))]
     fn plain(
         &self,
@@ -250,11 +245,8 @@ impl<'f, F: FileSystem> InputFiles<'f, F> {
         }
     }
 
-    /// What is taken for the content of a file, of an archive's member or of an object that is named
-    /// by a path; none where that is taken as it is.
-    ///
-    /// # Errors
-    /// `Memory`; `Declined` where sections or strings overlap, or no file has what would be taken.
+    /// What is taken for the content of a file, of an archive's member or of an object that a path
+    /// names; none where that is taken as it is. Declined are also strings that overlap.
     #[tactic(auto, unfolding(thorin_inputs::specs::Macros::IsKeptOf))]
     fn taken(
         &self,

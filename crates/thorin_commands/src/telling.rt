@@ -42,14 +42,12 @@ pub(crate) struct ReportOptions {
     pub(crate) warns: bool,
     /// Whether a unit of an executable that isn't there is told and left out.
     pub(crate) partial: bool,
-    /// Whether each type unit that differs is told of with the inputs that brought it and the one
-    /// kept.
+    /// Whether each type unit that differs is told of with the inputs of it and of the one kept.
     pub(crate) names: bool,
 }
 
 /// Tells of an input that was taken how many of its units were added, where that is asked for, by
-/// how many the package has now. Of an object that is a regular file it tells how many units it
-/// has.
+/// how many the package has now; of an object that is a regular file also how many it has.
 #[tactic(auto, using(crate::proofs::Warned::not_verbose, crate::proofs::Warned::pathless, crate::proofs::Warned::added_told))]
 pub(crate) fn tell_added<I: Inputs, E: LineOutput>(
     inputs: &I,
@@ -123,9 +121,8 @@ pub(crate) fn warn_unsplit<'o, 's: 'o, Sess: Session<RelocationEntry>, I: Inputs
     Ok(())
 }
 
-/// Warns of an input that has type units alone, and says why nothing of it is split; where the
-/// package has no units of any other too, but of an executable only where no executable has split
-/// units.
+/// Warns of an input that has type units alone, and says why nothing of it is split; in a package
+/// without units of any other too, but of executables only where none of them has split units.
 #[tactic(auto, using(crate::proofs::Warned::unsplit_none))]
 fn warn_for<I: Inputs, E: LineOutput>(
     alloc: Global,
@@ -186,9 +183,6 @@ pub(crate) fn unit_line(
 
 /// Prints why an input was refused, and what that is about: `before` is where among the package's
 /// units the one stands that the input has too, if that is the error.
-///
-/// # Errors
-/// `Line` or `Memory`.
 pub(crate) fn tell_refused<I: Inputs, E: LineOutput>(
     alloc: Global,
     inputs: &I,
@@ -280,8 +274,7 @@ fn note_why<I: Inputs>(
     }
 }
 
-/// Prints a note for each encoding of the inputs, with the first input of each; of a place alone
-/// where there are not several.
+/// Prints a note for each encoding of the inputs; of a place alone where there are not several.
 fn note_encodings<I: Inputs, E: Write>(inputs: &I, place: Option<&str>, err: &mut E) {
     match (inputs.notes().encodings.notes(), place) {
         (Ok(Some(lines)), _) => {
@@ -292,11 +285,7 @@ fn note_encodings<I: Inputs, E: Write>(inputs: &I, place: Option<&str>, err: &mu
     }
 }
 
-/// Prints why the package can't be finished, and which object lacks the unit or couldn't be read,
-/// or which encodings the inputs have.
-///
-/// # Errors
-/// `Line` or `Memory`.
+/// Prints why the package can't be finished, and a note on the unit's object, or on encodings.
 #[tactic(auto, using(crate::proofs::Lines::followed))]
 pub(crate) fn tell_unfinished<I: Inputs, E: LineOutput>(
     alloc: Global,
@@ -324,9 +313,6 @@ pub(crate) fn tell_unfinished<I: Inputs, E: LineOutput>(
 }
 
 /// Prints an error, without control characters in names out of a file.
-///
-/// # Errors
-/// `Line` or `Memory`.
 #[tactic(auto, using(crate::proofs::Lines::told))]
 pub(crate) fn print_error<E: LineOutput>(
     alloc: Global,
@@ -342,9 +328,6 @@ pub(crate) fn print_error<E: LineOutput>(
 }
 
 /// Prints the text of an error.
-///
-/// # Errors
-/// `Line` or `Memory`.
 #[tactic(auto, using(crate::proofs::Lines::printed))]
 pub(crate) fn put_error<E: LineOutput>(
     alloc: Global,

@@ -102,8 +102,7 @@ impl<'c, 'r, 'e, E: Write> HostFiles<'c, 'r, 'e, E> {
         }
     }
 
-    /// The longest end of a path, behind one of its first slashes, at which there is a regular
-    /// file; none where files aren't sought.
+    /// The longest end of a path at which there is a regular file, where files are sought.
     fn end_of<'p>(&self, path: &'p str) -> Option<&'p str> {
         if !self.settings.get().seeks {
             return None;

@@ -57,8 +57,7 @@ impl<'r, 'e, E: Write> Console<'r, 'e, E> {
         });
     }
 
-    /// Counts a file that was read, and tells how far packing is where it is time for that, in
-    /// place of the line before.
+    /// Counts a file that was read, and tells how far packing is where it is time for that.
     pub(crate) fn count(&self, size: usize) {
         let mut progress = self.progress.get();
         progress.files = progress.files.saturating_add(1);
