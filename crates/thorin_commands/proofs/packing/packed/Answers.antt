@@ -1,7 +1,7 @@
 use Rattle.std.proofs.Common.{◌≡◌, true, inl, map, refl, rules, string_bytes}
 use Rattle.std.proofs.Common.{[]}
 use Rattle.std.proofs.lemmas.Result.{IfOk-weaker}
-use Rattle.thorin_commands.specs.Packing.{asked, asks, declines, manner_of, reads}
+use Rattle.thorin_commands.specs.Packing.{asked, asks, declines, reads}
 use Rattle.thorin_commands.specs.Warned.{TellsInputs}
 use Rattle.thorin_commands.proofs.Causes.{empty_for}
 use Rattle.thorin_commands.proofs.Made.{made_for, made_ready, made_twice}
@@ -18,7 +18,7 @@ returns-in-Ok-clause-ready g c =
     (rw c.in_ok-inputs.ensures.packing at c.macro_warnings-lines.ensures)
     (rw c.as_str.ensures.value at c.in_ok-push_str-in-Ok.ensures.bytes)
     (made_for (TellsInputs (reads packing (g.F.FileSystem.offer c.args.files.now)) packing)
-    packing c.as_slice.result.now refl refl c.tells_differences.ensures (inl are)
+    packing c.as_slice.result.now c.tells_differences.ensures (inl are)
     (λ added state text t. inl (are, t))
     (rw (c.in_ok-inputs.ensures.files, c.in_ok-inputs.ensures.packing) at c.in-Ok.ensures.made))
 
@@ -28,8 +28,8 @@ packed_unsplit-requires-clause-empty g c =
     let offer = g.F.FileSystem.offer c.args.files.now in
     rw (c.in_ok-inputs.ensures.files, c.in_ok-inputs.ensures.packing) (empty_for
     g.E.LineOutput.contents g.E.LineOutput.failed c.packed_inputs.new.err (reads packing offer)
-    (declines packing offer) packing packing.opens_archives (manner_of packing)
-    c.as_slice.result.now refl refl (rw c.as_slice.ensures.value c.in_ok-list.ensures) (rw (
+    (declines packing offer) packing c.as_slice.result.now
+    (rw c.as_slice.ensures.value c.in_ok-list.ensures) (rw (
       c.in-Err-Empty.field-0-is,
       c.in_ok-inputs.ensures.files,
       c.in_ok-inputs.ensures.packing,
@@ -44,7 +44,7 @@ returns-in-Err-Empty-clause-ready g c =
     IfOk-weaker c.packed_unsplit.result _ _ (λ made it.
     made_ready packing (string_bytes made.2) [] (string_bytes made.2)
     (no_macros packing.warns_of_macros) refl
-    (made_twice packing c.as_slice.result.now _ _ _ refl refl lets are ((rw (
+    (made_twice packing c.as_slice.result.now _ _ _ lets are ((rw (
       c.in-Err-Empty.field-0-is,
       c.in_ok-inputs.ensures.files,
       c.in_ok-inputs.ensures.packing,
