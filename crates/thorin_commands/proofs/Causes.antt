@@ -1,52 +1,34 @@
 -- Why something wasn't taken, and what was told of it.
-use Rattle.std.proofs.Common.{◌≡◌, ℕ, ◌+◌, ◌<◌, Bool, true, false, List, [], ◌∷◌, ◌++◌, refl, sym}
-use Rattle.std.proofs.Common.{ap, ◌∙◌, ◌⊎◌, ◌≢◌}
-use Rattle.std.proofs.Common.{inl, inr}
-use Rattle.std.proofs.Common.{take, get_or, length}
-use Rattle.std.proofs.lemmas.List.{append_assoc, map-append, take-append-drop, take_more}
-use Rattle.std.proofs.lemmas.List.Elements.{filter-append}
-use Rattle.std.specs.Prelude.{drop}
-use Rattle.std.specs.Prelude.{Option, Some, None, Result, Ok, Err, IfErr, map}
+use Rattle.thorin_commands.proofs.Terms
+use Terms.{Alone, Among, ap, append_assoc, Archive, AreAsked, asked, asks, Bad, Bool, Bor, Cause}
+use Terms.{drop, Err, Error, FailsBy, Failure, false, filter-append, get_or, Growth, IfErr, inl}
+use Terms.{Input, InputError, inr, is_archive, IsNotTaken, IsTakenFor, IsUnfinished, length, List}
+use Terms.{Manner, manner_of, map, map-append, None, NoOutputObjectCreated, NoPackage, NotTaken}
+use Terms.{Offer, Ok, Option, outcome_of, Packing, Path, path_bytes, paths_in, Plain, Reasons, refl}
+use Terms.{refusal_text, Refuses, Result, Some, split_contents, StandsFor, State, Stops, StopsAt}
+use Terms.{StopsIn, sym, take, take_more, Tells, Took, TookEach, TookInputs, true, Unfinished}
+use Terms.{Unread, [], ℕ, ◌++◌, ◌+◌, ◌<◌, ◌∙◌, ◌∷◌, ◌≡◌, ◌⊎◌}
+use Rattle.std.proofs.Common.{◌≢◌}
+use Rattle.std.proofs.lemmas.List.{take-append-drop}
 use Rattle.std.specs.List.{slice_get}
-use Rattle.std.specs.Path.{path_bytes}
-use Rattle.std.specs.declared.path.Path.{Path}
 use Rattle.thorin_errors.specs.Errors.{error_of}
-use Rattle.thorin_errors.specs.declared.error.Error.{Error}
-use Rattle.thorin_errors.specs.declared.error.Error.TheVariants.{NoOutputObjectCreated}
-use Rattle.std.specs.Borrow.{Bor}
 use Rattle.dwp_archive.specs.Entries.{Member}
 use Rattle.dwp_archive.specs.Members.{members_of}
+use Rattle.dwp_archive.specs.declared.error.ArchiveError.{ArchiveError}
+use Rattle.thorin_join.specs.Builder.{start}
+use Rattle.thorin_builder.specs.Reading.{IsRead, OnDeclined, unread}
+use Rattle.thorin.specs.Run.{DeclinesInput}
+use Rattle.thorin_commands.specs.Cause.{AreRefused, Finishing, IsCauseFor, IsCauseOf, IsMalformed}
+use Rattle.thorin_commands.specs.Cause.{IsRefused, IsTakenNot, IsUnfit, IsUntaken, StopsAmong}
+use Rattle.thorin_commands.specs.Cause.{Taking, Told, told_text, Untaken}
+use Rattle.thorin_commands.specs.Opened.{Fills}
+use Rattle.thorin_commands.proofs.Opened.{each_append, each_none}
 use Rattle.dwp_archive.specs.View as view
 use Rattle.dwp_archive.specs.declared.member.Member as declared
-use Rattle.dwp_archive.specs.declared.error.ArchiveError.{ArchiveError}
 use Rattle.dwp_archive.specs.declared.error.ArchiveError.TheVariants as archive_errors
-use Rattle.thorin_errors.specs.declared.error.InputError.{InputError}
-use Rattle.thorin_join.specs.Builder.{State, start}
-use Rattle.thorin_builder.specs.Reading.{IsRead, OnDeclined, outcome_of, unread}
-use Rattle.thorin_builder.specs.declared.reader.NotTaken.{NotTaken}
-use Rattle.thorin.specs.Run.{DeclinesInput, Took}
-use Rattle.thorin.specs.declared.packing.Input.{Input}
 use Rattle.thorin.specs.declared.packing.Input.TheVariants as inputs
-use Rattle.thorin_inputs.specs.declared.growth.Growth.{Growth}
-use Rattle.thorin_print.specs.Answers.{FailsBy}
-use Rattle.thorin_print.specs.declared.output.Failure.{Failure}
 use Rattle.thorin_print.specs.declared.output.Failure.TheVariants as failures
-use Rattle.thorin_commands.specs.Archives.{StandsFor, is_archive, split_contents}
-use Rattle.thorin_commands.specs.Cause.{AreRefused, Cause, IsNotTaken, Alone, Plain, Archive}
-use Rattle.thorin_commands.specs.Cause.{Unread}
-use Rattle.thorin_commands.specs.Cause.{IsCauseFor, IsCauseOf, Taking, Finishing, IsRefused}
-use Rattle.thorin_commands.specs.Cause.{IsTakenNot}
-use Rattle.thorin_commands.specs.Cause.{IsUnfinished, IsUnfit, IsUntaken, Reasons, Refuses}
-use Rattle.thorin_commands.specs.Cause.{Stops, StopsAmong, StopsAt}
-use Rattle.thorin_commands.specs.Cause.{Among, Bad, IsMalformed, StopsIn, Tells, Told, Untaken}
-use Rattle.thorin_commands.specs.Cause.{Unfinished, refusal_text, told_text}
-use Rattle.thorin_commands.specs.Opened.{Fills, TookEach, TookInputs}
-use Rattle.thorin_commands.specs.Packing.{AreAsked, asked, asks, manner_of, paths_in}
-use Rattle.thorin_commands.specs.Taken.{IsTakenFor, Manner, Offer}
-use Rattle.thorin_commands.specs.declared.packing.Packing.{Packing}
-use Rattle.thorin_commands.specs.declared.packing.NoPackage.{NoPackage}
 use Rattle.thorin_commands.specs.declared.packing.NoPackage.TheVariants as refusals
-use Rattle.thorin_commands.proofs.Opened.{each_append, each_none}
 
 -- a line wasn't taken, or memory ran out
 pub stops_by : (X U : Type 0) (failure : Failure) → FailsBy X failure → Stops X U failure

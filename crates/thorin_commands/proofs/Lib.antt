@@ -1,3 +1,4 @@
+mod Terms
 mod Causes
 pub mod Lines
 mod Made

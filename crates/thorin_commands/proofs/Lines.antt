@@ -1,12 +1,11 @@
 -- Lines that stand among a writer's bytes.
-use Rattle.std.proofs.Common.{◌≡◌, ℕ, List, [], ◌++◌, refl, rules}
-use Rattle.std.specs.Prelude.{IfSome, Option, Some, None, IsSome, option_map}
-use Rattle.std.specs.Io.KnownBytes.{Appends}
-use Rattle.std.proofs.lemmas.List.{append_assoc, append-nil}
-use Rattle.thorin_words.specs.Printed as words
+use Rattle.thorin_commands.proofs.Terms.{append-nil, append_assoc, Appends, List, None, Option}
+use Rattle.thorin_commands.proofs.Terms.{refl, rules, Some, Tells, [], ℕ, ◌++◌, ◌≡◌}
+use Rattle.std.specs.Prelude.{IfSome, IsSome, option_map}
 use Rattle.thorin_print.specs.Answers.{Grows}
 use Rattle.thorin_print.specs.Failures.{error_line}
-use Rattle.thorin_commands.specs.Cause.{HasLine, Tells}
+use Rattle.thorin_commands.specs.Cause.{HasLine}
+use Rattle.thorin_words.specs.Printed as words
 
 -- known bytes stay known
 known : (old new : Option (List ℕ)) (bytes : List ℕ) → IsSome old → Appends old new bytes

@@ -1,30 +1,20 @@
 -- What was made of inputs, and what was told of that.
-use Rattle.std.proofs.Common.{◌≡◌, ℕ, Bool, true, false, List, ◌++◌, refl, ap, ◌∙◌}
-use Rattle.std.proofs.Common.{inl, inr}
-use Rattle.std.specs.Prelude.{Option, Some, Result, Ok, Err, IfOk, IfErr, OnOk, map}
-use Rattle.std.proofs.lemmas.List.{append_assoc}
-use Rattle.dwp_elf.specs.FileText.{Object as File, file_text}
-use Rattle.dwp_table.specs.declared.object.DebugTypeSignature.{DebugTypeSignature}
+use Rattle.thorin_commands.proofs.Terms
+use Terms.{added_in, Alone, Among, ap, append_assoc, Archive, AreAsked, asked, asks, Bad, Bool}
+use Terms.{Cause, DebugTypeSignature, differing_in, Err, Error, false, File, file_text, IfErr, inl}
+use Terms.{Input, inr, IsNotTaken, IsPrinted, IsUnfinished, left, List, Manner, manner_of, map}
+use Terms.{NoOutputObjectCreated, NoPackage, Offer, Ok, OnOk, Option, out_of, Packing, Plain}
+use Terms.{Reasons, refl, Refuses, Result, Some, State, StopsAt, StopsIn, TellsInputs, TellsMacros}
+use Terms.{TellsTaken, true, Unfinished, Unread, ℕ, ◌++◌, ◌∙◌, ◌≡◌}
+use Rattle.std.specs.Prelude.{IfOk}
 use Rattle.thorin_errors.specs.Errors.{NoOutputObjectCreated as NoneBegun}
-use Rattle.thorin_errors.specs.declared.error.Error.{Error}
-use Rattle.thorin_errors.specs.declared.error.Error.TheVariants.{NoOutputObjectCreated}
-use Rattle.thorin_join.specs.Builder.{State, differing_in, finish_test}
-use Rattle.thorin.specs.declared.packing.Input.{Input}
-use Rattle.thorin_output.specs.Warnings.{IsPrinted, IsWarning}
+use Rattle.thorin_join.specs.Builder.{finish_test}
+use Rattle.thorin_output.specs.Warnings.{IsWarning}
 use Rattle.thorin_output.specs.declared.warnings.Warned.{Warned}
-use Rattle.thorin_commands.specs.Cause.{Alone, Among, Archive, Bad, Cause, IsNotTaken, Plain}
-use Rattle.thorin_commands.specs.Cause.{IsUnfinished, Reasons, Refuses, StopsAt, StopsIn}
-use Rattle.thorin_commands.specs.Cause.{Unfinished, Unread}
 use Rattle.thorin_commands.specs.Made.{IsMade, IsMadeFor, IsReady}
-use Rattle.thorin_commands.specs.Opened.{added_in, left}
-use Rattle.thorin_commands.specs.Packing.{AreAsked, asked, asks, manner_of, out_of}
-use Rattle.thorin_commands.specs.Taken.{Manner, Offer}
-use Rattle.thorin_commands.specs.Warned.{PacksTelling, TellsInputs, TellsMacros, TellsTaken, names}
-use Rattle.thorin_commands.specs.Warned.{TellsUnsplitRun, others}
-use Rattle.thorin_commands.specs.declared.packing.Packing.{Packing}
-use Rattle.thorin_commands.specs.declared.packing.NoPackage.{NoPackage}
-use Rattle.thorin_commands.specs.declared.packing.NoPackage.TheVariants as refusals
+use Rattle.thorin_commands.specs.Warned.{names, others, PacksTelling, TellsUnsplitRun}
 use Rattle.thorin_commands.proofs.Warned.{printed_as, printed_then}
+use Rattle.thorin_commands.specs.declared.packing.NoPackage.TheVariants as refusals
 
 -- the type units that differ don't go where units that executables refer to do
 pub differing_left : (partial : Bool) (state : State)

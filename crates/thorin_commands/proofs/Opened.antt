@@ -1,28 +1,16 @@
 -- Inputs that stand for others, taken one after the other.
-use Rattle.std.proofs.Common.{◌≡◌, ℕ, ◌-◌, Bool, true, false, List, [], ◌∷◌, ◌++◌, ap, refl, sym}
-use Rattle.std.proofs.Common.{Ok, inl, inr, map}
-use Rattle.std.specs.Borrow.{Bor}
-use Rattle.std.specs.Prelude.{Result, Err, OnOk}
-use Rattle.std.specs.Path.{path_bytes}
-use Rattle.std.specs.declared.path.Path.{Path}
-use Rattle.std.proofs.lemmas.List.{append_assoc, append-nil}
-use Rattle.thorin_join.specs.Builder.{State}
+use Rattle.thorin_commands.proofs.Terms
+use Terms.{added_in, ap, append-nil, append_assoc, Bool, Bor, Err, Error, false, Growth, inl, Input}
+use Terms.{inr, is_archive, IsTakenFor, List, Manner, map, NotTaken, Offer, Ok, OnOk, outcome_of}
+use Terms.{Path, path_bytes, refl, Result, StandsFor, State, sym, Took, TookAll, TookEach}
+use Terms.{TookInputs, TookNone, true, unit_count, units_in, [], ℕ, ◌++◌, ◌-◌, ◌∷◌, ◌≡◌}
 use Rattle.thorin_join.specs.Join.{JoinAll}
-use Rattle.thorin_join.specs.Represents.{units_in}
-use Rattle.thorin_builder.specs.Reading.{outcome_of}
 use Rattle.thorin_builder.specs.Taking.{Outcome}
-use Rattle.thorin_builder.specs.declared.reader.NotTaken.{NotTaken}
-use Rattle.thorin_errors.specs.declared.error.Error.{Error}
-use Rattle.thorin_inputs.specs.declared.growth.Growth.{Growth}
-use Rattle.thorin.specs.declared.packing.Input.{Input}
-use Rattle.thorin.specs.declared.packing.Input.TheVariants as inputs
-use Rattle.thorin.specs.Run.{Ran, Took}
+use Rattle.thorin.specs.Run.{Ran}
 use Rattle.thorin.proofs.Running.{join-append}
-use Rattle.thorin_commands.specs.Archives.{AreTakenFor, StandsFor, is_archive}
-use Rattle.thorin_commands.specs.Opened.{AreAllAccepted, TookAll, TookInputs, TookNone, TookNext}
-use Rattle.thorin_commands.specs.Opened.{TookEach, TookMembers, accepted_in, added_in}
-use Rattle.thorin_commands.specs.Opened.{unit_count}
-use Rattle.thorin_commands.specs.Taken.{IsTakenFor, Manner, Offer}
+use Rattle.thorin_commands.specs.Archives.{AreTakenFor}
+use Rattle.thorin_commands.specs.Opened.{accepted_in, AreAllAccepted, TookMembers, TookNext}
+use Rattle.thorin.specs.declared.packing.Input.TheVariants as inputs
 
 -- a run, and one behind it
 ran_append : (offer : Offer) (xs ys : List Input) (a b c : State) (before here : List (List ℕ))

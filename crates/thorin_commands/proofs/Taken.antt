@@ -1,17 +1,12 @@
 -- Where a path is read.
-use Rattle.std.proofs.Common.{◌≡◌, ℕ, List, [], ◌∷◌, ◌⊎◌, inl, inr}
-use Rattle.std.specs.Prelude.{Result, Ok, Err}
-use Rattle.std.specs.declared.io.Error.{Error as IoError}
-use Rattle.std.specs.Borrow.{Bor}
-use Rattle.thorin_builder.specs.declared.reader.NotTaken.{NotTaken}
-use Rattle.thorin_builder.specs.declared.reader.NotTaken.TheVariants.{Failed, Declined}
-use Rattle.thorin_errors.specs.declared.error.InputError.{InputError}
-use Rattle.thorin_errors.specs.declared.error.InputError.TheVariants as input
+use Rattle.thorin_commands.proofs.Terms.{Bor, Err, Growth, inl, InputError, inr, IoError, List}
+use Rattle.thorin_commands.proofs.Terms.{NotTaken, Offer, Ok, Result, [], ℕ, ◌∷◌, ◌≡◌, ◌⊎◌}
+use Rattle.thorin_builder.specs.declared.reader.NotTaken.TheVariants.{Declined, Failed}
 use Rattle.thorin_inputs.specs.Prefixes.{mapped}
-use Rattle.thorin_inputs.specs.declared.growth.Growth.{Growth}
-use Rattle.thorin_inputs.specs.declared.growth.Growth.TheVariants as growth
 use Rattle.thorin_commands.specs.Packing.{IsAmong, through}
-use Rattle.thorin_commands.specs.Taken.{IsReadInto, Offer}
+use Rattle.thorin_commands.specs.Taken.{IsReadInto}
+use Rattle.thorin_errors.specs.declared.error.InputError.TheVariants as input
+use Rattle.thorin_inputs.specs.declared.growth.Growth.TheVariants as growth
 
 -- where a path is read
 module _ (objects executables : List (Bor (List ℕ))) (offer : Offer) (path : List ℕ)

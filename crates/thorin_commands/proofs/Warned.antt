@@ -1,27 +1,20 @@
 -- What was told where a package was made.
-use Rattle.std.proofs.Common.{◌≡◌, ◌⊎◌, ℕ, ◌+◌, ◌-◌, ◌≤◌, ◌<◌, Bool, true, false, List, [], ◌∷◌}
-use Rattle.std.proofs.Common.{◌++◌, refl, sym, ap, ◌∙◌, inl, inr, length, take, get_or, arith}
-use Rattle.std.specs.Prelude.{Option, Some, None, Ok, Err, OnOk, map}
-use Rattle.std.specs.Io.KnownBytes.{Appends}
+use Rattle.thorin_commands.proofs.Terms
+use Terms.{added_in, ap, append-nil, append_assoc, Appends, arith, Bool, DebugTypeSignature, Err}
+use Terms.{false, get_or, inl, Input, inr, IsPrinted, length, List, Manner, map, map-append}
+use Terms.{missing_in, None, Offer, Ok, OnOk, Option, path_of, refl, Some, State, sym, take}
+use Terms.{take_all, take_more, TellLeft, TellNamed, TellsMacros, TellsTaken, TellUnsplitBy}
+use Terms.{TookAll, TookNone, TookTelling, true, Types, unit_count, unsplit_line, [], ℕ, ◌++◌, ◌+◌}
+use Terms.{◌-◌, ◌<◌, ◌∙◌, ◌∷◌, ◌≡◌, ◌⊎◌}
+use Rattle.std.proofs.Common.{◌≤◌}
 use Rattle.std.proofs.KnownBytes.{Appends-nil, Appends-trans}
-use Rattle.std.proofs.lemmas.List.{append_assoc, append-nil, map-append, take_all, take_more}
-use Rattle.dwp_table.specs.declared.object.DebugTypeSignature.{DebugTypeSignature}
 use Rattle.dwp_table.specs.declared.object.DwarfObject.{DwarfObject}
-use Rattle.thorin_join.specs.Builder.{State}
-use Rattle.thorin.specs.declared.packing.Input.{Input}
 use Rattle.thorin_print.specs.Answers.{Outcome, Prints}
 use Rattle.thorin_print.specs.Told.{taken_line}
 use Rattle.thorin_inputs.specs.declared.notes.Lack.{Lack}
-use Rattle.thorin_inputs.specs.declared.notes.Lack.TheVariants.{Types}
-use Rattle.thorin_output.specs.Warnings.{IsPrinted}
-use Rattle.thorin_commands.specs.Made.{TookTelling}
-use Rattle.thorin_commands.specs.Opened.{TookAll, TookNone, added_in, unit_count}
-use Rattle.thorin_commands.specs.Taken.{Manner, Offer}
-use Rattle.thorin_commands.specs.Warned.{AreLacks, InTurn, IsLeftLine, TellLeft, TellNamed}
-use Rattle.thorin_commands.specs.Warned.{TellUnsplit, TellUnsplitBy, TellsAdded, TellsLeft}
-use Rattle.thorin_commands.specs.Warned.{TellsMacros, TellsNamed, TellsTaken, TellsTaking}
-use Rattle.thorin_commands.specs.Warned.{TellsUnsplit, left_line}
-use Rattle.thorin_commands.specs.Warned.{missing_in, named_line, path_of, unsplit_line}
+use Rattle.thorin_commands.specs.Warned.{AreLacks, InTurn, IsLeftLine, left_line, named_line}
+use Rattle.thorin_commands.specs.Warned.{TellsAdded, TellsLeft, TellsNamed, TellsTaking}
+use Rattle.thorin_commands.specs.Warned.{TellsUnsplit, TellUnsplit}
 use Rattle.thorin_commands.proofs.Opened.{added_more, took_more}
 
 -- ---- one text after the other

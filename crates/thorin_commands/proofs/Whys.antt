@@ -1,18 +1,12 @@
 -- Why packing failed.
-use Rattle.std.proofs.Common.{◌≡◌, ◌⊎◌, ℕ, List, inl, inr}
-use Rattle.std.specs.Prelude.{Some, Result}
-use Rattle.std.specs.declared.io.Error.{Error as IoError}
-use Rattle.dwp_elf.specs.FileText.{Object as File, file_text}
-use Rattle.thorin_print.specs.Answers.{FailsBy}
-use Rattle.thorin_print.specs.declared.output.Failure.{Failure}
-use Rattle.thorin_print.specs.declared.output.Failure.TheVariants as failures
+use Rattle.thorin_commands.proofs.Terms.{FailsBy, Failure, File, file_text, inl, inr, IoError, List}
+use Rattle.thorin_commands.proofs.Terms.{out_of, Packing, Result, Some, Stops, ℕ, ◌≡◌, ◌⊎◌}
 use Rattle.thorin_output.specs.Files.{IsOfWriting, IsWhyUnwritten}
 use Rattle.thorin_output.specs.Reads.{Identity}
-use Rattle.thorin_commands.specs.Cause.{Stops}
 use Rattle.thorin_commands.specs.Failing.{IsWhy}
 use Rattle.thorin_commands.specs.Naming.{IsNameless, IsUncounted}
-use Rattle.thorin_commands.specs.Packing.{Fails, IsPackageFor, Packs, out_of}
-use Rattle.thorin_commands.specs.declared.packing.Packing.{Packing}
+use Rattle.thorin_commands.specs.Packing.{Fails, IsPackageFor, Packs}
+use Rattle.thorin_print.specs.declared.output.Failure.TheVariants as failures
 
 -- the units of a file couldn't be counted, where nothing is split
 pub uncounted : (X U : Type 0) (failure : Failure) → IsUncounted failure → U → Stops X U failure

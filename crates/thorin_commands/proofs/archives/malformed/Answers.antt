@@ -1,5 +1,4 @@
-use Rattle.std.proofs.Common.{refl, rules}
-use Rattle.std.specs.Prelude.{Some}
+use Rattle.thorin_commands.proofs.Terms.{refl, rules, Some}
 use Rattle.dwp_archive.specs.Texts.{archive_text}
 use Rattle.thorin_commands.specs.Cause.{Malformed}
 use Rattle.thorin_commands.proofs.Lines.{followed}

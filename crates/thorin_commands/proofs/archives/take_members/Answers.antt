@@ -1,12 +1,9 @@
-use Rattle.std.proofs.Common.{[], map, refl, ◌∙◌}
-use Rattle.std.proofs.lemmas.List.{map-append, take_all, take_more}
-use Rattle.std.proofs.lemmas.List.Elements.{filter-append}
-use Rattle.std.proofs.lemmas.Result.{err_from_is_err_and}
-use Rattle.dwp_archive.specs.View.{member}
-use Rattle.dwp_archive.specs.declared.member.Member as declared
+use Rattle.thorin_commands.proofs.Terms.{err_from_is_err_and, filter-append, map, map-append}
+use Rattle.thorin_commands.proofs.Terms.{member, refl, take_all, take_more, [], ◌∙◌}
 use Rattle.dwp_archive.specs.declared.member.NameForm.TheVariants.{Short}
 use Rattle.thorin_commands.proofs.Causes.{among, bad, refuses_by, stops_among}
-use Rattle.thorin_commands.proofs.Opened.{each_none, each_append}
+use Rattle.thorin_commands.proofs.Opened.{each_append, each_none}
+use Rattle.dwp_archive.specs.declared.member.Member as declared
 use Rattle.thorin_commands.proofs.archives.take_members.Goals as goal
 
 pub loop-member-init : goal.loop-member-init

@@ -1,8 +1,5 @@
-use Rattle.std.proofs.Common.{◌≡◌, map, take}
-use Rattle.dwp_archive.specs.View.{member}
-use Rattle.thorin_commands.specs.Archives.{split_contents}
-use Rattle.thorin_commands.specs.Opened.{TookEach}
-use Rattle.thorin_commands.specs.Packing.{manner_of, reads}
+use Rattle.thorin_commands.proofs.Terms.{manner_of, map, member, reads, split_contents, take}
+use Rattle.thorin_commands.proofs.Terms.{TookEach, ◌≡◌}
 use Rattle.thorin_commands.proofs.archives.take_members.Given as goal
 
 -- the members so far were taken, and nothing was told

@@ -1,9 +1,7 @@
-use Rattle.std.proofs.Common.{◌≡◌, Ok, rules}
-use Rattle.std.proofs.lemmas.Result.{on_ok_weaker}
-use Rattle.thorin_commands.specs.Packing.{declines, reads}
+use Rattle.thorin_commands.proofs.Terms.{declines, Ok, on_ok_weaker, reads, rules, ◌≡◌}
 use Rattle.thorin_commands.proofs.Causes.{archive, bytes_refused, err_by, plain, reason_by}
 use Rattle.thorin_commands.proofs.Causes.{unread_told}
-use Rattle.thorin_commands.proofs.Opened.{took_object, took_archive}
+use Rattle.thorin_commands.proofs.Opened.{took_archive, took_object}
 use Rattle.thorin_commands.proofs.archives.take_opened.Goals as goal
 
 pub returns-in_ok-tell_refused-in-Err-clause-told :

@@ -1,5 +1,4 @@
-use Rattle.std.proofs.Common.{◌≡◌, true, false}
-use Rattle.dwp_archive.specs.View.{member}
+use Rattle.thorin_commands.proofs.Terms.{false, member, true, ◌≡◌}
 use Rattle.thorin_commands.specs.Archives.{is_split}
 use Rattle.thorin_commands.proofs.Causes.{one_stops}
 use Rattle.thorin_commands.proofs.Opened.{each_none}

@@ -1,7 +1,5 @@
-use Rattle.std.proofs.lemmas.Result.{err_from_is_err_and}
-use Rattle.std.proofs.Common.{◌≡◌, [], rules}
-use Rattle.std.proofs.lemmas.List.{take_all, take_more}
-use Rattle.thorin.specs.declared.packing.Input.{Input}
+use Rattle.thorin_commands.proofs.Terms.{err_from_is_err_and, Input, rules, take_all, take_more, []}
+use Rattle.thorin_commands.proofs.Terms.{◌≡◌}
 use Rattle.thorin.specs.declared.packing.Input.TheVariants.{Object}
 use Rattle.thorin_commands.proofs.Causes.{refuses_by, stops_at}
 use Rattle.thorin_commands.proofs.Warned.{lack_count, taken_told, taking_begins, taking_more}

@@ -1,6 +1,4 @@
-use Rattle.std.proofs.Common.{take}
-use Rattle.thorin_commands.specs.Made.{TookTelling}
-use Rattle.thorin_commands.specs.Packing.{manner_of, reads}
+use Rattle.thorin_commands.proofs.Terms.{manner_of, reads, take, TookTelling}
 use Rattle.thorin_commands.proofs.making.fill.Given as goal
 
 -- the inputs so far were taken and told

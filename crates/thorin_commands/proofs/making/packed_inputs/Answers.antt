@@ -1,8 +1,5 @@
-use Rattle.std.proofs.Common.{◌≡◌, ◌∙◌, Bool, true, false, refl, ap}
-use Rattle.thorin_join.specs.Builder.{State, differing_in}
-use Rattle.thorin_join.specs.Represents.{units_in}
-use Rattle.thorin_commands.specs.Opened.{left}
-use Rattle.thorin_commands.specs.Packing.{declines, manner_of, reads}
+use Rattle.thorin_commands.proofs.Terms.{ap, Bool, declines, differing_in, false, left, manner_of}
+use Rattle.thorin_commands.proofs.Terms.{reads, refl, State, true, units_in, ◌∙◌, ◌≡◌}
 use Rattle.thorin_commands.proofs.Causes.{err_by, finishing, refuses_by, taking}
 use Rattle.thorin_commands.proofs.Made.{differing_left, if_made, if_refused, never_empty}
 use Rattle.thorin_commands.proofs.Made.{none_began}

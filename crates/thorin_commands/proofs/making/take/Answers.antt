@@ -1,6 +1,4 @@
-use Rattle.std.proofs.Common.{◌≡◌, Ok, rules}
-use Rattle.std.proofs.lemmas.Result.{on_ok_weaker}
-use Rattle.thorin_commands.specs.Packing.{declines, reads}
+use Rattle.thorin_commands.proofs.Terms.{declines, Ok, on_ok_weaker, reads, rules, ◌≡◌}
 use Rattle.thorin_commands.proofs.Causes.{alone, err_by, reason_by, refused}
 use Rattle.thorin_commands.proofs.Opened.{took_alone}
 use Rattle.thorin_commands.proofs.making.take.Goals as goal

@@ -1,7 +1,5 @@
-use Rattle.std.proofs.Common.{◌≡◌, ◌++◌}
+use Rattle.thorin_commands.proofs.Terms.{IsPrinted, missing_in, TellLeft, ◌++◌, ◌≡◌}
 use Rattle.thorin_builder.specs.Missing.{missing_left}
-use Rattle.thorin_output.specs.Warnings.{IsPrinted}
-use Rattle.thorin_commands.specs.Warned.{TellLeft, missing_in}
 use Rattle.thorin_commands.proofs.missing.leave_out.Given as goal
 
 -- those so far are told

@@ -1,5 +1,4 @@
-use Rattle.std.proofs.Common.{map, string_bytes, take}
-use Rattle.thorin_commands.specs.Warned.{TellNamed}
+use Rattle.thorin_commands.proofs.Terms.{map, string_bytes, take, TellNamed}
 use Rattle.thorin_commands.proofs.notes.lines_of_differing.Given as goal
 
 -- the lines so far

@@ -1,8 +1,6 @@
-use Rattle.std.proofs.Common.{[], ◌∷◌, ◌+◌, get_or, inr, List, rules, take, ℕ}
-use Rattle.std.specs.Prelude.{drop}
-use Rattle.std.proofs.lemmas.List.{take_all, take_more}
+use Rattle.thorin_commands.proofs.Terms.{Bor, drop, get_or, inr, List, rules, take, take_all}
+use Rattle.thorin_commands.proofs.Terms.{take_more, [], ℕ, ◌+◌, ◌∷◌}
 use Rattle.std.proofs.lemmas.List.Elements.{All-append, All-cons, All-nil}
-use Rattle.std.specs.Borrow.{Bor}
 use Rattle.thorin_commands.specs.Packing.{AreApart}
 use Rattle.thorin_commands.proofs.Causes.{split_at}
 use Rattle.thorin_commands.proofs.packing.has_file.Goals as goal

@@ -1,6 +1,4 @@
-use Rattle.std.proofs.Common.{◌≡◌, inr, rules}
-use Rattle.std.specs.Prelude.{Some}
-use Rattle.thorin_commands.specs.Packing.{out_of}
+use Rattle.thorin_commands.proofs.Terms.{inr, out_of, rules, Some, ◌≡◌}
 use Rattle.thorin_commands.proofs.Made.{packs_telling}
 use Rattle.thorin_commands.proofs.Whys.{begun, packs, why_writing}
 use Rattle.thorin_commands.proofs.packing.pack.Goals as goal

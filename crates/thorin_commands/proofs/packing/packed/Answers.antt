@@ -1,8 +1,5 @@
-use Rattle.std.proofs.Common.{◌≡◌, true, inl, map, refl, rules, string_bytes}
-use Rattle.std.proofs.Common.{[]}
-use Rattle.std.proofs.lemmas.Result.{IfOk-weaker}
-use Rattle.thorin_commands.specs.Packing.{asked, asks, declines, reads}
-use Rattle.thorin_commands.specs.Warned.{TellsInputs}
+use Rattle.thorin_commands.proofs.Terms.{asked, asks, declines, IfOk-weaker, inl, map, reads, refl}
+use Rattle.thorin_commands.proofs.Terms.{rules, string_bytes, TellsInputs, true, [], ◌≡◌}
 use Rattle.thorin_commands.proofs.Causes.{empty_for}
 use Rattle.thorin_commands.proofs.Made.{made_for, made_ready, made_twice}
 use Rattle.thorin_commands.proofs.Warned.{no_macros}

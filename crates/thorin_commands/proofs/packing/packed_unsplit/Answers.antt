@@ -1,9 +1,7 @@
-use Rattle.std.proofs.Common.{◌≡◌, [], ◌∷◌, ◌++◌, arith, false, inr, map}
+use Rattle.thorin_commands.proofs.Terms.{arith, asked, asks, declines, false, IfOk-weaker, inr, map}
+use Rattle.thorin_commands.proofs.Terms.{None, paths_in, reads, Some, TellsTaken, [], ◌++◌, ◌∷◌}
+use Rattle.thorin_commands.proofs.Terms.{◌≡◌}
 use Rattle.std.proofs.lemmas.Grind.{common_steps}
-use Rattle.std.proofs.lemmas.Result.{IfOk-weaker}
-use Rattle.std.specs.Prelude.{None, Some}
-use Rattle.thorin_commands.specs.Packing.{asked, asks, declines, paths_in, reads}
-use Rattle.thorin_commands.specs.Warned.{TellsTaken}
 use Rattle.thorin_commands.proofs.Causes.{first_of, told_unsplit}
 use Rattle.thorin_commands.proofs.Made.{made_for}
 use Rattle.thorin_commands.proofs.packing.packed_unsplit.Goals as goal

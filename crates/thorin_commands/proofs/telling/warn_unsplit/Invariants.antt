@@ -1,6 +1,4 @@
-use Rattle.std.proofs.Common.{◌≡◌, take, true}
-use Rattle.thorin_output.specs.Warnings.{IsPrinted}
-use Rattle.thorin_commands.specs.Warned.{TellUnsplitBy}
+use Rattle.thorin_commands.proofs.Terms.{IsPrinted, take, TellUnsplitBy, true, ◌≡◌}
 use Rattle.thorin_commands.proofs.telling.warn_unsplit.Given as goal
 
 -- the inputs so far

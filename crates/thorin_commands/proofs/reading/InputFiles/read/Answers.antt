@@ -1,6 +1,4 @@
-use Rattle.std.proofs.Common.{◌≡◌, rules}
-use Rattle.std.specs.Path.{path_bytes}
-use Rattle.thorin_commands.specs.Packing.{paths_in}
+use Rattle.thorin_commands.proofs.Terms.{path_bytes, paths_in, rules, ◌≡◌}
 use Rattle.thorin_commands.specs.Taken.{MayRepeat}
 use Rattle.thorin_commands.proofs.Taken.{through_given}
 use Rattle.thorin_commands.proofs.reading.InputFiles.read.Goals as goal
