@@ -69,16 +69,27 @@ pub fn list_missing<F: FileSystem, O: Write, E: Write>(
 ) -> Result<u8, Failure>
     ensures { IfOk result (λ status. status ≤ 1) }
 {
-    let executables = paths_in(packing.executables);
-    if executables.is_empty() {
+    if paths_in(packing.executables).is_empty() {
         return Err(Failure::BadCommand);
     }
     let inputs = InputFiles::new(alloc, files, packing)?;
+    list_all(alloc, &inputs, out, err)
+}
+
+/// Lists what executables lack, each path once, up to the first executable that is refused.
+fn list_all<F: FileSystem, O: Write, E: Write>(
+    alloc: Global,
+    inputs: &InputFiles<'_, F>,
+    out: &mut O,
+    err: &mut E,
+) -> Result<u8, Failure>
+    ensures { IfOk result (λ status. status ≤ 1) }
+{
     let mut lines = buffer(alloc, out)?;
     let mut seen = HashSet::new(alloc);
     let mut is_one_missing = false;
-    for executable in executables {
-        match list_of(alloc, &inputs, *executable, &mut seen, &mut lines) {
+    for executable in paths_in(inputs.packing.executables) {
+        match list_of(alloc, inputs, *executable, &mut seen, &mut lines) {
             Ok(is_missing) => is_one_missing |= is_missing,
             Err(ListFailure::Refused(why)) => {
                 flush(&mut lines)?;
