@@ -18,12 +18,15 @@ returns g c =
           refuses = elim c.match-finished.branch [
             | goal.in-Ok+in-Err-can_be_written w ↦
                 let large = w.in-Err-can_be_written.ensures.refused in
-                rw (w.error-is, large.0) (λ aside. inr (refl, record {
-                  file = w.in-Ok.object;
-                  tested = rw w.in-Ok.is at finish.refusal;
-                  finished = rw w.in-Ok.is at finish.finished;
-                  unfit = large.1;
-                }))
+                rw (w.error-is, large.0) (λ aside. inr (
+                  refl,
+                  record {
+                    file = w.in-Ok.object;
+                    tested = rw w.in-Ok.is at finish.refusal;
+                    finished = rw w.in-Ok.is at finish.finished;
+                    unfit = large.1;
+                  },
+                ))
             | goal.in-Err w ↦
                 rw w.error-is (λ aside. inl ((rw w.in-Err.is at finish.refusal) aside))
           ];
