@@ -259,8 +259,7 @@ impl AbsentUnits {
         Ok(())
     }
 
-    /// Keeps the object that is looked for, unless it is the last one, and why it brings no unit:
-    /// it couldn't be read, or lacks it.
+    /// Keeps the object that is looked for, unless it is the last one, and why it brings no unit.
     fn look_for(
         &mut self,
         executable: &str,

@@ -58,8 +58,7 @@ pub fn has_compressed_overlap(bytes: &[u8]) -> bool
     dwp_decompress::overlaps(bytes, Asked::OfUnits)
 }
 
-/// How many bytes the sections of an object or a package have that are used, up to the most that a
-/// `u64` can say.
+/// How many bytes the used sections of an object or a package have, at most what a `u64` can say.
 #[tactic(auto, unfolding(crate::specs::Overlaps::used_size))]
 fn used_size(file: &ElfFile<'_>) -> u64
     ensures { result ≡ min (used_size (elf file.now).sections) (2 ^ 64 - 1) }
@@ -267,8 +266,7 @@ impl InnerStrings<'_> {
         Ok(false)
     }
 
-    /// Counts the one that begins at a place, unless it is counted. Answers whether they are too
-    /// large then.
+    /// Counts the one that begins at a place, once. Answers whether they are too large then.
     #[inline(never)]
     fn add(&mut self, place: u32) -> Result<bool, AllocError>
         requires { IsWithin self.old }

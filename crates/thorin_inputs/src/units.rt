@@ -155,8 +155,7 @@ impl Encodings {
     }
 }
 
-/// The encoding and the byte order of an object or a package, which are those of its first unit;
-/// none where it has none that can be read.
+/// The encoding and the byte order of the first unit of an object or a package, if it can be read.
 fn encoding_of(file: &[u8]) -> Option<(Encoding, Endianness)> {
     let file = ElfFile::parse(file).ok()?;
     let order = file.endianness();
