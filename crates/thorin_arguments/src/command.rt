@@ -248,8 +248,7 @@ fn peer_words(of_llvm: bool) -> &'static [Word]
     if of_llvm { &PEER } else { &PEER[..17] }
 }
 
-/// What `--version` prints behind the program's name: this version, and the commit where one is
-/// named.
+/// What `--version` prints behind the program's name: this version, and the commit, if any.
 #[tactic(auto, unfolding(crate::specs::Versions::version_with))]
 pub(crate) fn version_with(alloc: Global, version: &str, commit: &str) -> Result<String, AllocError>
     ensures { IfOk result (λ text. string_bytes text ≡ version_with version.now commit.now) }

@@ -43,8 +43,7 @@ pub(crate) fn cut_at_last(text: &str, mark: char) -> (&str, &str)
     }
 }
 
-/// The words of a line of the peer of this name, as its grammar has them: long options, up to a
-/// word `--`, have whole names.
+/// The words of this peer's line as its grammar has them: long options up to `--` in full.
 pub(crate) fn completed(
     alloc: Global,
     name: &str,
