@@ -69,8 +69,7 @@ fn size_at(bytes: &[u8]) -> Result<usize, ArchiveError>
     Ok(size as usize)
 }
 
-/// What an entry is: the table of names from there on, the member if it is one, and the bytes
-/// behind.
+/// What an entry is: the table of names from there on, its member, if any, and the bytes behind.
 #[derive(Clone, Copy)]
 struct Entry<'a> {
     names: &'a [u8],

@@ -10,8 +10,7 @@ use dwp_base::Class;
 use dwp_elf_read::{ElfFile, Section};
 use std::alloc::AllocError;
 
-/// Where the next plain content begins in the file, and where the next new name stands in the table
-/// of names.
+/// Where the next plain content begins in the file, and the next new name in the table of names.
 #[derive(Clone, Copy)]
 struct Next {
     content: u64,

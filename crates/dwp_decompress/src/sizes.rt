@@ -27,8 +27,7 @@ use std::alloc::{AllocError, Global};
 /// is read, and compared with what is written.
 const MOST_TIMES: u64 = 16;
 
-/// How many bytes a byte of a file, or of its compressed sections, may bring: as many as zlib
-/// writes at most.
+/// How many bytes a byte of a file, or of its compressed sections, may bring: the most of zlib.
 const MOST_WRITTEN: u64 = 1032;
 
 /// The number of the section that has the names.
@@ -91,8 +90,7 @@ fn reads_more(file: &ElfFile<'_>, table: u64, most: u64) -> bool {
     false
 }
 
-/// How many bytes the plain contents of all sections are said to have together, of a file of that
-/// class and byte order.
+/// How many bytes the plain contents of all sections are said to have together.
 fn told_sizes(
     asked: Asked,
     class: Class,

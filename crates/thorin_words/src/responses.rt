@@ -16,8 +16,7 @@ use std::str;
 /// How many response files a command line may name, those among them that response files name.
 const MOST_FILES: u32 = 2000;
 
-/// How many bytes these files may have together, each as often as it is named, and those that the
-/// words cost beside.
+/// How many bytes these files, each as often as it is named, and the words beside may cost.
 const MOST_BYTES: u32 = 1 << 26;
 
 /// How many of them may be inside one another.
