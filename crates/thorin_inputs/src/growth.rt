@@ -61,8 +61,7 @@ impl Growth {
     }
 }
 
-/// What the objects that an input names add once more, beside how many bytes of it were read; and
-/// how often files are read again.
+/// What was read of an input, what its objects add once more, and how often files are read again.
 #[derive(Drop)]
 pub struct Repetitions {
     /// The files that were read, by device, number and size, since not every file system numbers

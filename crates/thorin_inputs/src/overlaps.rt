@@ -50,8 +50,7 @@ pub fn has_overlap(bytes: &[u8]) -> bool
     }
 }
 
-/// Whether the compressed sections of a file that `decompress` would make plain have more bytes
-/// than the file.
+/// Whether the compressed sections that `decompress` makes plain have more bytes than their file.
 pub fn has_compressed_overlap(bytes: &[u8]) -> bool
     ensures exact { result ≡ decompressing.overlaps OfUnits bytes.now (elf_of bytes.now) }
 {

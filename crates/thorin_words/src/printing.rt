@@ -27,8 +27,7 @@ pub fn printed(alloc: Global, text: &str) -> Result<String, AllocError>
     Ok(shown)
 }
 
-/// Whether a character is a control, a separator of lines or a mark that turns the direction of a
-/// text: none is printed as it is.
+/// Whether a character isn't printed as it is: a control, a line separator, a mark of direction.
 pub fn is_control(c: char) -> bool
     ensures { result ≡ spec.is_control c }
 {
