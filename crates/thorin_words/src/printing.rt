@@ -1,7 +1,6 @@
 //! Texts out of files and of the command line as they are printed.
 
-ghost use Rattle.std.specs.Prelude.{◌≡◌, ◌++◌, ◌∷◌, [], ◌<◌, IsTrue, string_bytes};
-ghost use Rattle.std.specs.Prelude.{IfOk, OnOk};
+ghost use Rattle.std.specs.Prelude.{◌≡◌, ◌++◌, ◌∷◌, [], ◌<◌, IsTrue, string_bytes, IfOk, OnOk};
 ghost use Rattle.thorin_words.specs.Printed as spec;
 ghost use Rattle.thorin_words.specs.Printed.{control, hex_digit, is_short_control, two_digits};
 

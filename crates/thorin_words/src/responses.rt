@@ -1,8 +1,7 @@
 //! `@FILE` among the words of a command line: a response file, as linkers have it.
 
-ghost use Rattle.std.specs.Prelude.{◌≡◌, ◌≤◌, ◌<◌, ◌+◌, ◌∷◌, [], ℕ, List, Option, map};
-ghost use Rattle.std.specs.Prelude.{length, IfOk, IfErr, OnOk, IfSome, option_map};
-ghost use Rattle.std.specs.Prelude.{Some, string_bytes};
+ghost use Rattle.std.specs.Prelude.{◌≡◌, ◌≤◌, ◌<◌, ◌+◌, ◌∷◌, [], ℕ, List, Option, map, Some};
+ghost use Rattle.std.specs.Prelude.{length, IfOk, IfErr, OnOk, IfSome, option_map, string_bytes};
 ghost use Rattle.thorin_words.specs.Responses.{is_among, Answers, AreRead, IsOfReading, IsRead};
 ghost use Rattle.thorin_words.specs.Responses.{Opens, words_in};
 ghost use Rattle.thorin_words.specs.Words.{words_of};
