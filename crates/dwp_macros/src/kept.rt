@@ -7,10 +7,10 @@ ghost use Rattle.dwp_elf_read.specs.View as view;
 ghost use Rattle.dwp_elf_read.specs.View.{elf};
 ghost use Rattle.dwp_macros.specs.Kept as spec;
 
-use crate::error::MacrosError;
 use dwp_base::{Class, SectionKind};
 use dwp_elf_read::{ElfFile, Section};
-use std::alloc::Global;
+use std::alloc::{AllocError, Global};
+use thiserror::Error;
 
 /// Which of an object's sections `.debug_macro.dwo` count.
 #[derive(Clone, Copy, Debug, PartialEq, Eq, Hash)]
@@ -33,6 +33,24 @@ impl KeptMacros {
             KeptMacros::Last => has_more,
             KeptMacros::None => true,
         }
+    }
+}
+
+/// Why sections of macros can't be emptied.
+#[derive(Clone, Copy, Debug, PartialEq, Eq, Hash, Error)]
+pub enum MacrosError {
+    /// The file would mean something else: one of these sections lies outside of it, or the section
+    /// headers lie in what another section holds.
+    #[error("Sections of macros can't be emptied")]
+    Unrepresentable,
+    /// Memory ran out.
+    #[error("Out of memory")]
+    Memory,
+}
+
+impl From<AllocError> for MacrosError {
+    fn from(_e: AllocError) -> MacrosError {
+        MacrosError::Memory
     }
 }
 
