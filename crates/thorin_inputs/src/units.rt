@@ -75,16 +75,8 @@ fn units_in<'a>(section: &Section<'a>, order: Endianness) -> Option<UnitHeaders<
 #[derive(Drop)]
 pub struct Encodings {
     alloc: Global,
-    /// What was found; none where there was no memory for it.
-    found: Cell<Option<Vec<FirstInput>>>,
-}
-
-/// The first input of an encoding.
-#[derive(Drop)]
-struct FirstInput {
-    encoding: Encoding,
-    order: Endianness,
-    place: String,
+    /// Each with the place of its first input; none where there was no memory for them.
+    found: Cell<Option<Vec<(Encoding, Endianness, String)>>>,
 }
 
 impl Encodings {
@@ -107,17 +99,12 @@ impl Encodings {
         };
         let is_known = found
             .iter()
-            .any(|first| first.encoding == encoding && first.order == order);
+            .any(|first| first.0 == encoding && first.1 == order);
         if !is_known {
             let Ok(place) = place_of(self.alloc, own, named) else {
                 return;
             };
-            let first = FirstInput {
-                encoding,
-                order,
-                place,
-            };
-            if found.push(first).is_err() {
+            if found.push((encoding, order, place)).is_err() {
                 return;
             }
         }
@@ -134,15 +121,14 @@ impl Encodings {
             _ => return Ok(None),
         };
         let mut lines = String::new(self.alloc);
-        for first in found.iter() {
-            let place = first.place.as_str();
-            let version = first.encoding.version;
-            let bits = match first.encoding.format {
+        for (encoding, order, place) in found.iter() {
+            let version = encoding.version;
+            let bits = match encoding.format {
                 Format::Dwarf32 => 32,
                 Format::Dwarf64 => 64,
             };
-            let size = first.encoding.address_size;
-            let order = match first.order {
+            let size = encoding.address_size;
+            let order = match *order {
                 Endianness::Little => "little-endian",
                 Endianness::Big => "big-endian",
             };
