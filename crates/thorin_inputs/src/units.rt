@@ -190,13 +190,12 @@ impl MacroWarnings {
         own: &str,
         named: Option<&str>,
     ) -> Result<(), AllocError> {
-        if !self.looks || self.found.get() {
+        if !self.looks
+            || self.found.get()
+            || !matches!(encoding_of(file), Some((encoding, _)) if encoding.version < 5)
+            || !loses_macros(file, KeptMacros::Last)
+        {
             return Ok(());
-        }
-        match encoding_of(file) {
-            Some((encoding, _)) if encoding.version < 5 && loses_macros(file, KeptMacros::Last) =>
-                {}
-            _ => return Ok(()),
         }
         self.found.set(true);
         let place = place_of(self.alloc, own, named)?;
