@@ -107,13 +107,10 @@ fn with_tip(alloc: Global, words: &[String], error: &Error) -> Result<String, Al
     let Some((front, usage)) = text.as_str().split_once("\n\nUsage: ") else {
         return Ok(text);
     };
-    let (said, is_advised) = match front.split_once("\n\n  tip: ") {
-        Some((said, _)) => (said, true),
-        None => (front, false),
-    };
+    let (said, advice) = front.split_once("\n\n  tip: ").unwrap_or((front, ""));
     let tip = match error.kind() {
         _ if peer_name(words).is_some() => String::new(alloc),
-        ErrorKind::InvalidSubcommand if !is_advised => String::from_str(alloc, PACK_TIP)?,
+        ErrorKind::InvalidSubcommand if advice.is_empty() => String::from_str(alloc, PACK_TIP)?,
         ErrorKind::UnknownArgument => tip_on(alloc, said, usage)?,
         _ => String::new(alloc),
     };
