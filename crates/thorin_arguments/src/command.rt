@@ -340,10 +340,8 @@ pub(crate) fn takers_of(alloc: Global, option: &str) -> Result<String, AllocErro
                 Word::Verbose => "-v",
                 _ => "",
             };
-            match long_name(*word) {
-                Some(long) => option == short || option.strip_prefix("--") == Some(long),
-                None => false,
-            }
+            let long = long_name(*word);
+            long.is_some() && (option == short || option.strip_prefix("--") == long)
         });
         if takes {
             names.push_str(if names.is_empty() { "" } else { ", " })?;
