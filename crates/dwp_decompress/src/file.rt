@@ -72,12 +72,10 @@ impl<'a> Change<'a> {
                 next.name = next.name.saturating_add(name.len() as u64);
             }
         }
-        if let Ok(content) = section.data() {
-            if section.is_compressed() {
-                if let Some(alignment) = content.get(2 * word..3 * word) {
-                    set_bytes(header, 16 + 4 * word, alignment);
-                }
-            }
+        if section.is_compressed() {
+            let content = section.data().unwrap_or(&[]);
+            let alignment = content.get(2 * word..3 * word).unwrap_or(&[]);
+            set_bytes(header, 16 + 4 * word, alignment);
         }
     }
 
