@@ -37,9 +37,7 @@ impl<'a> Change<'a> {
     fn set_word(&self, out: &mut [u8], place: usize, x: u64) {
         let order = self.file.endianness();
         match self.file.class() {
-            Class::Elf32 => {
-                set_bytes(out, place, &order.bytes_of_u32(x.min(0xffff_ffff) as u32));
-            }
+            Class::Elf32 => set_bytes(out, place, &order.bytes_of_u32(x.min(0xffff_ffff) as u32)),
             Class::Elf64 => set_bytes(out, place, &order.bytes_of_u64(x)),
         }
     }
