@@ -129,10 +129,8 @@ impl<'a> Change<'a> {
             }
             out.extend_from_slice(self.expected.added)?;
         }
-        let over = out.len() % 8;
-        if over != 0 {
-            out.extend_from_slice([0; 8].split_at(8 - over).0)?;
-        }
+        let fill = (8 - out.len() % 8) % 8;
+        out.extend_from_slice([0; 8].split_at(fill).0)?;
         let table = out.len() as u64;
         self.set_word(out, 24 + 2 * word_size_of(self.file.class()), table);
         self.add_headers(names, out)
