@@ -119,6 +119,7 @@ pub fn expanded<S: AsStr, F: ResponseFiles>(
 }
 
 /// A program's name, and no word behind it.
+#[tactic(auto, using(crate::proofs::Standing::alone))]
 fn program_alone(alloc: Global, program: &str) -> Result<Vec<String>, ResponseError>
     ensures alone { IfOk result (λ all. words_in all ≡ program.now ∷ []) }
     ensures cause { IfErr result (λ e. e ≡ errors.Memory) }
