@@ -24,6 +24,7 @@ fn is_blank(bytes: &[u8]) -> bool
 }
 
 /// The number that digits write, with blanks behind them.
+#[tactic(auto, using(crate::proofs::Decimals::decimal_end))]
 fn decimal(field: &[u8]) -> Option<u64>
     requires { length field.now ≤ 16 }
     ensures { result ≡ decimal field.now }
