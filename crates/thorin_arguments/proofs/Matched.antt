@@ -58,16 +58,6 @@ no_text e is = rw is (λ h. elim h [
 
 module _ (named : Option Text) (app : App) (is : IsLine named app) (line words : List Text)
     (are : AreReadAs named line words) where
-  matched : (m : ArgMatches) → fault_of app words ≡ [] → HasMatchesOf app words m
-      → AreMatchesOf named line (rows_of (found_of m)) (subcommand_rows_of m)
-  matched m none h = record {
-    app = app;
-    line = is;
-    taken = ap (fault_of app) (are app is) ∙ none;
-    rows_are = (h (simple named app is)).0 ∙ ap (matches_of app) (sym (are app is));
-    command_is = (h (simple named app is)).1 ∙ ap (subcommand_of app) (sym (are app is));
-  }
-
   -- matches that are tested
   pub read : (m : ArgMatches)
       → (is_simple_and_free app ≡ true → fault_of app words ≡ []) → HasMatchesOf app words m
@@ -82,7 +72,13 @@ module _ (named : Option Text) (app : App) (is : IsLine named app) (line words :
   )
     where
       fine : AreMatchesOf named line (rows_of (found_of m)) (subcommand_rows_of m)
-      fine = matched m (none (free named app is)) h
+      fine = record {
+        app = app;
+        line = is;
+        taken = ap (fault_of app) (are app is) ∙ none (free named app is);
+        rows_are = (h (simple named app is)).0 ∙ ap (matches_of app) (sym (are app is));
+        command_is = (h (simple named app is)).1 ∙ ap (subcommand_of app) (sym (are app is));
+      }
 
   -- words that weren't read
   pub unread : (e : Error) → (is_simple_and_free app ≡ true → HasKind (fault_of app words) e)
