@@ -85,17 +85,15 @@ module _ (named : Option Text) (app : App) (is : IsLine named app) (line words :
       → IsUnread named line e
   unread e h = elim (h (free named app is)) [
     | inl k ↦ inl k
-    | inr among ↦ go among (is_text (kind_of e))
+    | inr among ↦ (
+        let own : IsAmong (kind_of e) (fault_of app (read_words named app line)) =
+        rw (are app is) among in
+        elim (is_text (kind_of e)) [
+          | inl t ↦ inr (inl (t, (app, is, kind_of e, own, t)))
+          | inr t ↦ inr (inr (t, inl (app, is, kind_of e, own, t)))
+        ]
+        )
   ]
-    where
-      among_own : IsAmong (kind_of e) (fault_of app words)
-          → IsAmong (kind_of e) (fault_of app (read_words named app line))
-      among_own among = rw (are app is) among
-
-      go : IsAmong (kind_of e) (fault_of app words) → IsText (kind_of e) ⊎ (¬ IsText (kind_of e))
-          → IsUnread named line e
-      go among (inl t) = inr (inl (t, (app, is, kind_of e, among_own among, t)))
-      go among (inr t) = inr (inr (t, inl (app, is, kind_of e, among_own among, t)))
 
 -- which errors are of a text that is asked for, by where they are printed
 pub by_stream : (b : Bool) (k : ErrorKind)
