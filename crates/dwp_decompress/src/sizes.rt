@@ -47,7 +47,7 @@ pub fn names_number(bytes: &[u8], file: &ElfFile<'_>) -> Option<usize>
 }
 
 /// Adds the plain name of a section, if that is asked for, compressed, and has an older name.
-#[tactic(auto, unfolding(crate::specs::Names::added_name_of, crate::specs::Names::plain_name))]
+#[tactic(auto, unfolding(crate::specs::Names::added_name_of, crate::specs::Names::plain_name), using(crate::proofs::Sums::older_long))]
 fn add_name_of(asked: Asked, section: &Section<'_>, added: &mut Vec<u8>) -> Result<(), AllocError>
     ensures { OnOk result (added.new.items
         ≡ added.old.items ++ added_name_of asked (view.section section.now)) }
