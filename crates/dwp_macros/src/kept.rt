@@ -71,7 +71,7 @@ fn is_index(section: &Section<'_>) -> bool
 }
 
 /// Whether macros of an object go; of a package none do.
-#[tactic(auto, unfolding(crate::specs::Kept::is_changed), using(crate::proofs::Walks::none_lose))]
+#[tactic(auto, unfolding(crate::specs::Kept::is_changed), using(crate::proofs::Walks::none_lose, crate::proofs::Walks::any_end, crate::proofs::Walks::lose_end, dwp_base::proofs::Finds::slice_get_none))]
 fn is_changed(file: &ElfFile<'_>, kept: KeptMacros) -> bool
     ensures { result ≡ spec.is_changed kept (elf file.now).sections }
 {
