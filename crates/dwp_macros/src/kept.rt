@@ -113,7 +113,7 @@ fn is_kept(old: &Section<'_>, new: &Section<'_>, go: bool) -> bool
 }
 
 /// Whether a file is what another is to become.
-#[tactic(auto, unfolding(crate::specs::Kept::kept_file), using(dwp_elf_read::proofs::Compared::same_file))]
+#[tactic(auto, unfolding(crate::specs::Kept::kept_file), using(dwp_elf_read::proofs::Compared::same_file, crate::proofs::Walks::any_end, crate::proofs::Walks::kept_end))]
 fn agrees(old: &ElfFile<'_>, new: &ElfFile<'_>, kept: KeptMacros) -> bool
     ensures { IsTrue result → elf new.now ≡ spec.kept_file kept (elf old.now) }
 {
