@@ -75,13 +75,14 @@ module _ (asked : Asked) (class : Class) (order : Endianness) (sections : List S
   contents_end h = rw (drop_all i sections h, append-nil front) refl
 
 -- names that are added
-pub names_step : (asked : Asked) (sections : List SectionMeaning) (i : ℕ) (front : List ℕ)
+pub names_step : (asked : Asked) (sections : List SectionMeaning) (i : ℕ) (front more : List ℕ)
     (section : SectionMeaning) → slice_get sections i ≡ Some section
-    → front ++ added_names asked (drop i sections)
-    ≡ (front ++ added_name_of asked section) ++ added_names asked (drop (i + 1) sections)
+    → more ≡ front ++ added_name_of asked section
+    → more ++ added_names asked (drop (i + 1) sections)
+    ≡ front ++ added_names asked (drop i sections)
 unfolding added_names
-names_step asked sections i front section at = rw (drop_step sections i section at) (sym
-    (append_assoc front (added_name_of asked section) (added_names asked (drop (i + 1) sections))))
+names_step asked sections i front more section at is = rw (drop_step sections i section at, is)
+    (append_assoc front (added_name_of asked section) (added_names asked (drop (i + 1) sections)))
 
 pub names_end : (asked : Asked) (sections : List SectionMeaning) (i : ℕ) (front : List ℕ)
     → length sections ≤ i → front ++ added_names asked (drop i sections) ≡ front

@@ -63,6 +63,7 @@ fn add_name_of(asked: Asked, section: &Section<'_>, added: &mut Vec<u8>) -> Resu
 }
 
 /// The names that the table gets.
+#[tactic(auto, using(crate::proofs::Sections::names_step, crate::proofs::Sections::names_end, dwp_base::proofs::Finds::slice_get_none))]
 pub fn added_names(alloc: Global, asked: Asked, file: &ElfFile<'_>) -> Result<Vec<u8>, AllocError>
     ensures { IfOk result (λ added. added.items ≡ added_names asked (elf file.now).sections) }
 {
