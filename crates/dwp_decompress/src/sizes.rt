@@ -129,6 +129,7 @@ fn added_size(asked: Asked, section: &Section<'_>) -> usize
 }
 
 /// How many it gets for all of them.
+#[tactic(auto, using(crate::proofs::Sums::added_step, crate::proofs::Sums::added_end))]
 fn added_sizes(asked: Asked, file: &ElfFile<'_>) -> Option<u64>
     ensures { IfSome result (λ size. size
         ≡ length (added_names asked (elf file.now).sections)) }
