@@ -155,10 +155,8 @@ pub fn size_of(file: &ElfFile<'_>, number: usize) -> u64
 fn tells_more(asked: Asked, bytes: &[u8], file: &ElfFile<'_>, told: u64) -> bool
     ensures { result ≡ tells_more asked bytes.now (elf file.now) told }
 {
-    if told <= (bytes.len() as u64).saturating_mul(MOST_WRITTEN) {
-        return false;
-    }
-    !have_more(asked, file, (told - 1) / MOST_WRITTEN)
+    told > (bytes.len() as u64).saturating_mul(MOST_WRITTEN)
+        && !have_more(asked, file, (told - 1) / MOST_WRITTEN)
 }
 
 /// How many bytes the file has once there are so many plain ones.
