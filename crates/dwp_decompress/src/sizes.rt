@@ -119,11 +119,8 @@ fn told_sizes(
 fn added_size(asked: Asked, section: &Section<'_>) -> usize
     ensures { result ≡ length (added_name_of asked (view.section section.now)) }
 {
-    if !is_compressed(asked, section) {
-        return 0;
-    }
     match section.name() {
-        Ok(name) if is_older(name) => name.len(),
+        Ok(name) if is_older(name) && is_compressed(asked, section) => name.len(),
         _ => 0,
     }
 }
