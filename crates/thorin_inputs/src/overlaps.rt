@@ -215,13 +215,10 @@ fn has_row_between(index: &[u8], order: Endianness) -> bool
 fn is_row_between(index: &UnitIndex<'_>, number: u32) -> bool
     ensures { result ≡ is_row_between (row_in index.now number) }
 {
-    match index.row(number) {
-        Ok(row) => match row.range(SectionKind::StrOffsets) {
-            Some(range) => range.offset.0 % 4 != 0,
-            None => false,
-        },
-        Err(_) => false,
-    }
+    let Ok(row) = index.row(number) else {
+        return false;
+    };
+    matches!(row.range(SectionKind::StrOffsets), Some(range) if range.offset.0 % 4 != 0)
 }
 
 impl InnerStrings<'_> {
