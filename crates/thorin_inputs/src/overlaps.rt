@@ -299,10 +299,7 @@ fn word_count(size: usize, step: usize) -> usize
 fn begins_inside(strings: &[u8], place: u32) -> bool
     ensures { result ≡ begins_inside strings.now place }
 {
-    match strings.get((place as usize).wrapping_sub(1)) {
-        Some(before) => *before != 0,
-        None => false,
-    }
+    matches!(strings.get((place as usize).wrapping_sub(1)), Some(before) if *before != 0)
 }
 
 /// How many bytes a string has that begins at a place, with the zero byte at its end; those to the
