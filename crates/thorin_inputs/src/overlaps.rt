@@ -197,6 +197,7 @@ fn step_of(used: UsedSections<'_>, order: Endianness) -> usize
 }
 
 /// Whether the string offsets of some row of an index, if it is one, begin between words.
+#[tactic(auto, using(crate::proofs::InnerPlaces::row_passed))]
 fn has_row_between(index: &[u8], order: Endianness) -> bool
     ensures { result ≡ has_row_between (index_of order index.now) }
 {
