@@ -22,13 +22,9 @@ pub fn is_peer(program: &str) -> bool
 {
     let (_folders, name) = cut_at_last(program, '/');
     let (front, last) = cut_at_last(name, '-');
-    if last == "dwp" {
-        return true;
-    }
-    match last.as_bytes().first() {
-        Some(byte) if *byte > 47 && *byte < 58 => cut_at_last(front, '-').1 == "dwp",
-        _ => false,
-    }
+    last == "dwp"
+        || (matches!(last.as_bytes().first(), Some(byte) if *byte > 47 && *byte < 58)
+            && cut_at_last(front, '-').1 == "dwp")
 }
 
 /// What stands before the last of a mark, and behind it; where there is none all is behind it.
