@@ -209,23 +209,17 @@ fn wrong_in(is_peer: bool, matches: &ArgMatches<'_>) -> Option<&'static str>
     let (name, words) = matches.subcommand()?;
     match name {
         "pack" => wrong_in_packing(false, words),
-        "find" if is_given(words, "section") => {
-            if is_given(words, "string") {
-                Some("the argument '--section <SECTION>' cannot be used with '--string <N>'")
-            } else if has_flag(words, "json") {
-                Some("the argument '--section <SECTION>' cannot be used with '--json'")
-            } else {
-                None
-            }
+        "find" if is_given(words, "section") && is_given(words, "string") => {
+            Some("the argument '--section <SECTION>' cannot be used with '--string <N>'")
         }
-        "list" if has_flag(words, "columns") => {
-            if has_flag(words, "names") {
-                Some("the argument '--columns' cannot be used with '--names'")
-            } else if has_flag(words, "json") {
-                Some("the argument '--columns' cannot be used with '--json'")
-            } else {
-                None
-            }
+        "find" if is_given(words, "section") && has_flag(words, "json") => {
+            Some("the argument '--section <SECTION>' cannot be used with '--json'")
+        }
+        "list" if has_flag(words, "columns") && has_flag(words, "names") => {
+            Some("the argument '--columns' cannot be used with '--names'")
+        }
+        "list" if has_flag(words, "columns") && has_flag(words, "json") => {
+            Some("the argument '--columns' cannot be used with '--json'")
         }
         _ => None,
     }
