@@ -191,8 +191,7 @@ impl Error {
         }
     }
 
-    /// The texts of errors of sections and of what a package is made of, and of causes; the other
-    /// kinds have theirs above.
+    /// The texts of errors of sections and of what a package is made of, and of causes.
     #[tactic(auto, using(crate::proofs::Hex::hex8_written))]
     fn write_section_text<W: fmt::Write>(&self, f: &mut fmt::Formatter<W>) -> fmt::Result
         ensures { DisplaysOnOk W.write_str_gives f.old result
