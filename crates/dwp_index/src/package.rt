@@ -269,8 +269,7 @@ pub fn read_index<'a>(
     if bytes.is_empty() {
         return Ok(None);
     }
-    let index = UnitIndex::parse(bytes, order).map_err(PackageError::Index)?;
-    Ok(Some(index))
+    Ok(Some(UnitIndex::parse(bytes, order).map_err(PackageError::Index)?))
 }
 
 /// The row of a number, counted from 1: `UnitIndex::row` with an error of packages.
