@@ -45,23 +45,18 @@ pub numbered_pushed : (shared more : List IndexEntry) (rows : List Row) (row : R
     → slice_get more row.shared ≡ Some rest → AreNumbered shared rows
     → AreNumbered more (rows ++ row ∷ [])
 numbered_pushed shared more rows row rest kept there numbered =
-    All-push (λ (r : Row). r.shared < length more) rows row (λ k d less. omega (
-      arith,
-      at_least shared more kept,
-      numbered k d less,
-    )) (slice_get_within more row.shared rest there)
+    All-push (λ (r : Row). r.shared < length more) rows row
+    (λ k d less. omega (arith, at_least shared more kept, numbered k d less))
+    (slice_get_within more row.shared rest there)
 
 pub pushed : (shared more : List IndexEntry) (rows : List Row) (row : Row) (rest entry : IndexEntry)
     → take (length shared) more ≡ shared → slice_get more row.shared ≡ Some rest
     → with_own row.id row.own rest ≡ entry → AreNumbered shared rows
     → map (row_of more) (rows ++ row ∷ []) ≡ map (row_of shared) rows ++ entry ∷ []
 pushed shared more rows row rest entry kept there whole numbered =
-    map_push (row_of more) rows row
-    ∙ rw (
-      kept_rows shared more rows kept numbered,
-      get_or_from_slice_get more row.shared rest blank there,
-      whole,
-    ) refl
+    let same = kept_rows shared more rows kept numbered in
+    let last = get_or_from_slice_get more row.shared rest blank there in
+    map_push (row_of more) rows row ∙ rw (same, last, whole) refl
 
 -- what holds whatever came holds of an error
 pub on_err : {T E P : Type 0} (r : Result T E) → P → OnErr r P
@@ -108,11 +103,9 @@ one_more n e a b within last same =
 -- no row number of a table is above the number of rows
 pub rows_within : (entries : List IndexEntry) (slots : List ℕ)
     → IsHashTable (entry_ids entries) slots → All (λ (row : ℕ). row ≤ length entries) slots
-rows_within entries slots table k d less = rw (get_or_default slots k d 0 less) (omega (
-  arith,
-  table.only k,
-  length-map entries (λ (entry : IndexEntry). identifier_of entry.id),
-))
+rows_within entries slots table k d less =
+    let count = length-map entries (λ (entry : IndexEntry). identifier_of entry.id) in
+    rw (get_or_default slots k d 0 less) (omega (arith, table.only k, count))
 
 -- their tests are those under the first one's encoding
 pub tests_of_some : (entries : List IndexEntry) (encoding : Encoding) → 0 < length entries
