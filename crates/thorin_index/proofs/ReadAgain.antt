@@ -67,10 +67,8 @@ put_8 Big f = record {
 pub after_front : (n : ℕ) (front rest : List ℕ) → length front ≡ n → after n (front ++ rest) ≡ Ok
     rest
 after_front n front rest e =
-    rw (
-      le-ltb (length (front ++ rest)) n (omega (arith, length-append front rest)),
-      drop_at front rest n e,
-    ) refl
+    let enough = le-ltb (length (front ++ rest)) n (omega (arith, length-append front rest)) in
+    rw (enough, drop_at front rest n e) refl
 
 -- ---- some items, one after the other
 module _ {X Y : Type 0} {put : X → List ℕ} {read : List ℕ → Y} {is : X → Y} {Fits : X → Type 0}
@@ -282,11 +280,9 @@ index_is_read order encoding entries bytes tests small_ids text =
     let kinds = used_sections entries in
     let ids = entry_ids entries in
     let count : length ids ≡ length entries = length-map entries (λ e. identifier_of e.id) in
-    let columns : length kinds ≤ 10 = omega (
-      arith,
-      length-filter (is_used entries) contribution_kinds,
-      count_by-le-length (is_used entries) contribution_kinds,
-    ) in
+    let used = length-filter (is_used entries) contribution_kinds in
+    let most = count_by-le-length (is_used entries) contribution_kinds in
+    let columns : length kinds ≤ 10 = omega (arith, used, most) in
     let signatures = put_8 order (signature_of ids) in
     let slots = put_4 order (λ (row : ℕ). row) in
     let offsets = put_row order kinds (λ (e : IndexEntry) (k : SectionKind).
