@@ -29,13 +29,9 @@ loop-i-preserved g c =
     ∙ rw (← c.index-units-i.is, ← c.index.ensures) refl in
     let placed = c.place_row.ensures in
     let before = c.loop-i.invariant in
+    let same = c.loop-i.auto.table in
     let long : length c.loop-i.table ≡ c.slot_count.result =
-    omega (
-      arith,
-      c.loop-i.auto.table,
-      c.as_mut_slice-table.ensures.len,
-      c.in_ok-slots.ensures.len,
-    ) in
+    omega (arith, same, c.as_mut_slice-table.ensures.len, c.in_ok-slots.ensures.len) in
     record {
       table = rw more (placed.table ids before.table (omega (arith, count))
           (omega (arith, long, c.slot_count.ensures.room)));
