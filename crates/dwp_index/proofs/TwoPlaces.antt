@@ -86,14 +86,9 @@ module _ {order : Endianness} where
           taken = n;
           fits = fits;
           left = refl;
-          again = λ k h. (
-            _,
-            rw (
-              le-ltb (length (take k bytes)) n (omega (arith, length-take k bytes)),
-              same p q k bytes h,
-            ) refl,
-            refl,
-          );
+          again = λ k h.
+              let enough = le-ltb (length (take k bytes)) n (omega (arith, length-take k bytes)) in
+              (_, rw (enough, same p q k bytes h) refl, refl);
         }));
   }
 
