@@ -138,11 +138,4 @@ module _ (index : Index) (kind : SectionKind) (range : Contribution) where
       found_there None none = grind (arith, none number, first.low, first.high, passes)
       found_there (Some i) at =
           let row = row_found i at.here in
-          grind (
-            arith,
-            first.first i row.0,
-            row.1,
-            row.2,
-            at.before number first.low,
-            passes,
-          )
+          grind (arith, first.first i row.0, row.1, row.2, at.before number first.low, passes)

@@ -84,12 +84,9 @@ module _ (names : NamesLaw) (order : Endianness) (encoding : Encoding)
   same_size last r rs old new rewritten next named =
       ⊎_elim
       (λ (none : r.size ≡ 0). ap length (named.none none) ∙ sym none)
-      (λ some. omega (
-        arith,
-        named.long some,
-        div-add-mod (r.size - header_size encoding)
-            (offset_size encoding.format),
-      ))
+      (λ some. let long = named.long some in
+      omega (arith, long, div-add-mod (r.size - header_size encoding)
+      (offset_size encoding.format)))
       (cases_eq r.size 0)
 
   module _ (at : ℕ) (x : Contribution) (xs : List Contribution) (before between : List (List ℕ))
