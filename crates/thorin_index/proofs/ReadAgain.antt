@@ -75,13 +75,9 @@ module _ {X Y : Type 0} {put : X → List ℕ} {read : List ℕ → Y} {is : X �
     {width : ℕ} (one : IsPut put read is Fits width) where
   pub length_put : (xs : List X) → length (flat_map put xs) ≡ width * length xs
   length_put [] = omega arith
-  length_put (x ∷ xs) = omega (
-    arith,
-    length-append (put x) (flat_map put xs),
-    one.len x,
-    length_put xs,
-    mul-suc width (length xs),
-  )
+  length_put (x ∷ xs) =
+      let both = length-append (put x) (flat_map put xs) in
+      omega (arith, both, one.len x, length_put xs, mul-suc width (length xs))
 
   pub after_put : (xs : List X) (rest : List ℕ) → after (width * length xs)
       (flat_map put xs ++ rest) ≡ Ok rest
