@@ -97,12 +97,7 @@ module _ (index : Index) (n : ℕ) where
     pub row_stored : (r : Contribution) → range_of_row index StrOffsets (n + 1) ≡ Some r
         → new ≡ insert_key pair_cmp keys (r.offset.0, r.size) → left (n + 1) new ≡ left n keys
     row_stored r there stored =
-        rw (
-          ranges_from index StrOffsets n less,
-          there,
-          stored,
-          map-insert_key keys (r.offset.0, r.size),
-        ) refl
+        rw (ranges_from index StrOffsets n less, there, stored, map-insert_key) refl
 
     pub row_absent : range_of_row index StrOffsets (n + 1) ≡ None → new ≡ keys
         → left (n + 1) new ≡ left n keys
