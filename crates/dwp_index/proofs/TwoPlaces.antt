@@ -3,7 +3,7 @@
 use Rattle.std.proofs.Common.{Bool, Err, List, Ok, Result, add-zero, add_assoc, ap, arith, cond}
 use Rattle.std.proofs.Common.{drop, eqb, false, leb, length, ltb, refl, subst, suc, sym, take, true}
 use Rattle.std.proofs.Common.{zero, ℕ, ◌&&◌, ◌+◌, ◌-◌, ◌∙◌, ◌≡◌, ◌≤◌}
-use Rattle.std.proofs.lemmas.Bool.{eqb-false, le-ltb, ltb-false}
+use Rattle.std.proofs.lemmas.Bool.{le-ltb, ltb-false}
 use Rattle.std.proofs.lemmas.List.{drop-drop, drop-take, get_or-take, length-drop, length-take}
 use Rattle.std.proofs.lemmas.List.{length-take-le, take-take}
 use Rattle.std.specs.Prelude.{Some, [], slice_get}
@@ -15,7 +15,7 @@ use Rattle.dwp_bytes.specs.Input.{Input, after, byte_at, is_address_size, number
 use Rattle.dwp_bytes.specs.Input.{relocated_at, section, split_at}
 use Rattle.dwp_bytes.specs.declared.encoding.Format.{Format}
 use Rattle.dwp_units.proofs.Readings.{Gives, error_gives, more_gives, test_gives, then_gives}
-use Rattle.dwp_units.proofs.Readings.{then_split, value_gives, was}
+use Rattle.dwp_units.proofs.Readings.{then_split, value_gives}
 use Rattle.dwp_units.specs.Units.{Unit, UnitsAreTaken, address_size_at, header_at}
 use Rattle.dwp_units.specs.Units.{initial_length_at, listed, newer_at, older_at, older_type_at}
 use Rattle.dwp_units.specs.Units.{type_at, unit_at, unit_code_at, unit_type_at, units, units_within}
@@ -298,32 +298,10 @@ module _ (taken : UnitsAreTaken) (order : Endianness) (place : UnitSection) (u :
   units_alone bytes k given = within_alone (length bytes) 0 bytes k given
 
 -- ---- a unit of version 5 is read the same in either section
-older_version : (place : UnitSection) (format : Format) (version : ℕ) (whole i : Input)
-    → Gives Unit (older_at place format version whole i) (λ u. u.encoding.version ≡ version)
-unfolding older_at
-older_version place format version whole i = then_gives (was (offset_at format i)) (λ a _.
-    then_gives (was (address_size_at a.1)) (λ b _. then_gives
-    (was (older_type_at place format b.1)) (λ c _. value_gives refl)))
-
-header_anywhere : (place other : UnitSection) (format : Format) (whole i : Input)
-    → Gives Unit (header_at place format whole i) (λ u. u.encoding.version ≡ 5
-    → header_at other format whole i ≡ Ok u)
-unfolding header_at
-header_anywhere place other format whole i = then_gives (was (number_at 2 i)) (λ v is. test_gives
-    (eqb v.0 5)
-    (λ yes. more_gives (was (newer_at format whole v.1)) (λ u read five. rw (is, yes) read))
-    (λ no. test_gives (leb 2 v.0 && leb v.0 4) (λ _.
-    more_gives (older_version place format v.0 whole v.1) (λ u old five.
-    absurd (eqb-false v.0 5 no (sym old ∙ five)))) (λ _. error_gives)))
-
-unit_anywhere : (place other : UnitSection) (i : Input) → Gives (Unit × Input) (unit_at place i)
-    (λ x. x.0.encoding.version ≡ 5 → unit_at other i ≡ Ok x)
-unfolding unit_at
-unit_anywhere place other i = then_gives (was (initial_length_at i)) (λ length first. then_gives
-    (was (split_at length.0.1 length.1)) (λ body second. then_gives
-    (was (split_at (body.1.place - i.place) i)) (λ whole third. then_gives
-    (header_anywhere place other length.0.0 whole.0 body.0) (λ u fourth. value_gives (λ five.
-    rw (first, second, third, fourth five) refl)))))
+pub unit_anywhere : (place other : UnitSection) (i : Input) (u : Unit) (rest : Input)
+    → u.encoding.version ≡ 5 → unit_at place i ≡ Ok (u, rest) → unit_at other i ≡ Ok (u, rest)
+unfolding unit_at header_at older_at
+unit_anywhere place other i u rest five h = grind arith
 
 pub encoding_anywhere : (order : Endianness) (place other : UnitSection) (bytes : List ℕ)
     (encoding : Encoding) → encoding.version ≡ 5 → encoding_in order place bytes ≡ Ok encoding
@@ -333,5 +311,5 @@ encoding_anywhere order place other bytes encoding five e =
     let a = bind-was (unit_at place (section order bytes)) (λ unit.
     Ok unit.0.encoding) encoding e in
     let same : a.0.0.encoding ≡ encoding = cc in
-    rw ((unit_anywhere place other (section order bytes)).gives a.0 a.1
-    (ap (λ (x : Encoding). x.version) same ∙ five)) a.2
+    let version = ap (λ (x : Encoding). x.version) same ∙ five in
+    rw (unit_anywhere place other (section order bytes) a.0.0 a.0.1 version a.1) a.2
