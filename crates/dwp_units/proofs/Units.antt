@@ -19,6 +19,7 @@ use Rattle.dwp_units.proofs.Readings.{test_gives, more_gives, goes_none, goes_so
 use Rattle.dwp_units.proofs.Readings.{goes_after, reads_byte, goes, number_goes, relocated_goes}
 use Rattle.dwp_units.proofs.Readings.{then_split, goes_least, size, goes_length, after-zero}
 use Rattle.dwp_units.proofs.Readings.{after-after, by-result, Steps, by_step}
+use Rattle.std.proofs.lemmas.Bool.Decides.{nat_tests}
 use Rattle.std.proofs.lemmas.List.Concat.{flat_map-cons}
 use Rattle.dwp_base.specs.Reading.{Reads}
 use Rattle.dwp_units.specs.declared.unit.UnitHeader.{UnitHeader}
@@ -248,13 +249,7 @@ units_behind section (u ∷ us) others i e =
 
 -- no unit stands where no byte is left
 no_byte : (section : UnitSection) (i : Input) → units section i ≡ [] → i.bytes ≡ []
-no_byte section i e = by-bool _ (eqb (length i.bytes) 0)
-    (λ none. nil_from_length i.bytes (eqb-true _ _ none))
-    (λ some. absurd (never (unit_at section i) (rw (units-cases section i, some) at e)))
-  where
-    never : (r : Result (Unit × Input) ReadError) → listed r (units section) ≡ [] → ⊥
-    never (Ok x) e = absurd cc
-    never (Err f) e = absurd cc
+no_byte section i e = grind (arith, nat_tests, units-cases section i, nil_from_length i.bytes)
 
 pub units_whole : (section : UnitSection) (i : Input) (read : List Unit) → units section i ≡ map Ok
     read → flat_map unit_bytes read ≡ i.bytes
