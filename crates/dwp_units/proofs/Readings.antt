@@ -19,8 +19,7 @@ one_answer r p q = cc
 -- steps that go on alike are alike
 pub bind_alike : {A B E : Type 0} (r : Result A E) (f g : A → Result B E)
     → ((x : A) → r ≡ Ok x → f x ≡ g x) → (r >>= f) ≡ (r >>= g)
-bind_alike (Ok x) f g same = same x refl
-bind_alike (Err e) f g same = refl
+bind_alike r f g same = grind (arith, same)
 
 pub bind-bind : {A B C E : Type 0} (r : Result A E) (f : A → Result B E) (g : B → Result C E)
     → ((r >>= f) >>= g) ≡ (r >>= λ x. f x >>= g)
