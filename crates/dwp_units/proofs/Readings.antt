@@ -23,8 +23,7 @@ bind_alike r f g same = grind (arith, same)
 
 pub bind-bind : {A B C E : Type 0} (r : Result A E) (f : A → Result B E) (g : B → Result C E)
     → ((r >>= f) >>= g) ≡ (r >>= λ x. f x >>= g)
-bind-bind (Ok x) f g = refl
-bind-bind (Err e) f g = refl
+bind-bind r f g = grind arith
 
 pub bind-cond : {A B E : Type 0} (b : Bool) (r s : Result A E) (f : A → Result B E)
     → (cond b r s >>= f) ≡ cond b (r >>= f) (s >>= f)
