@@ -15,7 +15,6 @@ use Rattle.dwp_table.specs.declared.object.DwarfObject.{DwarfObject}
 use Rattle.thorin_index.specs.EntryTests.{count_test, index_tests, tests_under}
 use Rattle.thorin_index.specs.IndexText.{IsIndexOf, index_bytes}
 use Rattle.thorin_index.specs.declared.rows.Own.{Own}
-use Rattle.thorin_index.specs.declared.rows.Own.TheVariants.{Info, Nothing, Types}
 use Rattle.thorin_index.specs.declared.rows.Row.{Row}
 use Rattle.thorin_index.proofs.Each.{by_contribution}
 
@@ -64,9 +63,7 @@ on_err (Ok x) p = tt
 on_err (Err e) p = p
 
 own_id : (id : DwarfObject) (own : Own) (entry : IndexEntry) → (with_own id own entry).id ≡ id
-own_id id Nothing entry = refl
-own_id id (Info range) entry = refl
-own_id id (Types range) entry = refl
+own_id id own entry = grind arith
 
 -- the identifiers of rows are those of their entries
 pub row_ids : (shared : List IndexEntry) (rows : List Row)
