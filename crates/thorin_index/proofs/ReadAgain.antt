@@ -339,8 +339,7 @@ found_at p xs i at =
 any-made : {X Y : Type 0} (p : X → Bool) (f : X → Y) (q : Y → Bool) (xs : List X)
     → list_any q (map f (filter p xs)) ≡ list_any (λ x. p x && q (f x)) xs
 any-made p f q [] = refl
-any-made p f q (x ∷ xs) = by-bool _ (p x) (λ yes. rw (yes, any-made p f q xs) refl)
-    (λ no. rw (no, any-made p f q xs) refl)
+any-made p f q (x ∷ xs) = grind (arith, any-made p f q xs)
 
 module _ (version : ℕ) (entries : List IndexEntry) (passed : HavePassed version entries) where
   abbrev kinds : List SectionKind
