@@ -56,8 +56,7 @@ of-other kind s other = by-bool (is_of_kind kind s ≡ false) (is_of_kind kind s
 -- ---- one more section is met
 passed : (kind : SectionKind) (met : Option (ℕ × Section)) (i : ℕ) (next : Section)
     → is_of_kind kind (section next) ≡ false → found_with kind met i next ≡ met
-passed kind (Some first) i next other = refl
-passed kind None i next other = rw other refl
+passed kind met i next other = grind (arith, other)
 
 -- one that has no bytes
 pub passed-empty : (kind : SectionKind) (met : Option (ℕ × Section)) (i : ℕ) (next : Section)
