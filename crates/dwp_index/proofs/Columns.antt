@@ -122,10 +122,6 @@ position_push test i (x ∷ xs) n =
     by-bool _ (test x) (λ here. rw here refl)
     (λ other. rw (other, position_push test (i + 1) xs n, count) refl)
 
-or_none : (o : Option ℕ) → option_or o None ≡ o
-or_none None = refl
-or_none (Some i) = refl
-
 abbrev place_of : Option ℕ → List ℕ → Option ℕ
 place_of number columns = option_and_then (λ c. position_from (λ n. eqb n c) 0 columns) number
 
@@ -150,7 +146,7 @@ same_place version n columns kind = go (column_of version kind)
         → place_of o (columns ++ n ∷ []) ≡ place_of o columns
     go None other = refl
     go (Some c) other = position_push (λ x. eqb x c) 0 columns n
-        ∙ rw (ne_eqb n c (λ e. other (ap Some (sym e)))) (or_none _)
+        ∙ rw (ne_eqb n c (λ e. other (ap Some (sym e)))) (grind arith)
 
 -- where columns stand once there is one more, of a section that had none
 pub one_more : (old new : ByKind ℕ) (version count n : ℕ) (columns more : List ℕ)
