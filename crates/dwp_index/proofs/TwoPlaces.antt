@@ -9,7 +9,6 @@ use Rattle.std.proofs.lemmas.List.{length-take-le, take-take}
 use Rattle.std.specs.Prelude.{Some, [], slice_get}
 use Rattle.dwp_index.proofs.Terms.{Dwarf32, Dwarf64, Encoding, Endianness, ReadError, UnexpectedEof}
 use Rattle.dwp_index.proofs.Terms.{UnitSection, bind-was, encoding_in, number, ◌>>=◌}
-use Rattle.dwp_base.specs.declared.endian.Endianness.TheVariants.{Big, Little}
 use Rattle.dwp_bytes.specs.Encoding.{offset_size}
 use Rattle.dwp_bytes.specs.Input.{Input, after, byte_at, is_address_size, number_at, offset_at}
 use Rattle.dwp_bytes.specs.Input.{relocated_at, section, split_at}
@@ -59,16 +58,13 @@ HasFront n = (order : Endianness) (k : ℕ) (bytes : List ℕ) → n ≤ k
     → number order n (take k bytes) ≡ number order n bytes
 
 two : HasFront 2
-two Little k bytes h = grind (arith, get_or-take)
-two Big k bytes h = grind (arith, get_or-take)
+two order k bytes h = grind (arith, get_or-take)
 
 four : HasFront 4
-four Little k bytes h = grind (arith, get_or-take)
-four Big k bytes h = grind (arith, get_or-take)
+four order k bytes h = grind (arith, get_or-take)
 
 eight : HasFront 8
-eight Little k bytes h = grind (arith, get_or-take)
-eight Big k bytes h = grind (arith, get_or-take)
+eight order k bytes h = grind (arith, get_or-take)
 
 offset_front : (format : Format) → HasFront (offset_size format)
 offset_front Dwarf32 = four
