@@ -215,9 +215,7 @@ nothing_left input h e = rw (units-cases h.section (input h.reader), e) (by-bool
 some_listed : (section : UnitSection) (i : Input) (x : Result Unit ReadError)
     (l : List (Result Unit ReadError)) → units section i ≡ x ∷ l → listed (unit_at section i)
     (units section) ≡ x ∷ l
-some_listed section i x l e = by-bool _ (eqb (length i.bytes) 0)
-    (λ none. let never = rw (units-cases section i, none) at e in absurd cc)
-    (λ some. rw (units-cases section i, some) at e)
+some_listed section i x l e = grind (arith, units-cases section i)
 
 -- what was taken and the rest are all that was there
 taken_bytes : (i rest whole : Input) (goes : Goes 1 i rest) → whole ≡ front goes.taken i
