@@ -1,15 +1,16 @@
 -- The rows of an index as they are held: what they stand for where more is shared. One more row in
 -- its hash table, and bytes that a loop adds.
-use Rattle.std.proofs.lemmas.Bool.{cases_lt, lt-ltb}
+use Rattle.std.proofs.lemmas.Bool.{cases_lt}
+use Rattle.std.proofs.lemmas.Bool.Decides.{nat_tests}
 use Rattle.std.proofs.lemmas.Option.{get_or_from_slice_get, slice_get_within}
 use Rattle.thorin_index.proofs.Terms
 use Terms.{All, All-push, Encoding, Endianness, Err, ErrorValue, IndexEntry, IsHashTable, IsLooked}
 use Terms.{IsPlacedAfter, List, Ok, OnErr, Result, SectionKind, Some, [], ap, arith, below_more}
 use Terms.{blank, contribution_kinds, contribution_to, entry_by, entry_ids, flat_map, flat_map_more}
 use Terms.{get_or, get_or-take, get_or_append_left, get_or_default, get_or_push, identifier_of}
-use Terms.{index_version_of, inl, inr, length, length-map, length-take, length_push, ltb, map}
-use Terms.{map_more, map_push, refl, row_of, slice_get, suc, sym, take, take_more, true}
-use Terms.{used_sections, with_own, ℕ, ◌*◌, ◌++◌, ◌+◌, ◌-◌, ◌<◌, ◌^◌, ◌∙◌, ◌∷◌, ◌≡◌, ◌≤◌}
+use Terms.{index_version_of, inl, inr, length, length-map, length-take, length_push, map, map_more}
+use Terms.{map_push, refl, row_of, slice_get, suc, sym, take, take_more, used_sections, with_own, ℕ}
+use Terms.{◌++◌, ◌+◌, ◌-◌, ◌<◌, ◌∙◌, ◌∷◌, ◌≡◌, ◌≤◌}
 use Rattle.dwp_table.specs.Table.{HasSlots}
 use Rattle.dwp_table.specs.declared.object.DwarfObject.{DwarfObject}
 use Rattle.thorin_index.specs.EntryTests.{count_test, index_tests, tests_under}
@@ -113,10 +114,7 @@ tests_of_some (entry ∷ entries) encoding some e = rw e refl
 
 -- so many rows aren't refused
 pub not_refused : (n : ℕ) (e : ErrorValue) → n ≤ 1431655765 → count_test n ≡ Err e → ⊥
-not_refused n e few is =
-    let fits : ltb (3 * n) (2 ^ 32) ≡ true = lt-ltb (3 * n) (2 ^ 32) (omega arith) in
-    let ok = rw fits at is in
-    cc
+not_refused n e few is = grind (arith, nat_tests)
 
 pub index_is : (order : Endianness) (entries : List IndexEntry) (encoding : Encoding)
     (held bytes : List ℕ) → 0 < length entries → encoding ≡ (get_or entries 0 blank).encoding
