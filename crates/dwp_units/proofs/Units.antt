@@ -206,8 +206,7 @@ first_unit input section i j (Err f) some reads = units-cases section i ∙ rw (
 -- nothing is left at the end
 pub nothing_left : {R : Type 0} (input : R → Input) (h : UnitHeaders R)
     → eqb (length (input h.reader).bytes) 0 ≡ true → units_left input h ≡ []
-nothing_left input h e = rw (units-cases h.section (input h.reader), e) (by-bool _ h.ended
-    (λ ended. rw ended refl) (λ going. rw going refl))
+nothing_left input h e = grind (arith, units-cases h.section (input h.reader))
 
 -- ---- the bytes of the units, joined
 
