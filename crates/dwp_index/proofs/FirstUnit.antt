@@ -30,17 +30,16 @@ unfolding unit_at initial_length_at number_at
 no_unit place i e = rw e refl
 
 -- it is what is read of the bytes
-pub encoding-first : (order : Endianness) (place : UnitSection) (bytes : List ℕ)
-    (all : List (Result Unit ReadError)) → units place (section order bytes) ≡ all
-    → encoding_in order place bytes ≡ first_encoding all
+pub encoding_first : (order : Endianness) (place : UnitSection) (bytes : List ℕ)
+    → encoding_in order place bytes ≡ first_encoding (units place (section order bytes))
 unfolding encoding_in
-encoding-first order place bytes all e =
+encoding_first order place bytes =
     let i = section order bytes in
     by-bool _ (eqb (length bytes) 0)
     (λ none. let empty = rw none at (units-cases place i) in
-    rw (no_unit place i (eqb-true _ _ none)) (ap first_encoding (sym empty ∙ e)))
+    rw (no_unit place i (eqb-true _ _ none)) (ap first_encoding (sym empty)))
     (λ some. let more = rw some at (units-cases place i) in
-    sym (listed-first (unit_at place i) (units place)) ∙ ap first_encoding (sym more ∙ e))
+    sym (listed-first (unit_at place i) (units place)) ∙ ap first_encoding (sym more))
 
 -- the encoding of such a header, whatever follows it
 header_goes : (place : UnitSection) (whole i rest : Input) → 16 ≤ length i.bytes
