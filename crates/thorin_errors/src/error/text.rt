@@ -1,4 +1,5 @@
 //! The texts of errors.
+#![tactic(auto, using(crate::proofs::Hex::hex8_written))]
 
 ghost use Rattle.thorin_errors.specs.Text.{error_text};
 
@@ -10,7 +11,6 @@ impl fmt::Display for Error {
 
     ghost output = { λ e. error_text (error_of e) };
 
-    #[tactic(auto, using(crate::proofs::Hex::hex8_written))]
     fn fmt<W: fmt::Write>(&self, f: &mut fmt::Formatter<W>) -> fmt::Result {
         match self {
             Error::ReadInput(_) => f.write_str("Failed to read input file"),
@@ -44,7 +44,6 @@ impl Error {
     ghost use Rattle.thorin_errors.specs.Text.{unit_text, index_text, section_text};
 
     /// The texts of errors of units.
-    #[tactic(auto, using(crate::proofs::Hex::hex8_written))]
     fn write_unit_text<W: fmt::Write>(&self, f: &mut fmt::Formatter<W>) -> fmt::Result
         ensures { DisplaysOnOk W.write_str_gives f.old result
             (unit_text (error_of self.now)) f.new }
@@ -83,7 +82,6 @@ impl Error {
     }
 
     /// The texts of errors of indexes and string offsets.
-    #[tactic(auto, using(crate::proofs::Hex::hex8_written))]
     fn write_index_text<W: fmt::Write>(&self, f: &mut fmt::Formatter<W>) -> fmt::Result
         ensures { DisplaysOnOk W.write_str_gives f.old result
             (index_text (error_of self.now)) f.new }
@@ -127,7 +125,6 @@ impl Error {
     }
 
     /// The texts of errors of sections and of what a package is made of, and of causes.
-    #[tactic(auto, using(crate::proofs::Hex::hex8_written))]
     fn write_section_text<W: fmt::Write>(&self, f: &mut fmt::Formatter<W>) -> fmt::Result
         ensures { DisplaysOnOk W.write_str_gives f.old result
             (section_text (error_of self.now)) f.new }
