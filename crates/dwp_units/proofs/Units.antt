@@ -1,10 +1,10 @@
 -- A unit's bytes are those that stood before the rest, and its entries lie in them behind the
 -- header; the units of a section one after the other.
 use Rattle.dwp_units.proofs.Terms
-use Terms.{◌&&◌, ◌+◌, ◌++◌, ◌-◌, ◌<◌, [], ap, append-nil, append_assoc, arith, by-bool, cond, drop}
-use Terms.{drop-take, eqb, eqb-true, Err, false, flat_map, Format, front, Goes, Input, is_err, leb}
-use Terms.{length, length-append, length-take-le, List, ltb, map, ne_eqb, nil_from_length, Ok}
-use Terms.{ReadError, refl, Result, sym, take-append-drop, true, Unit, ℕ, ◌∙◌, ◌∷◌, ◌≡◌, ◌≤◌}
+use Terms.{◌&&◌, ◌+◌, ◌++◌, ◌-◌, ◌<◌, [], ap, append-nil, append_assoc, arith, cond, drop}
+use Terms.{drop-take, eqb, Err, false, flat_map, Format, front, Goes, Input, is_err, leb, length}
+use Terms.{length-append, length-take-le, List, ltb, map, ne_eqb, nil_from_length, Ok, ReadError}
+use Terms.{refl, Result, sym, take-append-drop, true, Unit, ℕ, ◌∙◌, ◌∷◌, ◌≡◌, ◌≤◌}
 use Rattle.dwp_bytes.specs.Input.{offset_at, is_address_size, after}
 use Rattle.dwp_bytes.specs.Encoding.{offset_size}
 use Rattle.dwp_units.specs.declared.unit.UnitType.{UnitType}
