@@ -2,7 +2,7 @@
 -- unit is read again from its own bytes.
 use Rattle.std.proofs.Common.{Bool, Err, List, Ok, Result, add-zero, add_assoc, ap, arith, cond}
 use Rattle.std.proofs.Common.{drop, eqb, false, leb, length, ltb, refl, subst, suc, sym, take, true}
-use Rattle.std.proofs.Common.{zero, ℕ, ◌&&◌, ◌+◌, ◌-◌, ◌∙◌, ◌≡◌, ◌≤◌}
+use Rattle.std.proofs.Common.{zero, inl, inr, ℕ, ◌&&◌, ◌+◌, ◌-◌, ◌∙◌, ◌≡◌, ◌≤◌, ◌⊎◌}
 use Rattle.std.proofs.lemmas.Bool.{le-ltb, ltb-false}
 use Rattle.std.proofs.lemmas.List.{drop-drop, drop-take, get_or-take, length-drop, length-take}
 use Rattle.std.proofs.lemmas.List.{length-take-le, take-take}
@@ -217,9 +217,6 @@ module _ {order : Endianness} where
         (either (leb 2 version && leb version 4) (older_again version) refused))
 
 -- ---- a unit
-abbrev Units : Type 0
-Units = Result (Unit × Input) ReadError
-
 unit_alone : (order : Endianness) (place : UnitSection) (p : ℕ) (bytes : List ℕ)
     → Gives (Unit × Input) (unit_at place (plain order p bytes)) (λ x. (k : ℕ)
     → x.1.place ≡ p + k → encoding_in order place (take k bytes) ≡ Ok x.0.encoding)
@@ -256,42 +253,38 @@ unit_alone order place p bytes = then_gives (length_alone.at p 0 bytes) (λ len 
 abbrev Listed : Type 0
 Listed = List (Result Unit ReadError)
 
+-- a unit among those that were read is the first, or among those behind it
+pub listed_at : (r : Result (Unit × Input) ReadError) (others : Input → Listed) (none : Bool)
+    (k : ℕ) (unit : Unit) → slice_get (cond none [] (listed r others)) k ≡ Some (Ok unit)
+    → (x : Unit × Input) × (r ≡ Ok x)
+    × ((x.0 ≡ unit) ⊎ (slice_get (others x.1) (k - 1) ≡ Some (Ok unit)))
+listed_at r others none k unit h = grind arith
+
 module _ (taken : UnitsAreTaken) (order : Endianness) (place : UnitSection) (u : Unit) where
-  abbrev Goal : Type 0
-  Goal = encoding_in order place u.whole.bytes ≡ Ok u.encoding
-
-  listed_alone : (others : Input → Listed) (p : ℕ) (bytes : List ℕ) (b : Bool) (r : Units) (k : ℕ)
-      → ((q : ℕ) (bs : List ℕ) (l : ℕ) → slice_get (others (plain order q bs)) l ≡
-      Some (Ok u) → Goal)
-      → r ≡ unit_at place (plain order p bytes) → slice_get (cond b [] (listed r others)) k ≡
-      Some (Ok u) → Goal
-  listed_alone others p bytes true r k go e given = absurd cc
-  listed_alone others p bytes false (Ok x) zero go e given =
-      let same : x.0 ≡ u = cc in
-      let read : unit_at place (plain order p bytes) ≡ Ok (u, x.1) =
-      sym e ∙ ap (λ (v : Unit). Ok (v, x.1)) same in
-      let total = taken place (plain order p bytes) x.1 u read in
-      rw total.1 ((unit_alone order place p bytes).gives (u, x.1) read total.0.taken
-      (ap (λ (i : Input). i.place) total.0.is))
-  listed_alone others p bytes false (Ok x) (suc k) go e given =
-      let n = (taken place (plain order p bytes) x.1 x.0 (sym e)).0 in
-      go (p + n.taken) (drop n.taken bytes) k (subst (λ (i : Input). slice_get (others i) k ≡ Some
-      (Ok u)) n.is given)
-  listed_alone others p bytes false (Err f) zero go e given = absurd cc
-  listed_alone others p bytes false (Err f) (suc k) go e given = absurd cc
-
-  within_alone : (n p : ℕ) (bytes : List ℕ) (k : ℕ)
-      → slice_get (units_within n place (plain order p bytes)) k ≡ Some (Ok u) → Goal
+  -- where a unit was read
+  pub within_at : (n p : ℕ) (bytes : List ℕ) (k : ℕ)
+      → slice_get (units_within n place (plain order p bytes)) k ≡ Some (Ok u) → (q : ℕ)
+      × (own : List ℕ) × (rest : Input) × (unit_at place (plain order q own) ≡ Ok (u, rest))
   unfolding units_within
-  within_alone zero p bytes k given = absurd cc
-  within_alone (suc n) p bytes k given =
-      listed_alone (units_within n place) p bytes (eqb (length bytes) 0)
-      (unit_at place (plain order p bytes)) k (λ q bs l h. within_alone n q bs l h) refl given
+  within_at zero p bytes k given = absurd cc
+  within_at (suc n) p bytes k given =
+      let i = plain order p bytes in
+      let l = listed_at (unit_at place i) (units_within n place) (eqb (length bytes) 0) k u given in
+      let t = taken place i l.0.1 l.0.0 l.1 in
+      elim l.2 [
+        | inl same ↦ (p, bytes, l.0.1, l.1 ∙ ap (λ (v : Unit). Ok (v, l.0.1)) same)
+        | inr later ↦ within_at n (p + t.0.taken) (drop t.0.taken bytes) (k - 1)
+            (rw t.0.is at later)
+      ]
 
   pub units_alone : (bytes : List ℕ) (k : ℕ) → slice_get (units place (section order bytes)) k ≡
-      Some (Ok u) → Goal
+      Some (Ok u) → encoding_in order place u.whole.bytes ≡ Ok u.encoding
   unfolding units
-  units_alone bytes k given = within_alone (length bytes) 0 bytes k given
+  units_alone bytes k given =
+      let at = within_at (length bytes) 0 bytes k given in
+      let t = taken place (plain order at.0 at.1) at.2 u at.3 in
+      rw t.1 ((unit_alone order place at.0 at.1).gives (u, at.2) at.3 t.0.taken
+      (ap (λ (i : Input). i.place) t.0.is))
 
 -- ---- a unit of version 5 is read the same in either section
 pub unit_anywhere : (place other : UnitSection) (i : Input) (u : Unit) (rest : Input)
