@@ -111,10 +111,7 @@ position_push : (test : ℕ → Bool) (i : ℕ) (xs : List ℕ) (n : ℕ)
     → position_from test i (xs ++ n ∷ [])
     ≡ option_or (position_from test i xs) (cond (test n) (Some (i + length xs)) None)
 position_push test i [] n = rw add-zero refl
-position_push test i (x ∷ xs) n =
-    let count : i + 1 + length xs ≡ i + length (x ∷ xs) = omega arith in
-    by-bool _ (test x) (λ here. rw here refl)
-    (λ other. rw (other, position_push test (i + 1) xs n, count) refl)
+position_push test i (x ∷ xs) n = grind (arith, position_push test (i + 1) xs n)
 
 abbrev place_of : Option ℕ → List ℕ → Option ℕ
 place_of number columns = option_and_then (λ c. position_from (λ n. eqb n c) 0 columns) number
