@@ -72,12 +72,8 @@ unlike_text bytes text (Some n) is other =
     by-bool _ (is_utf8 (take n bytes))
     (λ yes. rw yes (false_from_ne_true (bytes_eq (take n bytes) text) (λ same.
     let own : take n bytes ≡ text = (bytes_eq-Decides (take n bytes) text).0 same in
-    let size : n ≡ length text = omega (
-      arith,
-      length-take-le n bytes (omega (arith, found.0)),
-      ap
-          length own,
-    ) in
+    let taken = length-take-le n bytes (omega (arith, found.0)) in
+    let size : n ≡ length text = omega (arith, taken, ap length own) in
     other (rw (← size) own))))
     (λ no. rw no refl)
 
@@ -136,17 +132,10 @@ whole_text bytes text (Some n) is =
     → zero_byte (get_or text k 0) ≡ false) (is_utf8 (take n bytes))
     (λ yes. rw yes (λ named k below.
     let own : take n bytes ≡ text = (bytes_eq-Decides (take n bytes) text).0 named in
-    let size : length text ≡ n = omega (
-      arith,
-      length-take-le n bytes (omega (arith, found.0)),
-      ap
-          length own,
-    ) in
-    ap zero_byte (ap (λ it. get_or it k 0) (sym own) ∙ get_or-take n bytes k 0 (omega (
-      arith,
-      below,
-      size,
-    ))) ∙ found.2 k (omega (arith, below, size))))
+    let taken = length-take-le n bytes (omega (arith, found.0)) in
+    let size : length text ≡ n = omega (arith, taken, ap length own) in
+    let at : k < n = omega (arith, below, size) in
+    ap zero_byte (ap (λ it. get_or it k 0) (sym own) ∙ get_or-take n bytes k 0 at) ∙ found.2 k at))
     (λ no. rw no (λ named. absurd cc))
 
 pub with_zero : (table text : List ℕ) (place k : ℕ) → k < length text
