@@ -53,10 +53,8 @@ field-back : (front : List ℕ) (order : Endianness) (fs : List (ℕ × ℕ)) (r
     → x < 256 ^ n → number order n (drop k (front ++ spelled order fs rest)) ≡ x
 field-back front order [] rest i n x k at place h = absurd cc
 field-back front order (f ∷ fs) rest zero n x k at place h =
-    cc (
-      drop-append-add front (spelled order (f ∷ fs) rest) 0,
-      number-back order n x (spelled order fs rest) h,
-    )
+    let back = number-back order n x (spelled order fs rest) h in
+    cc (drop-append-add front (spelled order (f ∷ fs) rest) 0, back)
 field-back front order (f ∷ fs) rest (suc i) n x k at place h =
     let here = number_bytes order f.0 f.1 in
     let sizes = length-append front here in
