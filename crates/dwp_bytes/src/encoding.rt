@@ -148,7 +148,7 @@ impl<'a> StringOffsets<'a> {
 
     /// The i-th offset; None past the last whole one.
     #[inline(always)]
-    #[tactic(auto, unfolding(crate::specs::StringOffsets::entry_in))]
+    #[tactic(auto, unfolding(crate::specs::StringOffsets::entry_in), using(std::proofs::lemmas::Grind::common_steps))]
     pub fn entry(&self, i: u64) -> Option<u64>
         ensures { result ≡ entry_in self.now.order self.now.encoding self.now.offsets.now i }
     {
