@@ -18,6 +18,12 @@ pub small : (k scale : ℕ) → scale ≡ 128 ^ k → k < 9 → scale ≤ 128 ^ 
 small k scale e lt = let here : 128 ^ k ≤ 128 ^ 8 = pow-le-pow_right {n = 128} (omega arith) {i = k}
     {j = 8} (omega arith) in omega (arith, e, here)
 
+-- seven bits more before the tenth byte
+pub seven_more : (k value scale low : ℕ) → scale ≡ 128 ^ k → k < 9 → value < scale → low ≤ 127
+    → value + low * scale < 2 ^ 63
+seven_more k value scale low scaled lt below high =
+    omega (arith, small k scale scaled lt, mul-le-mul_right {m = low} {n = 127} scale high)
+
 -- ---- numbers of either kind, by how those of some bytes are read, and what a number is behind a
 -- value
 module _ {N : Type 0} (read : ℕ → Input → Result (N × Input) ReadError) (behind : ℕ → ℕ → N
@@ -71,12 +77,7 @@ module _ {N : Type 0} {read : ℕ → Input → Result (N × Input) ReadError} {
     {first i : Input} {k value scale : ℕ} (far : SoFar read behind first i k value scale) where
   -- seven more bits fit before the tenth byte
   pub fits : (low : ℕ) → k < 9 → low ≤ 127 → value + low * scale < 2 ^ 63
-  fits low lt high = omega (
-    arith,
-    far.below,
-    small k scale far.scaled lt,
-    mul-le-mul_right {m = low} {n = 127} scale high,
-  )
+  fits low lt high = seven_more k value scale low far.scaled lt far.below high
 
   -- and one more bit after nine
   pub last_fits : (low : ℕ) → k ≡ 9 → low ≤ 1 → value + low * scale < 2 ^ 64

@@ -1,11 +1,7 @@
-use Rattle.std.proofs.Common.{◌-◌, refl, ap, arith}
+use Rattle.std.proofs.Common.{ap, arith}
 use Rattle.std.proofs.lemmas.Result.{err_from_is_err_and}
-use Rattle.dwp_bytes.proofs.Lebs.{more, small, fits, last_fits, uleb_ends, uleb_fails, uleb_big}
-use Rattle.dwp_bytes.proofs.Lebs.{unsigned_begun}
+use Rattle.dwp_bytes.proofs.Lebs.{more, fits, last_fits, uleb_ends, uleb_fails, uleb_big}
 use Rattle.dwp_bytes.proofs.reader.Reader.read_uleb128.Goals as goal
-
-pub loop-init : goal.loop-init
-loop-init g c = (refl, unsigned_begun _)
 
 pub returns-in_err-byte : goal.returns-in_err-byte
 returns-in_err-byte g c =
@@ -15,35 +11,11 @@ returns-in_err-byte g c =
       ap g.Self.Reader.input c.loop.invariant.0,
     )
 
-pub overflow_mul-result : goal.overflow_mul-result
-overflow_mul-result g c =
-    let m = fits c.loop.invariant.1 c.in_ok-byte.byte c.loop-test.true (omega arith) in
-    rw c.from.ensures (omega (arith, m))
-
-pub overflow_add-result : goal.overflow_add-result
-overflow_add-result g c =
-    let m = fits c.loop.invariant.1 c.in_ok-byte.byte c.loop-test.true (omega arith) in
-    rw c.from.ensures (omega (arith, m))
-
 pub returns-then-byte-lt128 : goal.returns-then-byte-lt128
 returns-then-byte-lt128 g c =
     let m = fits c.loop.invariant.1 c.in_ok-byte.byte c.loop-test.true (omega arith) in
     rw c.from.ensures (uleb_ends c.loop.invariant.1 (omega arith) c.in_ok-byte.ensures (omega arith)
     (omega (arith, m)))
-
-pub overflow_mul-value : goal.overflow_mul-value
-overflow_mul-value g c =
-    let m = fits c.loop.invariant.1 (c.in_ok-byte.byte - 128) c.loop-test.true (omega arith) in
-    rw c.from-in-loop.ensures (omega (arith, m))
-
-pub overflow_add-value : goal.overflow_add-value
-overflow_add-value g c =
-    let m = fits c.loop.invariant.1 (c.in_ok-byte.byte - 128) c.loop-test.true (omega arith) in
-    rw c.from-in-loop.ensures (omega (arith, m))
-
-pub overflow_mul-scale : goal.overflow_mul-scale
-overflow_mul-scale g c =
-    omega (arith, small _ _ c.loop.invariant.1.scaled c.loop-test.true)
 
 pub loop-preserved : goal.loop-preserved
 loop-preserved g c = (
@@ -67,16 +39,6 @@ returns-then-last-gt1 g c = (
       c.if-last-gt1.true,
   ap g.Self.Reader.input c.loop.invariant.0,
 )
-
-pub overflow_mul-result-2 : goal.overflow_mul-result-2
-overflow_mul-result-2 g c =
-    let m = last_fits c.loop.invariant.1 c.in_ok-last.last (omega arith) (omega arith) in
-    rw c.from-2.ensures (omega (arith, m))
-
-pub overflow_add-result-2 : goal.overflow_add-result-2
-overflow_add-result-2 g c =
-    let m = last_fits c.loop.invariant.1 c.in_ok-last.last (omega arith) (omega arith) in
-    rw c.from-2.ensures (omega (arith, m))
 
 pub returns : goal.returns
 returns g c =
