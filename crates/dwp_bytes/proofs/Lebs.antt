@@ -38,15 +38,6 @@ module _ {N : Type 0} (read : ℕ → Input → Result (N × Input) ReadError) (
     pub below : value < scale
     pub rest : carried value scale (read (10 - k) i) ≡ read 10 first
 
-  -- before the first byte
-  pub begun : ((n : N) → behind 0 1 n ≡ n) → (i : Input) → SoFar i i 0 0 1
-  begun same i =
-      record { scaled = refl; below = omega arith; rest = kept (read 10 i) }
-    where
-      kept : (r : Result (N × Input) ReadError) → carried 0 1 r ≡ r
-      kept (Ok x) = ap (λ n. Ok (n, x.1)) (same x.0)
-      kept (Err e) = refl
-
   module _ {first i : Input} {k value scale : ℕ} (far : SoFar first i k value scale) where
     -- the number is what the rest of it says
     pub whole : (r : Result (N × Input) ReadError) → k < 10 → read (suc (9 - k)) i ≡ r
@@ -87,9 +78,6 @@ module _ {N : Type 0} {read : ℕ → Input → Result (N × Input) ReadError} {
 -- ---- unsigned numbers
 abbrev pub unsigned : ℕ → ℕ → ℕ → ℕ
 unsigned value scale n = value + scale * n
-
-pub unsigned_begun : (i : Input) → SoFar leb_at unsigned i i 0 0 1
-unsigned_begun i = begun leb_at unsigned (λ n. omega arith) i
 
 last_byte : (n : ℕ) (i : Input) (b : ℕ) (j : Input) → byte_at i ≡ Ok (b, j) → b < 128
     → leb_at (suc n) i ≡ Ok (b, j)
@@ -152,9 +140,6 @@ module _ {first i : Input} {k value scale : ℕ}
 -- ---- signed numbers behind a value
 abbrev pub signed : ℕ → ℕ → ℤ → ℤ
 signed value scale z = pos value +ℤ pos scale *ℤ z
-
-pub signed_begun : (i : Input) → SoFar signed_leb_at signed i i 0 0 1
-signed_begun i = begun signed_leb_at signed (λ z. omega (arith, ints)) i
 
 -- a difference, so many times
 scaled_less : (s a b : ℕ) → pos s *ℤ (pos a -ℤ pos b) ≡ pos (s * a) -ℤ pos (s * b)
