@@ -8,10 +8,8 @@ use Rattle.dwp_bytes.proofs.reader.Reader.read_sleb128.Goals as goal
 pub returns-in_err-byte : goal.returns-in_err-byte
 returns-in_err-byte g c =
     let p = err_from_is_err_and c.from_residual.result c.from_residual.ensures.1 in
-    rw (p.1, p.2) (
-      sleb_fails c.loop.invariant.1 (omega arith) c.in_err-byte.ensures.0,
-      ap g.Self.Reader.input c.loop.invariant.0,
-    )
+    let fails = sleb_fails c.loop.invariant.1 (omega arith) c.in_err-byte.ensures.0 in
+    rw (p.1, p.2) (fails, ap g.Self.Reader.input c.loop.invariant.0)
 
 pub returns-then-byte-lt64 : goal.returns-then-byte-lt64
 returns-then-byte-lt64 g c =
@@ -39,17 +37,14 @@ pub returns-in_err-read_u8 : goal.returns-in_err-read_u8
 returns-in_err-read_u8 g c =
     let p = err_from_is_err_and c.from_residual-in_err-read_u8.result
     c.from_residual-in_err-read_u8.ensures.1 in
-    rw (p.1, p.2) (
-      sleb_fails c.loop.invariant.1 (omega arith) c.in_err-read_u8.ensures.0,
-      ap g.Self.Reader.input c.loop.invariant.0,
-    )
+    let fails = sleb_fails c.loop.invariant.1 (omega arith) c.in_err-read_u8.ensures.0 in
+    rw (p.1, p.2) (fails, ap g.Self.Reader.input c.loop.invariant.0)
 
 pub returns-in_default : goal.returns-in_default
-returns-in_default g c = (
-  sleb_big c.loop.invariant.1 (omega arith) c.in_ok-read_u8.ensures
-      (omega arith) (omega arith),
-  ap g.Self.Reader.input c.loop.invariant.0,
-)
+returns-in_default g c =
+    let far = c.loop.invariant.1 in
+    let big = sleb_big far (omega arith) c.in_ok-read_u8.ensures (omega arith) (omega arith) in
+    (big, ap g.Self.Reader.input c.loop.invariant.0)
 
 pub returns-in-0 : goal.returns-in-0
 returns-in-0 g c =

@@ -6,10 +6,8 @@ use Rattle.dwp_bytes.proofs.reader.Reader.read_uleb128.Goals as goal
 pub returns-in_err-byte : goal.returns-in_err-byte
 returns-in_err-byte g c =
     let p = err_from_is_err_and c.from_residual.result c.from_residual.ensures.1 in
-    rw (p.1, p.2) (
-      uleb_fails c.loop.invariant.1 (omega arith) c.in_err-byte.ensures.0,
-      ap g.Self.Reader.input c.loop.invariant.0,
-    )
+    let fails = uleb_fails c.loop.invariant.1 (omega arith) c.in_err-byte.ensures.0 in
+    rw (p.1, p.2) (fails, ap g.Self.Reader.input c.loop.invariant.0)
 
 pub returns-then-byte-lt128 : goal.returns-then-byte-lt128
 returns-then-byte-lt128 g c =
@@ -28,17 +26,13 @@ pub returns-in_err-last : goal.returns-in_err-last
 returns-in_err-last g c =
     let p = err_from_is_err_and c.from_residual-in_err-last.result
     c.from_residual-in_err-last.ensures.1 in
-    rw (p.1, p.2) (
-      uleb_fails c.loop.invariant.1 (omega arith) c.in_err-last.ensures.0,
-      ap g.Self.Reader.input c.loop.invariant.0,
-    )
+    let fails = uleb_fails c.loop.invariant.1 (omega arith) c.in_err-last.ensures.0 in
+    rw (p.1, p.2) (fails, ap g.Self.Reader.input c.loop.invariant.0)
 
 pub returns-then-last-gt1 : goal.returns-then-last-gt1
-returns-then-last-gt1 g c = (
-  uleb_big c.loop.invariant.1 (omega arith) c.in_ok-last.ensures
-      c.if-last-gt1.true,
-  ap g.Self.Reader.input c.loop.invariant.0,
-)
+returns-then-last-gt1 g c =
+    let big = uleb_big c.loop.invariant.1 (omega arith) c.in_ok-last.ensures c.if-last-gt1.true in
+    (big, ap g.Self.Reader.input c.loop.invariant.0)
 
 pub returns : goal.returns
 returns g c =
