@@ -313,7 +313,7 @@ impl WritableObject {
     }
 
     /// The layout of the file.
-    #[tactic(auto, using(crate::proofs::KindCounts::few_sections))]
+    #[tactic(auto, using(crate::proofs::ReadingBack::layouts))]
     fn layout(&self) -> Result<Layout, WriteError>
         ensures ok { IfOk result (IsLayout self.now.class self.now.contents) }
         ensures fits { OnOk result (Fits self.now) }
