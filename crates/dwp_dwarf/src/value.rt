@@ -32,11 +32,8 @@ pub(crate) enum Layout {
 /// How the length of a block is written.
 #[derive(Clone, Copy)]
 pub(crate) enum BlockLength {
-    /// In a byte.
     One,
-    /// In two bytes.
     Two,
-    /// In four bytes.
     Four,
     /// As an unsigned LEB128 number.
     Leb,
@@ -148,7 +145,6 @@ pub(crate) fn read_text<R: Reader>(reader: &mut R) -> Result<R, ReadError>
     Ok(text)
 }
 
-/// What comes behind a value.
 #[tactic(auto, unfolding(crate::specs::Forms::past_value))]
 fn after_value<R: Reader>(mut at: R, layout: Layout) -> Result<R, ReadError>
     ensures { Answers R.input result (past_value layout (R.input at)) }
@@ -172,7 +168,6 @@ fn after_value<R: Reader>(mut at: R, layout: Layout) -> Result<R, ReadError>
     Ok(at)
 }
 
-/// The bytes of a value.
 #[tactic(auto, unfolding(crate::specs::Forms::value_at))]
 pub(crate) fn read_value<R: Reader>(
     reader: &mut R,
@@ -241,7 +236,6 @@ fn from_entry<R: Reader>(table: R, format: Format, base: u64, index: u64) -> Res
     }
 }
 
-/// The string of an index.
 #[tactic(auto, unfolding(crate::specs::Strings::indexed_at))]
 fn indexed_string<R: Reader>(
     sections: &StringSections<R>,

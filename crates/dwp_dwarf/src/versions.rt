@@ -49,7 +49,6 @@ impl Versions {
         }
     }
 
-    /// The value of a key in a version.
     pub(crate) fn get(&self, version: u32, key: u64) -> Option<u32>
         ensures { result ≡ value_in self.now.nodes.items version key }
     {
@@ -112,7 +111,6 @@ fn half(key: u64) -> u64
     key.saturating_sub(1) / 2
 }
 
-/// The node of a version.
 fn node_of(nodes: &[Node], version: u32) -> Option<Node>
     ensures { result ≡ node_of nodes.now version }
 {

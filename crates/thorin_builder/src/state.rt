@@ -310,7 +310,6 @@ fn are_all(rows: &IndexRows, index: Index) -> bool
     true
 }
 
-/// The rows that stand in the given index.
 fn rows_in(alloc: Global, rows: &IndexRows, index: Index) -> Result<IndexRows, Error>
     ensures rows { IfOk result (λ chosen. chosen ≡ rows_in index rows.now) }
     ensures identifiers { OnOk result (IdentifiersFit rows.now) }

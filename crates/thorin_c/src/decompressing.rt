@@ -59,7 +59,6 @@ pub extern "C" fn thorin_decompress(
     }
 }
 
-/// The status of a file that isn't decompressed.
 fn status_of(error: DecompressError) -> i32
     ensures { result ≡ status_of error }
 {

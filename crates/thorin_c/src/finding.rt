@@ -22,7 +22,6 @@ const AHEAD: usize = 32;
 /// What is looked up of a name.
 #[derive(Clone, Copy)]
 enum Wanted {
-    /// The whole unit.
     Unit,
     /// Its row alone: nothing of the unit is read.
     Row,
@@ -223,7 +222,6 @@ pub(crate) fn write(
     }
 }
 
-/// Writes the ranges of a row.
 #[inline(always)]
 fn write_ranges(row: &Row<'_>, ranges: &mut [ThorinRange; 10])
     ensures { ranges.new ≡ ranges_of row.now }

@@ -58,7 +58,6 @@ pub(crate) fn list(units: Units<'_>, names: &mut [ThorinName]) -> u64
     count
 }
 
-/// The number of a kind of units.
 pub(crate) fn kind_number(object: DwarfObject) -> u8
     ensures { result ≡ kind_number object }
 {

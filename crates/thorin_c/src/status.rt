@@ -1,17 +1,14 @@
-//! The statuses that exports answer.
+//! The statuses that exports answer; `status_text` has what each says.
 
 ghost use Rattle.std.specs.Prelude.{◌≡◌};
 ghost use Rattle.thorin_c.specs.Finding.{status_of};
 
 use dwp_index::PackageError;
 
-/// The call did what was asked.
 pub(crate) const DONE: i32 = 0;
 
-/// The package has no such unit.
 pub(crate) const ABSENT: i32 = 1;
 
-/// There is no such kind of units.
 pub(crate) const NO_SUCH_KIND: i32 = 2;
 
 /// The file is no ELF file that can be read, or one of its sections can't be.
@@ -20,16 +17,13 @@ pub(crate) const MALFORMED_FILE: i32 = 3;
 /// An index can't be read, or a row number is past its rows.
 pub(crate) const MALFORMED_INDEX: i32 = 4;
 
-/// A range of the unit is outside its section.
 pub(crate) const RANGE_OUTSIDE: i32 = 5;
 
 /// The unit's header can't be read.
 pub(crate) const MALFORMED_UNIT: i32 = 6;
 
-/// There is no such section.
 pub(crate) const NO_SUCH_SECTION: i32 = 7;
 
-/// The unit has no string of that number.
 pub(crate) const NO_SUCH_STRING: i32 = 8;
 
 /// The string is outside the strings, or no zero byte ends it.
@@ -38,16 +32,13 @@ pub(crate) const MALFORMED_STRING: i32 = 9;
 /// The room is too small.
 pub(crate) const TOO_SMALL: i32 = 10;
 
-/// An input was refused.
 pub(crate) const REFUSED: i32 = 11;
 
 /// The package can't be finished or written.
 pub(crate) const UNFINISHED: i32 = 12;
 
-/// Memory ran out.
 pub(crate) const NO_MEMORY: i32 = 13;
 
-/// No section is compressed.
 pub(crate) const NOT_COMPRESSED: i32 = 14;
 
 /// A compressed section's header is damaged, or its stream of zlib's.

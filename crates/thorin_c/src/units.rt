@@ -24,7 +24,6 @@ pub(crate) struct Room {
 /// The units that were read, as far as there is room.
 #[derive(Drop)]
 pub(crate) struct FirstUnits {
-    /// The units.
     pub(crate) names: Vec<ThorinSkeleton>,
     /// Their paths, each with a zero byte behind it.
     pub(crate) paths: Vec<u8>,
@@ -60,7 +59,6 @@ impl FirstUnits {
         }
     }
 
-    /// Reads those that are left.
     #[tactic(auto, using(crate::proofs::SkeletonLists::none_read, crate::proofs::SkeletonLists::ends))]
     fn read_left(
         &mut self,
