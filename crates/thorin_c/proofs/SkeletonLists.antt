@@ -2,7 +2,7 @@
 use Rattle.std.proofs.Common.{◌≡◌, ◌∙◌, ℕ, zero, suc, ◌+◌, ◌-◌, ◌<◌, List, [], ◌∷◌, ◌++◌, refl, sym}
 use Rattle.std.proofs.Common.{ap, arith, map, min, take, length, Option}
 use native.Mathlib.Numerals.{unary_clauses}
-use Rattle.std.proofs.lemmas.List.{append_assoc, append-nil, length-append, map-append}
+use Rattle.std.proofs.lemmas.List.{append_assoc, append-nil, length-append, map-append, take_min}
 use Rattle.thorin_executable.specs.Skeletons.{Named, Listed}
 use Rattle.thorin_errors.specs.Errors.{ErrorValue}
 use Rattle.thorin_c.specs.Skeletons.{paths_of, skeleton_named, IsFirst, ListsUnits}
@@ -32,16 +32,11 @@ module _ {A : Type 0} where
   front_next (suc room) (x ∷ xs) ys =
       simp unary_clauses (ap (λ l. x ∷ l) (front_next room xs ys))
 
-  front_min : (n : ℕ) (ys : List A) → take (min n (length ys)) ys ≡ take n ys
-  front_min zero ys = simp unary_clauses refl
-  front_min (suc n) [] = simp unary_clauses refl
-  front_min (suc n) (y ∷ ys) = simp unary_clauses (ap (λ l. y ∷ l) (front_min n ys))
-
   pub front_more : (room n m : ℕ) (old new all more : List A) → old ≡ take room all
       → n ≡ room - length old → m ≡ min n (length more) → new ≡ old ++ take m more
       → new ≡ take room (all ++ more)
   front_more room n m old new all more is left taken put =
-      put ∙ rw (taken, left, is) (ap (λ l. take room all ++ l) (front_min _ more)
+      put ∙ rw (taken, left, is) (ap (λ l. take room all ++ l) (take_min _ more)
       ∙ front_next room all more)
 
 -- ---- units that are read one after another
