@@ -11,8 +11,7 @@ use Rattle.dwp_dwarf.specs.declared.chains.Chains.{Chains}
 use Rattle.dwp_dwarf.specs.declared.chains.Place.{Place}
 use Rattle.dwp_dwarf.proofs.Keys.{by_key, if_map}
 use Rattle.dwp_units.proofs.Readings.{one_answer, goes_then, takes_front, size}
-use Rattle.dwp_dwarf.proofs.Tables.{Next, look_up-here, look_up-other, next_shorter}
-use Rattle.dwp_dwarf.proofs.Tables.{next_takes}
+use Rattle.dwp_dwarf.proofs.Tables.{Next, look_up-here, look_up-other, next_shorter, next_takes}
 use Rattle.dwp_dwarf.proofs.NewVersions.{value_stays, grows_length, none_below}
 use Rattle.dwp_dwarf.proofs.Offsets.{from_is, from_within}
 

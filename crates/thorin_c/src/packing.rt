@@ -9,12 +9,11 @@ ghost use Rattle.thorin_join.specs.Join.{IsPackageOf};
 ghost use Rattle.thorin.specs.Run.{Writes};
 ghost use Rattle.thorin_c.specs.Errors.{Tells};
 ghost use Rattle.thorin_c.specs.Listing.{written_over};
-ghost use Rattle.thorin_c.specs.Packing.{Accepts, StopsAt, IsPackage, IsFailure, TellsRefused};
-ghost use Rattle.thorin_c.specs.Packing.{ArePackedAgain, Packs, Needs, Refuses};
-ghost use Rattle.thorin_c.specs.Packing.{TellsUnfinished, RunsOutAt, RunsOutAfter, Differ};
-ghost use Rattle.thorin_c.specs.Packing.{IsPackingStatus, IsDifferingStatus, TellsAlone};
-ghost use Rattle.thorin_c.specs.Packing.{TellsOfPackage, TellsOfInput, TellsOfError, TellsOfMemory};
-ghost use Rattle.thorin_c.specs.Packing.{TellsOfDiffering};
+ghost use Rattle.thorin_c.specs.Packing.{TellsUnfinished, IsDifferingStatus, TellsOfDiffering};
+ghost use Rattle.thorin_c.specs.Packing.{Accepts, ArePackedAgain, IsPackingStatus, TellsOfPackage};
+ghost use Rattle.thorin_c.specs.Packing.{TellsRefused, RunsOutAfter, TellsOfInput, TellsOfMemory};
+ghost use Rattle.thorin_c.specs.Packing.{IsPackage, IsFailure, RunsOutAt, TellsAlone, TellsOfError};
+ghost use Rattle.thorin_c.specs.Packing.{StopsAt, Packs, Needs, Refuses, Differ};
 
 use crate::error::tell;
 use crate::session::NoFiles;

@@ -6,9 +6,8 @@ ghost use Rattle.thorin_errors.specs.Answers.{Gives};
 ghost use Rattle.dwp_units.specs.Units.{Unit, unit_of};
 ghost use Rattle.dwp_dwarf.specs.Attributes.{entry_of};
 ghost use Rattle.dwp_dwarf.specs.Numbers.{numbered_of};
-ghost use Rattle.thorin_identity.specs.Identity.{identity, identity_by, root_identity};
-ghost use Rattle.thorin_identity.specs.Identity.{entry_identity, numbered_identity, part_between};
-ghost use Rattle.thorin_identity.specs.Identity.{with_offset};
+ghost use Rattle.thorin_identity.specs.Identity.{root_identity, entry_identity, numbered_identity};
+ghost use Rattle.thorin_identity.specs.Identity.{identity, identity_by, part_between, with_offset};
 
 use dwp_dwarf::{
     AbbreviationCache, Abbreviations, EntryNumber, ReadError, Reader, RootEntry, UnitHeader,
