@@ -4,7 +4,8 @@ use Rattle.std.proofs.Common.{◌≡◌, ℕ, ◌+◌, ◌<◌, ◌≤◌, min, 
 use Rattle.std.proofs.Common.{Ok, Err, refl, ap, sym, ◌∙◌, arith, inl, inr, ◌-◌, List, [], ◌∷◌}
 use Rattle.std.proofs.Common.{None, option_map, drop-drop, length-drop, length-take-le, take-take}
 use Rattle.std.proofs.lemmas.Bool.{cases_lt}
-use Rattle.std.proofs.lemmas.List.{take_min, drop-take}
+use Rattle.std.proofs.lemmas.List.{take_min}
+use Rattle.std.proofs.lemmas.Slice.{between_is}
 use Rattle.std.specs.Option.{ok_or}
 use Rattle.dwp_base.specs.Reading.{◌>>=◌}
 use Rattle.dwp_bytes.specs.declared.error.ReadError.TheVariants.{UnknownCode}
@@ -83,12 +84,6 @@ pub part_min : (start end : ℕ) (whole : Input)
 part_min start end whole = rw (take_min end whole.bytes) refl
 
 -- ---- a range of a section is what is left behind its start of the bytes up to its end
--- what stands up to a place behind a start is what stands behind that of what is up to the place
-between : (bytes : List ℕ) (begin end : ℕ) → begin ≤ end
-    → take (end - begin) (drop begin bytes) ≡ drop begin (take end bytes)
-between bytes begin end early =
-    let way : begin + (end - begin) ≡ end = omega (arith, early) in
-    rw (← drop-take begin (end - begin) bytes, way) refl
 
 -- a part of a part is a part of the whole
 within : (bytes : List ℕ) (begin start end last : ℕ) → begin ≤ start → start ≤ end → end ≤ last
@@ -96,9 +91,10 @@ within : (bytes : List ℕ) (begin start end last : ℕ) → begin ≤ start →
     ≡ drop start (take end bytes)
 within bytes begin start end last early order late =
     let way : begin + (start - begin) ≡ start = omega (arith, early) in
-    let behind : begin ≤ end = omega (arith, early, order) in
+    let cut : take (end - begin) (drop begin (take last bytes))
+    ≡ drop begin (take end (take last bytes)) = between_is (take last bytes) begin end in
     rw (
-      between (take last bytes) begin end behind,
+      cut,
       take-take end last bytes late,
       drop-drop (start - begin) begin (take end bytes),
       way,
