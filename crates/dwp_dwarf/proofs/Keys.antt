@@ -25,11 +25,6 @@ put_keeps P old new k v is_put p here others refused has q = by-bool _ is_put
     (λ yes. by_key k q (λ e. rw (e, here yes) p) (λ apart. rw (others q apart) (has q)))
     (λ no. rw (refused no q) (has q))
 
-pub if_map : {A : Type 0} (o : Option A) {P Q : A → Type 0} → ((x : A) → P x → Q x) → IfSome o P
-    → IfSome o Q
-if_map (Some x) f h = f x h
-if_map None f h = tt
-
 pub if_both : {A : Type 0} (o : Option A) {P Q R : A → Type 0} → ((x : A) → P x → Q x → R x)
     → IfSome o P → IfSome o Q → IfSome o R
 if_both (Some x) f p q = f x p q
