@@ -1,5 +1,4 @@
-use Rattle.std.proofs.Common.{◌∙◌}
-use Rattle.std.specs.Prelude.{None}
+use Rattle.dwp_dwarf.proofs.Terms.{None, ◌∙◌}
 use Rattle.dwp_elf_read.specs.View.{elf, bytes_of}
 use Rattle.dwp_index.specs.Firsts.{found_in}
 use Rattle.thorin_c.proofs.PlacesRead.{located, unplaced}
