@@ -273,12 +273,9 @@ impl<'output, 'session: 'output, Sess: Session<RelocationEntry>> DwarfPackage<
         let tested = self.test_targets();
         let DwarfPackage {
             alloc,
-            session: _,
             in_progress,
-            no_units: _,
             targets,
-            own: _,
-            output: _,
+            ..
         } = self;
         finished_begun(alloc, in_progress, &targets, tested)
     }
