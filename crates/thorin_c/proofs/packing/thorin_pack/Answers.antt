@@ -14,15 +14,6 @@ returns-else-len-out-clause-again c done one =
       | else-packed w ↦ absurd (omega (arith, w.report-is, one))
     ])
 
-pub returns-else-len-out-clause-alone : goal.returns-else-len-out-clause-alone
-returns-else-len-out-clause-alone c = search rules
-
-pub returns-then-len-out-clause-small : goal.returns-then-len-out-clause-small
-returns-then-len-out-clause-small c = search rules
-
-pub returns-then-len-out-clause-alone : goal.returns-then-len-out-clause-alone
-returns-then-len-out-clause-alone c = search rules
-
 pub returns-in-Err-clause-refused : goal.returns-in-Err-clause-refused
 returns-in-Err-clause-refused c = λ h. let told = c.refused.ensures.told (search (rules, h)) in
     packing_refused c.args.inputs.now c.in-Err.refusal _ c.in-Err.ensures.refused told.0 told.1
