@@ -21,5 +21,6 @@ pub use dwp_bytes::{
 };
 pub use dwp_units::{UnitHeader, UnitHeaders, UnitSection, UnitType};
 pub use entry::{Attribute, Attributes, RootEntry, root};
+pub use needed::number_read;
 pub use split::SplitAttributes;
 pub use value::{StringSections, attr_string};
