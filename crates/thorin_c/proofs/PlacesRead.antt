@@ -1,6 +1,6 @@
 -- The places of sections that are read for each kind, and a package by them.
-use Rattle.std.proofs.Common.{◌≡◌, ℕ, List, refl, Bool, true, false, cond, length}
-use Rattle.std.specs.Prelude.{nat_le, Option, Some, None, Result, Ok, Err, IfOk, IfSome, slice_get}
+use Rattle.std.proofs.Common.{◌≡◌, ℕ, List, arith, refl}
+use Rattle.std.specs.Prelude.{Option, Some, None, Result, Ok, Err, IfOk, IfSome, slice_get}
 use Rattle.std.specs.Prelude.{[], option_map, find}
 use Rattle.std.proofs.lemmas.Option.{get_or_from_slice_get}
 use Rattle.dwp_base.specs.ByKind.{value_of}
@@ -42,10 +42,6 @@ located sections kind met number first at is firsts there of_number =
     rw (← among, of_number, there_is) refl
 
 -- where none was met there are no bytes
-same_by : (b : Bool) (xs : List ℕ) → cond b xs xs ≡ xs
-same_by true xs = refl
-same_by false xs = refl
-
 pub unplaced : (sections : List SectionMeaning) (bytes : List ℕ) (kind : SectionKind)
     (met : Option (ℕ × Section)) → met ≡ None
     → option_map (λ found. section found.1) met ≡ find (is_of_kind kind) sections
@@ -53,7 +49,7 @@ pub unplaced : (sections : List SectionMeaning) (bytes : List ℕ) (kind : Secti
 unfolding content_among
 unplaced sections bytes kind met is firsts =
     let among = rw is at firsts in
-    let none : bytes_at bytes nowhere ≡ [] = same_by (nat_le 0 (length bytes)) [] in
+    let none : bytes_at bytes nowhere ≡ [] = grind arith in
     rw (← among, none) refl
 
 -- what holds of what was read for each kind
