@@ -54,12 +54,9 @@ fn pack_alone<'s, Sess: Session<RelocationEntry>>(
 {
     let mut builder = DwarfPackage::new(alloc, session);
     for input in inputs {
-        match builder.add_object_bytes(input) {
-            Ok(()) => {}
-            Err(error) => {
-                drop(builder);
-                return Err(error);
-            }
+        if let Err(error) = builder.add_object_bytes(input) {
+            drop(builder);
+            return Err(error);
         }
     }
     let (file, _) = written(builder);
