@@ -1,32 +1,28 @@
 -- Inputs taken one after the other.
-use Rattle.std.proofs.Common.{◌≡◌, ◌∙◌, ℕ, ◌+◌, true, List, [], ◌∷◌, ◌++◌, refl, sym, ap, Ok, Err}
-use Rattle.std.proofs.Common.{◌<◌, ◌≤◌, if◌then◌else◌, inl, inr, length, take, get_or, map, arith}
-use Rattle.std.specs.Prelude.{◌≢◌, ◌⊎◌, ℤ, pos}
-use Rattle.std.proofs.lemmas.List.{map_more, length-map}
-use Rattle.std.proofs.Math.Seq.{take-append_seam}
+use Rattle.thorin.proofs.Terms.{ap, AreTaken, arith, bind-ok, Err, finish_test, get_or, inl, inr}
+use Rattle.thorin.proofs.Terms.{IsPackageOf, IsTakenAgain, IsWritten, length, length-map, List, map}
+use Rattle.thorin.proofs.Terms.{map_more, Ok, refl, start, State, sym, take, taken, taken_each}
+use Rattle.thorin.proofs.Terms.{true, units_in, [], ℕ, ◌+◌, ◌<◌, ◌∙◌, ◌∷◌, ◌≡◌, ◌≤◌, ◌⊎◌}
+use Rattle.std.proofs.Common.{if◌then◌else◌}
+use Rattle.std.specs.Prelude.{◌≢◌, ℤ, pos}
 use Rattle.thorin_errors.specs.Errors.{error_of, NoOutputObjectCreated}
 use Rattle.thorin_errors.specs.Answers.{MemoryAside}
 use Rattle.thorin_errors.specs.declared.error.Error.{Error}
-use Rattle.thorin_errors.specs.declared.error.Error.TheVariants as errors
-use Rattle.thorin.specs.Run.{IsWritten, RefusesToWrite}
+use Rattle.thorin.specs.Run.{RefusesToWrite}
 use Rattle.dwp_table.specs.declared.object.DebugTypeSignature.{DebugTypeSignature}
 use Rattle.thorin_c.specs.Errors.{Tells}
 use Rattle.thorin_c.specs.Listing.{written_over}
 use Rattle.thorin_c.specs.declared.packing.RefusedInput.{RefusedInput}
 use Rattle.thorin_c.specs.declared.types.ThorinReport.{ThorinReport}
-use Rattle.thorin_join.specs.Builder.{State, start, taken, differing_in, finish_test, targets_test}
-use Rattle.thorin_join.specs.Join.{Joins, IsPackageOf}
-use Rattle.thorin_join.specs.Represents.{units_in}
+use Rattle.thorin_join.specs.Builder.{differing_in, targets_test}
+use Rattle.thorin_join.specs.Join.{Joins}
 use Rattle.thorin_again.specs.Own.{packs_again}
-use Rattle.thorin_again.specs.PlainInputs.{AreTaken}
-use Rattle.thorin.specs.Again.{IsTakenAgain}
-use Rattle.thorin.specs.Groups.{taken_each}
 use Rattle.thorin.proofs.Running.{taken-then, each-taken, join-append}
 use Rattle.thorin_c.specs.Packing.{bytes_of, Accepts, StopsAt, Leaves, IsFailure, IsDifferingStatus}
 use Rattle.thorin_c.specs.Packing.{TellsRefused, TellsUnfinished, Refuses, RunsOutAt, RunsOutAfter}
 use Rattle.thorin_c.specs.Packing.{IsPackage, ArePackedAgain, Differ}
 use Rattle.thorin_c.specs.declared.types.ThorinBytes.{ThorinBytes}
-use Rattle.dwp_base.proofs.Steps.{bind-ok}
+use Rattle.thorin_errors.specs.declared.error.Error.TheVariants as errors
 
 -- one more input is accepted
 pub accepts-next : (inputs : List ThorinBytes) (i : ℕ) (d : ThorinBytes) (old middle new : State)
@@ -140,13 +136,6 @@ taken_again law inputs state bytes accepted written packs = record {
   again = law (bytes_of inputs) state bytes
       (each-taken (bytes_of inputs) start state accepted.taken) packs written;
 }
-
--- and so are the bytes in the caller's room
-pub handed_over : (inputs : List ThorinBytes) (file written rest : List ℕ) (n : ℕ)
-    → written ≡ file → n ≡ length file → ArePackedAgain inputs file
-    → ArePackedAgain inputs (take n (written ++ rest))
-handed_over inputs file written rest n same size again =
-    rw (same, size, take-append_seam file rest) again
 
 -- and why it can't be finished
 pub fails : (inputs : List ThorinBytes) (state : State) (error : Error) → 0 < length inputs

@@ -1,5 +1,6 @@
 use Rattle.std.proofs.Common.{◌≡◌, length, rules, arith}
-use Rattle.thorin_c.proofs.Taking.{handed_over, packing_out, packing_refused, packing_unfinished}
+use Rattle.std.proofs.Math.Seq.{take-append_seam}
+use Rattle.thorin_c.proofs.Taking.{packing_out, packing_refused, packing_unfinished}
 use Rattle.thorin_c.proofs.packing.thorin_pack.Goals as goal
 use Rattle.thorin_c.proofs.packing.thorin_pack.Goals.{then-packed, else-packed}
 
@@ -8,8 +9,7 @@ returns-else-len-out-clause-again c done one =
     let file = c.in-Ok.packed.file.items in
     let written : c.copy_from_slice.new.self ≡ file = search rules in
     let size : c.len-len.result ≡ length file = search rules in
-    handed_over c.args.inputs.now file c.copy_from_slice.new.self _ c.len-len.result written size
-    (elim c.if-packed.branch [
+    rw (written, size, take-append_seam file _) (elim c.if-packed.branch [
       | then-packed w ↦ c.in-Ok.ensures.again w.if-packed.true
       | else-packed w ↦ absurd (omega (arith, w.report-is, one))
     ])
