@@ -137,10 +137,10 @@ impl InProgressDwarfPackage {
     {
         let mark = self.mark()?;
         self.differing.extend_from_slice(&again.differing)?;
-        let put = put_each(&mut self.object, &again.parts);
-        if put.is_err() {
+        if let Err(error) = put_each(&mut self.object, &again.parts) {
             self.restore(&mark);
+            return Err(error);
         }
-        put
+        Ok(())
     }
 }
