@@ -16,12 +16,7 @@ module _ (bytes file : List ℕ) (size : ℕ) where
       → plain_length_of All bytes ≡ Ok (Some (length file))
       → size ≡ length file → length file ≤ length new → take (length file) new ≡ file
       → drop (length file) new ≡ drop (length file) old → Decompresses bytes size old new
-  plain_put old new meant long s fits front rest = record {
-    fits = rw s fits;
-    told = rw s long;
-    plain = rw (s, front) meant;
-    rest = rw s rest;
-  }
+  plain_put old new meant long s fits front rest = grind arith
 
   -- it has more bytes than there is room for
   pub room_needed : (room : ℕ) → plain_length_of All bytes ≡ Ok (Some (length file))
