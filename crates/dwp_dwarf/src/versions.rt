@@ -146,9 +146,7 @@ fn value_below(nodes: &[Node], levels: u32, version: u32, key: u64) -> Option<u3
     if levels == 0 {
         return None;
     }
-    let Some(node) = node_of(nodes, version) else {
-        return None;
-    };
+    let node = node_of(nodes, version)?;
     if key == 0 {
         return (node.value != 0).then_some(node.value);
     }
