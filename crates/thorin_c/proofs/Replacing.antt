@@ -1,7 +1,7 @@
 -- A list whose elements are replaced one after the other by what comes of them.
 use Rattle.std.proofs.Common.{◌≡◌, ℕ, ◌+◌, List, ◌++◌, refl, ◌<◌, ◌≤◌, length, take, drop, set}
-use Rattle.std.proofs.Common.{get_or, map, take_all, arith}
-use Rattle.std.specs.Prelude.{ℤ, Result, Ok, Err}
+use Rattle.std.proofs.Common.{get_or, map, take_all, arith, rules}
+use Rattle.std.specs.Prelude.{ℤ, Result, Ok}
 use Rattle.std.proofs.lemmas.List.{take_more_set, drop_more, drop-set-lt, drop-map, drop_all}
 use Rattle.std.proofs.lemmas.List.{append_assoc, append-nil, map-set, get_or-map, set-get_or}
 use Rattle.dwp_index.specs.Package.{Package}
@@ -47,5 +47,4 @@ status_left find pack lookups i d s h =
   where
     untold : (asked : ThorinLookup) (found : Result ThorinUnit ℤ)
         → told (record asked { status = s }) found ≡ told asked found
-    untold asked (Ok unit) = refl
-    untold asked (Err e) = refl
+    untold asked found = grind rules
