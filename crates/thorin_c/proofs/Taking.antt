@@ -68,9 +68,7 @@ runs_out_at inputs old refusal number is at here = rw here
 pub at_an_input : (X : Type 0) (status : ℤ) (number count : ℕ) → number < count
     → (status ≡ pos 12 → (count ≤ number) × X)
     → (status ≡ pos 11) ⊎ ((status ≡ pos 12) ⊎ (status ≡ pos 13)) → IsDifferingStatus status
-at_an_input X status number count lt past (inl is) = inr (inl is)
-at_an_input X status number count lt past (inr (inl is)) = absurd (omega (arith, lt, (past is).0))
-at_an_input X status number count lt past (inr (inr is)) = inr (inr is)
+at_an_input X status number count lt past told = grind (arith, past)
 
 -- what is told of inputs that weren't packed
 module _ (inputs : List ThorinBytes) (refusal : RefusedInput) where
