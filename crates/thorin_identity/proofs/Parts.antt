@@ -22,12 +22,12 @@ use Rattle.dwp_table.specs.declared.object.DwarfObject.{DwarfObject}
 use Rattle.thorin_errors.specs.Errors.{ErrorValue, NoDie, GimliRead, ParseUnitAbbreviations}
 use Rattle.thorin_errors.specs.Answers.{as_error}
 use Rattle.thorin_identity.specs.Identity.{entry_identity, root_identity, part_between, with_offset}
-use Rattle.thorin_identity.specs.Identity.{compilation, DW_AT_GNU_dwo_id, identifier_in, found_or}
-use Rattle.thorin_identity.specs.Identity.{first_identifier, numbered_identity}
+use Rattle.thorin_identity.specs.Identity.{compilation, DW_AT_GNU_dwo_id, first_identifier}
+use Rattle.thorin_identity.specs.Identity.{numbered_identity}
 use Rattle.dwp_base.specs.declared.endian.Endianness.{Endianness}
 use Rattle.dwp_bytes.specs.declared.encoding.Encoding.{Encoding}
 use Rattle.dwp_bytes.specs.declared.error.ReadError.{ReadError}
-use Rattle.dwp_dwarf.specs.Numbers.{first_number, number_or, numbered, numbered_at}
+use Rattle.dwp_dwarf.specs.Numbers.{first_number, numbered, numbered_at}
 
 -- by the code of the root entry
 abbrev by_code : Unit → Input → ℕ × Input → Result (Option DwarfObject) ErrorValue
@@ -113,18 +113,10 @@ part_within order bytes begin start end last part early in_order late held =
 abbrev by_number : Result (Option ℕ) ReadError → Result (Option DwarfObject) ErrorValue
 by_number number = as_error GimliRead number >>= λ id. Ok (option_map compilation id)
 
-found_alike : (o : Option ℕ) (r : Result (Option ℕ) ReadError)
-    → by_number (number_or o r) ≡ found_or o (by_number r)
-found_alike (Some n) r = refl
-found_alike None r = refl
-
 first_alike : (read : List (Result DebugAttribute ReadError))
     → by_number (first_number DW_AT_GNU_dwo_id read) ≡ first_identifier read
 first_alike [] = refl
-first_alike (Ok a ∷ others) =
-    found_alike (identifier_in a) (first_number DW_AT_GNU_dwo_id others)
-    ∙ ap (found_or (identifier_in a)) (first_alike others)
-first_alike (Err e ∷ others) = refl
+first_alike (read ∷ others) = grind (arith, first_alike others)
 
 pub numbered_is : (e : DebugEntry)
     → numbered_identity (numbered DW_AT_GNU_dwo_id e) ≡ entry_identity e
