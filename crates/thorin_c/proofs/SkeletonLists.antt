@@ -97,12 +97,9 @@ pub lists : (list : List Named) (first : FirstUnits) (old new : List ThorinSkele
     → IsFirst (room_of old before) list first → new ≡ written_over old first.names.items
     → after ≡ written_over before first.paths.items → count ≡ first.count
     → report.size ≡ first.size → ListsUnits list old new before after count report
-lists list first old new before after count report h names paths number size = record {
-  names = names ∙ ap (written_over old) h.names ∙ over_front old (map skeleton_named list);
-  paths = paths ∙ ap (written_over before) h.paths ∙ over_front before (paths_of list);
-  number = number ∙ h.count;
-  size = size ∙ h.size;
-}
+lists list first old new before after count report h names paths number size =
+    let front = over_front old (map skeleton_named list) in
+    grind (arith, h, front, over_front before (paths_of list))
 
 -- the fields that are told of an error, behind the size
 pub end_alone : (old new : ThorinReport) (n : ℕ) → TellsOfError (record old { size = n }) new
