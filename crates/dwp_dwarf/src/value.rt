@@ -50,7 +50,7 @@ pub(crate) const STRING: u64 = 0x08;
 
 pub(crate) const DATA1: u64 = 0x0b;
 
-pub(crate) const STRP: u64 = 0x0e;
+pub const STRP: u64 = 0x0e;
 
 pub(crate) const UDATA: u64 = 0x0f;
 
@@ -60,21 +60,21 @@ pub(crate) const SEC_OFFSET: u64 = 0x17;
 
 pub(crate) const FLAG_PRESENT: u64 = 0x19;
 
-pub(crate) const STRX: u64 = 0x1a;
+pub const STRX: u64 = 0x1a;
 
-pub(crate) const LINE_STRP: u64 = 0x1f;
+pub const LINE_STRP: u64 = 0x1f;
 
 pub(crate) const IMPLICIT_CONST: u64 = 0x21;
 
-pub(crate) const STRX1: u64 = 0x25;
+pub const STRX1: u64 = 0x25;
 
-pub(crate) const STRX2: u64 = 0x26;
+pub const STRX2: u64 = 0x26;
 
-pub(crate) const STRX3: u64 = 0x27;
+pub const STRX3: u64 = 0x27;
 
-pub(crate) const STRX4: u64 = 0x28;
+pub const STRX4: u64 = 0x28;
 
-pub(crate) const GNU_STR_INDEX: u64 = 0x1f02;
+pub const GNU_STR_INDEX: u64 = 0x1f02;
 
 /// How the value of a form is laid out (DWARF 5, 7.5.6; the GNU forms of split DWARF and of
 /// supplementary files).
