@@ -35,6 +35,7 @@ struct PlacedSections<'p, 'a> {
 
 impl<'p, 'a> PlacedSections<'p, 'a> {
     /// The content of a kind; no bytes where its place isn't inside.
+    #[tactic(auto, using(crate::proofs::PlacesRead::content_placed))]
     #[inline(always)]
     fn of(&self, kind: SectionKind) -> &'a [u8]
         ensures { result.now ≡ content (sections_at self.now.places.now self.now.bytes.now) kind }
