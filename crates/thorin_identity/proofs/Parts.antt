@@ -130,11 +130,9 @@ declared_is : (encoding : Encoding) (values : Input) (said : Result (Option Decl
     (entry encoding d values)) o)) ≡ Ok (Some found)
     → (as_error ParseUnitAbbreviations said >>= λ o. ok_or o (GimliRead UnknownCode) >>= λ d.
     entry_identity (entry encoding d values)) ≡ numbered_identity found
-declared_is encoding values (Err e) found is = absurd cc
-declared_is encoding values (Ok None) found is = absurd cc
-declared_is encoding values (Ok (Some d)) found is =
-    let same : numbered DW_AT_GNU_dwo_id (entry encoding d values) ≡ found = cc in
-    sym (numbered_is (entry encoding d values)) ∙ ap numbered_identity same
+declared_is encoding values said found is =
+    let same = λ (d : Declaration). sym (numbered_is (entry encoding d values)) in
+    grind (arith, same)
 
 -- the identity in a unit's root entry, by what was found of it
 pub root_is : (section : Input) (unit : Unit) (table values : Input) (code : ℕ)
