@@ -15,15 +15,11 @@ module _ {A : Type 0} where
   one_more (y ∷ old) (z ∷ list) x = ap (λ l. z ∷ l) (one_more old list x)
 
   -- a copy of as many as there is room for
-  copied : (old list : List A) → take (min (length list) (length old)) list ++ drop
-      (min (length list) (length old)) old ≡ written_over old list
-  copied old [] = simp unary_clauses refl
-  copied [] (x ∷ list) = simp unary_clauses refl
-  copied (y ∷ old) (x ∷ list) = simp unary_clauses (ap (λ l. x ∷ l) (copied old list))
-
-  pub copied-by : (old list whole copy : List A) (n : ℕ) → whole ≡ list → n ≡ min (length whole)
-      (length old) → copy ≡ take n whole → copy ++ drop n old ≡ written_over old list
-  copied-by old list whole copy n h k m = rw (m, k, h) (copied old list)
+  pub over_is : (old list : List A) → written_over old list
+      ≡ take (min (length list) (length old)) list ++ drop (min (length list) (length old)) old
+  over_is old [] = simp unary_clauses refl
+  over_is [] (x ∷ list) = simp unary_clauses refl
+  over_is (y ∷ old) (x ∷ list) = simp unary_clauses (ap (λ l. x ∷ l) (over_is old list))
 
 module _ {A B : Type 0} where
   -- one more is written
