@@ -54,13 +54,10 @@ pub first_more : (room : Room) (units : List Named) (unit : Named) (old new : Fi
     → new.paths.items ≡ take room.paths ((paths_of units ++ unit.1) ++ 0 ∷ [])
     → new.count ≡ old.count + 1 → new.size ≡ old.size + length unit.1 + 1
     → IsFirst room (units ++ unit ∷ []) new
-first_more room units unit old new h names paths count size = record {
-  names = names ∙ ap (take room.names) (sym (map-append skeleton_named units (unit ∷ [])));
-  paths = paths ∙ ap (take room.paths) (append_assoc (paths_of units) unit.1 (0 ∷ [])
-      ∙ sym (paths-append units unit));
-  count = grind (arith, count, h.count, length-append);
-  size = grind (arith, size, h.size, paths-append, length-append);
-}
+first_more room units unit old new h names paths count size =
+    let named = map-append skeleton_named units (unit ∷ []) in
+    let ended = append_assoc (paths_of units) unit.1 (0 ∷ []) in
+    grind (arith, h, named, ended, paths-append units unit, length-append)
 
 -- of some units those before the ones that are left were read
 pub record GoesOn (room : Room) (all left : Listed) (first : FirstUnits) : Type 0 where
