@@ -1,8 +1,8 @@
 -- The identity by a part of a section: tables of the same bytes give the same, and so does the
 -- section's table where it says the same of the root entry's code.
 use Rattle.std.proofs.Common.{◌≡◌, ℕ, ◌+◌, ◌<◌, ◌≤◌, min, length, take, drop, Option, Some, Result}
-use Rattle.std.proofs.Common.{Ok, Err, refl, ap, sym, ◌∙◌, arith, inl, inr, ◌-◌, List, [], ◌∷◌}
-use Rattle.std.proofs.Common.{None, option_map, drop-drop, length-drop, length-take-le, take-take}
+use Rattle.std.proofs.Common.{Ok, refl, ap, sym, ◌∙◌, arith, inl, inr, ◌-◌, List, [], ◌∷◌}
+use Rattle.std.proofs.Common.{option_map, drop-drop, length-drop, length-take-le, take-take}
 use Rattle.std.proofs.lemmas.Bool.{cases_lt}
 use Rattle.std.proofs.lemmas.List.{take_min}
 use Rattle.std.proofs.lemmas.Slice.{between_is}
