@@ -81,20 +81,15 @@ impl Node {
     }
 
     /// The node with another version on the side of a key.
-    fn with_side(self, key: u64, version: u32) -> Node
+    fn with_side(mut self, key: u64, version: u32) -> Node
         ensures { result ≡ with_side self key version }
     {
         if key % 2 == 0 {
-            Node {
-                even: version,
-                ..self
-            }
+            self.even = version;
         } else {
-            Node {
-                odd: version,
-                ..self
-            }
+            self.odd = version;
         }
+        self
     }
 }
 
