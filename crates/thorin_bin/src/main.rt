@@ -28,7 +28,7 @@ fn main(rt: HostRuntime) -> ExitCode {
     let facts = Facts {
         commit: COMMIT,
         on_terminal: stderr.is_terminal(),
-        patience: patience(&rt),
+        patience: env::var(&rt, PATIENCE).map_or(1000, |text| text.parse::<u64>().unwrap_or(1000)),
     };
     // Each is lent once: the prover takes one lifetime where a type names one.
     let host = &rt;
@@ -55,11 +55,6 @@ fn main(rt: HostRuntime) -> ExitCode {
         Err(cause) => thorin_cli::refuse_words(rt.alloc(), &mut err, &cause, word.as_slice()),
     };
     ExitCode::from(status)
-}
-
-/// The milliseconds that the environment says, or a second's.
-fn patience(rt: &HostRuntime) -> u64 {
-    env::var(rt, PATIENCE).map_or(1000, |text| text.parse::<u64>().unwrap_or(1000))
 }
 
 /// The words of the command line, the program's name among them. Each is read into `word`, which
