@@ -177,22 +177,17 @@ impl Notes {
         }
         match unit {
             DwarfObject::Compilation(unit) if !is_there => {
-                self.keep_absent(unit, executable.as_str(), object);
+                let (path, unread) = match object {
+                    Some(NamedObject { path, unread }) => (Some(path), unread),
+                    None => (None, None),
+                };
+                let mut absent = self.absent_units();
+                let _ = absent.add(unit.0, executable.as_str(), path, unread);
+                self.absent.set(absent);
             }
             _ => {}
         }
         self.own.set(Some(executable));
-    }
-
-    /// Keeps a unit that isn't there once its object was taken, or passed over.
-    fn keep_absent(&self, unit: DwoId, executable: &str, object: Option<NamedObject>) {
-        let (path, unread) = match object {
-            Some(NamedObject { path, unread }) => (Some(path), unread),
-            None => (None, None),
-        };
-        let mut absent = self.absent_units();
-        let _ = absent.add(unit.0, executable, path, unread);
-        self.absent.set(absent);
     }
 
     /// The units that executables name and that weren't there once their objects were taken. Asked
