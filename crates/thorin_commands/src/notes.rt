@@ -56,7 +56,7 @@ pub(crate) struct Notes {
     /// The path of the input.
     own: Cell<Option<String>>,
     /// The object that the input names and that was read last, unless it was taken.
-    named: Cell<Option<NamedObject>>,
+    pub(crate) named: Cell<Option<NamedObject>>,
     absent: Cell<AbsentUnits>,
     /// What is left compressed of the file that was read last.
     pub(crate) compression: Cell<Compression>,
@@ -81,8 +81,8 @@ struct Differing {
 
 /// An object that an executable names.
 #[derive(Drop)]
-struct NamedObject {
-    path: String,
+pub(crate) struct NamedObject {
+    pub(crate) path: String,
     /// Why it couldn't be read, if it couldn't.
     unread: Option<String>,
 }
@@ -153,15 +153,6 @@ impl Notes {
             Ok(path) => Some(NamedObject { path, unread }),
             Err(_) => None,
         });
-    }
-
-    /// The path of the object that the input names and that was read last; none where none was, and
-    /// where it was taken. Asked for once.
-    pub(crate) fn last_named(&self) -> Option<String> {
-        match self.named.replace(None) {
-            Some(NamedObject { path, .. }) => Some(path),
-            None => None,
-        }
     }
 
     /// Keeps the object of a unit that an executable names, once it was taken or passed over, and

@@ -205,9 +205,13 @@ pub(crate) fn tell_refused<I: Inputs, E: LineOutput>(
     ensures told { OnOk result (Tells E.contents err.new (refusal_text why.now)) }
     ensures blamed { IfErr result (FailsBy (E.failed err.new)) }
 {
-    let named = inputs.notes().last_named();
+    let object = inputs.notes().named.replace(None);
+    let named = match &object {
+        Some(object) => Some(object.path.as_str()),
+        None => None,
+    };
     let place = match path_of(input) {
-        Some(path) => place_of(alloc, path.path_text(), named.as_deref()).ok(),
+        Some(path) => place_of(alloc, path.path_text(), named).ok(),
         None => None,
     };
     tell_why(alloc, inputs, why, place.as_deref(), before, err)
