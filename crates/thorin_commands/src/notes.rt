@@ -224,23 +224,17 @@ impl Notes {
         self.origins.set(Some(origins));
     }
 
-    /// What brought the unit at a place among the package's, as it is printed; none where that
-    /// isn't known.
-    pub(crate) fn origin_of(&self, place: usize) -> Option<String> {
-        let mut origin = String::new(self.alloc);
-        self.put_origin("", place, &mut origin).ok()?;
-        if origin.is_empty() {
-            return None;
-        }
-        Some(origin)
-    }
-
     /// Adds words and what brought the unit at a place to a line, where that is known: the first
     /// behind which the package has more units than stand before it. Their numbers grow.
     ///
     /// # Errors
     /// Want of memory.
-    fn put_origin(&self, words: &str, place: usize, line: &mut String) -> Result<(), AllocError> {
+    pub(crate) fn put_origin(
+        &self,
+        words: &str,
+        place: usize,
+        line: &mut String,
+    ) -> Result<(), AllocError> {
         let Some(origins) = self.origins.replace(None) else {
             return Ok(());
         };

@@ -287,10 +287,15 @@ fn note_why<I: Inputs>(
         },
         NotTaken::Failed(Error::MixedInputEncodings) => note_encodings(inputs, Some(place), notes),
         NotTaken::Failed(Error::DuplicateUnit(unit)) => match before {
-            Some(before) => match inputs.notes().origin_of(before) {
-                Some(first) => note_before(*unit, place, first.as_str(), notes),
-                None => note_alone(place, notes),
-            },
+            Some(before) => {
+                let mut first = String::new(alloc);
+                match inputs.notes().put_origin("", before, &mut first) {
+                    Ok(()) if !first.is_empty() => {
+                        note_before(*unit, place, first.as_str(), notes);
+                    }
+                    _ => note_alone(place, notes),
+                }
+            }
             None => note_twice_in(*unit, place, notes),
         },
         NotTaken::Failed(error) => {
