@@ -353,14 +353,6 @@ pub(crate) fn path_of(input: Input<'_>) -> Option<Path<'_>>
     }
 }
 
-/// The path of an input that is an executable.
-pub(crate) fn executable_of(input: Input<'_>) -> Option<Path<'_>> {
-    match input {
-        Input::Executable(path, _) | Input::ExecutableSkippingNameless(path, _) => Some(path),
-        Input::Object(_) | Input::Bytes(_) => None,
-    }
-}
-
 /// The objects, and then the executables.
 fn inputs_of<'a>(alloc: Global, packing: &Packing<'_, 'a>) -> Result<Vec<Input<'a>>, AllocError>
     ensures { IfOk result (λ inputs. map asked inputs.items ≡ asks packing.now) }

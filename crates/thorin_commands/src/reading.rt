@@ -16,7 +16,7 @@ ghost use Rattle.thorin_commands.specs.Taken.{IsReadInto, IsTakenFor, Manner, Ma
 ghost use Rattle.thorin_commands.specs.Warned.{TellsMacros};
 
 use crate::notes::{Holding, Notes};
-use crate::packing::{Packing, executable_of, paths_in};
+use crate::packing::{Packing, paths_in};
 use dwp_macros::{MacrosError, with_macros};
 use dwp_table::{DebugTypeSignature, DwarfObject};
 use std::alloc::{AllocError, Global};
@@ -381,7 +381,8 @@ impl<F: FileSystem> Inputs for InputFiles<'_, F> {
 
     fn begin(&self, input: Input<'_>) {
         self.notes.begin(input);
-        self.is_executable.set(executable_of(input).is_some());
+        self.is_executable
+            .set(!matches!(input, Input::Object(_) | Input::Bytes(_)));
         let mut repetitions = self.repetitions.replace(Repetitions::new(self.alloc));
         repetitions.begin();
         self.repetitions.set(repetitions);

@@ -13,7 +13,7 @@ ghost use Rattle.thorin_commands.specs.Warned.{path_of, unit_line};
 
 use crate::making::Attempt;
 use crate::notes::unit_count;
-use crate::packing::{executable_of, path_of};
+use crate::packing::path_of;
 use crate::reading::Inputs;
 use dwp_bytes::RelocationEntry;
 use std::alloc::{AllocError, Global};
@@ -156,7 +156,7 @@ fn warn_for<I: Inputs, E: LineOutput>(
     let Some(path) = path_of(input) else {
         return Ok(());
     };
-    let is_executable = executable_of(input).is_some();
+    let is_executable = !matches!(input, Input::Object(_));
     match lack {
         Lack::Types => {}
         _ if count > 0 => return Ok(()),
