@@ -4,7 +4,6 @@
 ghost use Rattle.std.specs.Prelude.{◌≡◌, map, IfOk, IsSome, string_bytes};
 ghost use Rattle.std.specs.IoError.{error_kind};
 ghost use Rattle.std.specs.declared.io.ErrorKind.TheVariants.{OutOfMemory};
-ghost use Rattle.thorin_print.specs.Answers.{Grows};
 ghost use Rattle.thorin_print.specs.Watching.{LacksLine};
 ghost use Rattle.thorin_print.specs.declared.output.Failure.TheVariants as failures;
 ghost use Rattle.thorin_terminal.specs.Watching.{failure_of};
@@ -170,18 +169,9 @@ pub fn refuse_words<E: Write>(
         return err.report(&Failure::Memory);
     }
     let status = err.report(&Failure::BadCommand);
-    note_word(alloc, word, &mut err.writer);
+    let note = word_note(alloc, word).unwrap_or(String::new(alloc));
+    put_note(note.as_str(), &mut err.writer);
     status
-}
-
-/// Prints the note on a word that isn't UTF-8.
-#[tactic(auto, using(thorin_print::proofs::Printed::none_grown))]
-fn note_word<E: Write>(alloc: Global, word: &[u8], err: &mut E)
-    ensures { Grows (E.contents err.old) (E.contents err.new) }
-{
-    if let Ok(note) = word_note(alloc, word) {
-        put_note(note.as_str(), err);
-    }
 }
 
 /// The note on a word that isn't UTF-8.
