@@ -9,7 +9,7 @@ ghost use Rattle.thorin_cli.specs.Doing.{Verifies};
 ghost use Rattle.thorin_cli.specs.Programs.{KeepsPlaces, state_of, system};
 
 use crate::notes::{Lookup, note_listed, note_packing, note_reading, note_refused, note_why};
-use crate::settings::{file_count, form_of, nameless_units, packing_of};
+use crate::settings::{form_of, nameless_units, packing_of};
 use crate::system::{NotedReader, ProgramManner};
 use std::alloc::Global;
 use std::fmt;
@@ -190,7 +190,11 @@ impl<F: NotedFiles, R: NotedReader, O: Write, E: Write> Commands
         self.files.begin(ReadingSettings {
             seeks: self.manner.of_peer,
             patience: is_shown.then_some(self.patience),
-            all: file_count(&packing),
+            // (executables name more)
+            all: match (packing.inputs, packing.executables) {
+                (Some(inputs), None) => Some(inputs.len() as u64),
+                _ => None,
+            },
             names_objects: packs && packing.verbose,
         });
         if packs {

@@ -100,11 +100,3 @@ fn warnings_of(arguments: PackArguments<'_, '_>, manner: ProgramManner) -> Warni
         None => Warnings::Each,
     }
 }
-
-/// How many files are to be read, where no executable names more.
-pub(crate) fn file_count(packing: &Packing<'_, '_>) -> Option<u64> {
-    match (packing.inputs, packing.executables) {
-        (Some(inputs), None) => Some(inputs.len() as u64),
-        _ => None,
-    }
-}
