@@ -4,7 +4,7 @@ ghost use Rattle.std.specs.Prelude.{◌≡◌, Err};
 ghost use Rattle.thorin_print.specs.Watching.{LacksLine};
 ghost use Rattle.thorin_check.specs.Checking.{Checks};
 ghost use Rattle.thorin_reading.specs.Taken.{Takes};
-ghost use Rattle.thorin_cli.specs.Doing.{Answers, DoesCall, DoesPacking, HasStatus, ListsMissing};
+ghost use Rattle.thorin_cli.specs.Doing.{Answers, DoesCall, DoesPacking, HasStatus};
 ghost use Rattle.thorin_cli.specs.Doing.{Verifies};
 ghost use Rattle.thorin_cli.specs.Programs.{KeepsPlaces, state_of, system};
 
@@ -107,26 +107,6 @@ impl<F: NotedFiles, R: NotedReader, O: Write, E: Write> Program<'_, '_, '_, F, R
         }
     }
 
-    /// Lists the objects that are missing.
-    fn list_as(&mut self, packing: &Packing<'_, '_>) -> u8
-        ensures done { Answers (system F.offer F.known F.begun O.contents E.contents
-            (R.offer self.old.reader.now)) (state_of self.new)
-            (ListsMissing (state_of self.old) (state_of self.new)) result }
-        ensures places { KeepsPlaces self.old self.new }
-    {
-        let answer = list_missing(
-            self.alloc,
-            self.files,
-            packing,
-            self.out,
-            &mut self.err.writer,
-        );
-        match answer {
-            Ok(status) => status,
-            Err(failure) => self.report(&failure),
-        }
-    }
-
     /// Checks the package that would be made.
     fn verify_as(&mut self, packing: &Packing<'_, '_>) -> u8
         ensures done { Answers (system F.offer F.known F.begun O.contents E.contents
@@ -200,7 +180,17 @@ impl<F: NotedFiles, R: NotedReader, O: Write, E: Write> Commands
         if packs {
             self.pack_as(&packing)
         } else {
-            self.list_as(&packing)
+            let answer = list_missing(
+                self.alloc,
+                self.files,
+                &packing,
+                self.out,
+                &mut self.err.writer,
+            );
+            match answer {
+                Ok(status) => status,
+                Err(failure) => self.report(&failure),
+            }
         }
     }
 
