@@ -24,7 +24,13 @@ pub(crate) fn packing_of<'m, 'a>(
         MissingReferencedObjectBehaviour::Error
     };
     let warnings = warnings_of(arguments, manner);
-    let macros = macros_of(arguments, manner);
+    let macros = if arguments.drops_macros {
+        KeptMacros::None
+    } else if arguments.keeps_last_macros || manner.of_peer {
+        KeptMacros::Last
+    } else {
+        KeptMacros::All
+    };
     Packing {
         output: arguments.output,
         inputs: arguments.inputs,
@@ -42,19 +48,6 @@ pub(crate) fn packing_of<'m, 'a>(
         macros,
         warns_of_macros: warns(macros, warnings) && (arguments.verbose || manner.on_terminal),
         lets_empty: manner.of_peer,
-    }
-}
-
-/// Which macros count: those that the words keep, or the last where the program is a peer.
-fn macros_of(arguments: PackArguments<'_, '_>, manner: ProgramManner) -> KeptMacros
-    ensures { result ≡ spec.macros_for manner arguments.entry }
-{
-    if arguments.drops_macros {
-        KeptMacros::None
-    } else if arguments.keeps_last_macros || manner.of_peer {
-        KeptMacros::Last
-    } else {
-        KeptMacros::All
     }
 }
 
