@@ -150,20 +150,12 @@ pub(crate) fn note_refused<E: Write>(
 )
     ensures { Grows (E.contents err.old) (E.contents err.new) }
 {
-    match named {
-        Some(named) => note_named(alloc, packing, named, err),
-        None if packing.inputs.is_none() && packing.executables.is_none() => {
+    let Some(named) = named else {
+        if packing.inputs.is_none() && packing.executables.is_none() {
             put_note("note: neither INPUT nor EXEC is named\n", err);
         }
-        None => {}
-    }
-}
-
-/// Prints the note on a file that is no input as it is.
-#[tactic(auto, using(thorin_print::proofs::Printed::none_grown))]
-fn note_named<E: Write>(alloc: Global, packing: &Packing<'_, '_>, named: &NamedFile, err: &mut E)
-    ensures { Grows (E.contents err.old) (E.contents err.new) }
-{
+        return;
+    };
     let path = named.path.as_str();
     let executables = packing.executables.unwrap_or(&[]);
     match named.peculiarity {
