@@ -1,5 +1,5 @@
 -- Where a path is read.
-use Rattle.std.proofs.Common.{◌≡◌, ℕ, List, [], ◌∷◌, refl, ◌⊎◌, inl, inr}
+use Rattle.std.proofs.Common.{◌≡◌, ℕ, List, [], ◌∷◌, ◌⊎◌, inl, inr}
 use Rattle.std.specs.Prelude.{Result, Ok, Err}
 use Rattle.std.specs.declared.io.Error.{Error as IoError}
 use Rattle.std.specs.Borrow.{Bor}
@@ -30,12 +30,6 @@ module _ (objects executables : List (Bor (List ℕ))) (offer : Offer) (path : L
     over Offers Offers' f (Err (Declined growth.Macros)) h = absurd h
     over Offers Offers' f (Err (Declined growth.Plain)) h = absurd h
 
-    -- where there are no words FROM=TO, as it is
-    pub through_none : (words : List (Bor (List ℕ))) → words ≡ []
-        → IsReadInto (offer path) repeats room result
-        → IsReadInto (through words objects executables offer path) repeats room result
-    through_none words e h = rw e h
-
     -- one that the command line names
     pub through_given : (words : List (Bor (List ℕ)))
         → IsAmong objects path ⊎ IsAmong executables path → IsReadInto (offer path)
@@ -46,11 +40,12 @@ module _ (objects executables : List (Bor (List ℕ))) (offer : Offer) (path : L
         over (offer path) (through (word ∷ words) objects executables offer path)
         (λ answer o. inr (given, o)) result h
 
-    -- and one whose prefix is replaced
+    -- and one whose prefix is replaced, or which stays as it is
     pub through_mapped : (words : List (Bor (List ℕ))) (other : List ℕ) → other ≡ mapped words path
-        → (words ≡ [] → ⊥) → IsReadInto (offer other) repeats room result
+        → IsReadInto (offer other) repeats room result
         → IsReadInto (through words objects executables offer path) repeats room result
-    through_mapped [] other e some h = absurd (some refl)
-    through_mapped (word ∷ words) other e some h =
+    unfolding mapped
+    through_mapped [] other e h = rw e at h
+    through_mapped (word ∷ words) other e h =
         over (offer other) (through (word ∷ words) objects executables offer path)
         (λ answer o. inl (rw e at o)) result h

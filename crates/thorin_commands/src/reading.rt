@@ -144,7 +144,7 @@ impl<'f, F: FileSystem> InputFiles<'f, F> {
     }
 
     /// Reads the file of a path that the input has, or that it names.
-    #[tactic(auto, using(crate::proofs::Taken::through_none, crate::proofs::Taken::through_given, crate::proofs::Taken::through_mapped))]
+    #[tactic(auto, using(crate::proofs::Taken::through_given, crate::proofs::Taken::through_mapped))]
     fn read(
         &self,
         is_own: bool,
@@ -156,9 +156,6 @@ impl<'f, F: FileSystem> InputFiles<'f, F> {
             room.new.items result }
         ensures memory { OnFailed result IsNoWantOfMemory }
     {
-        if paths_in(self.packing.prefix_maps).is_empty() {
-            return self.read_at(is_own, path, room);
-        }
         if is_own && self.is_given(path.path_text()) {
             return self.read_at(is_own, path, room);
         }
