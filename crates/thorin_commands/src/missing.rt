@@ -13,7 +13,7 @@ use crate::telling::{ReportOptions, tell_why, unit_line};
 use bumpalo::Bump;
 use dwp_bytes::RelocationEntry;
 use dwp_table::Bucketable;
-use std::alloc::Global;
+use std::alloc::{AllocError, Global};
 use std::collections::HashSet;
 use std::io::Write;
 use std::path::Path;
@@ -117,9 +117,9 @@ impl From<Error> for ListFailure {
     }
 }
 
-impl From<Failure> for ListFailure {
-    fn from(failure: Failure) -> ListFailure {
-        ListFailure::Command(failure)
+impl From<AllocError> for ListFailure {
+    fn from(_e: AllocError) -> ListFailure {
+        ListFailure::Command(Failure::Memory)
     }
 }
 
@@ -175,7 +175,8 @@ fn list_of<F: FileSystem, W: Write>(
     }
 }
 
-/// Prints those of the units that are left of those that an executable names.
+/// Prints the paths of the units that are left of those that an executable names, of objects that
+/// can't be read, and that weren't seen before. Answers whether there is one.
 fn list_each<F: FileSystem, W: Write>(
     alloc: Global,
     inputs: &InputFiles<'_, F>,
@@ -191,35 +192,24 @@ fn list_each<F: FileSystem, W: Write>(
         if let Err(why) = admit_path(inputs, units.path()) {
             return Err(ListFailure::Refused(NotTaken::Declined(why), None));
         }
-        if list_path(alloc, inputs, units.path(), seen, lines)? {
-            is_one_missing = true;
+        let path = inputs.prefixes.mapped(units.path())?;
+        let told = shown(alloc, path.as_str())?;
+        if seen.contains(&told) {
+            continue;
+        }
+        match inputs.files.try_regular(Path::new(path.as_str())) {
+            Ok(()) => {}
+            Err(InputError::Io(_)) => {
+                if writeln!(lines, "{told}").is_err() {
+                    return Err(ListFailure::Command(Failure::Line));
+                }
+                is_one_missing = true;
+            }
+            Err(InputError::Memory) => return Err(ListFailure::Command(Failure::Memory)),
+        }
+        if seen.insert(told).is_err() {
+            return Err(ListFailure::Command(Failure::Memory));
         }
     }
     Ok(is_one_missing)
-}
-
-/// Prints the path of an object that an executable names where it can't be read, unless the path
-/// was seen before. Answers whether it is printed.
-fn list_path<F: FileSystem, W: Write>(
-    alloc: Global,
-    inputs: &InputFiles<'_, F>,
-    named: &str,
-    seen: &mut HashSet<String>,
-    lines: &mut W,
-) -> Result<bool, Failure> {
-    let path = inputs.prefixes.mapped(named)?;
-    let told = shown(alloc, path.as_str())?;
-    if seen.contains(&told) {
-        return Ok(false);
-    }
-    let is_missing = match inputs.files.try_regular(Path::new(path.as_str())) {
-        Ok(()) => false,
-        Err(InputError::Io(_)) => true,
-        Err(InputError::Memory) => return Err(Failure::Memory),
-    };
-    if is_missing && writeln!(lines, "{told}").is_err() {
-        return Err(Failure::Line);
-    }
-    seen.insert(told)?;
-    Ok(is_missing)
 }
