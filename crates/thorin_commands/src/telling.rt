@@ -217,7 +217,8 @@ pub(crate) fn tell_refused<I: Inputs, E: LineOutput>(
     tell_why(alloc, inputs, why, place.as_deref(), before, err)
 }
 
-/// Prints why an input or a member of one was refused, and a note on the place.
+/// Prints why an input or a member of one was refused, its error or why it is declined, and a note
+/// on the place.
 ///
 /// # Errors
 /// `Line` or `Memory`.
@@ -233,7 +234,10 @@ pub(crate) fn tell_why<I: Inputs, E: LineOutput>(
     ensures told { OnOk result (Tells E.contents err.new (refusal_text why.now)) }
     ensures blamed { IfErr result (FailsBy (E.failed err.new)) }
 {
-    tell_error(alloc, why, err)?;
+    match why {
+        NotTaken::Failed(error) => print_error(alloc, error, err)?,
+        NotTaken::Declined(growth) => put_error(alloc, growth.error(), err)?,
+    }
     let mut notes = Vec::new(alloc);
     if let Some(place) = place {
         note_why(alloc, inputs, why, place, before, &mut notes);
@@ -248,24 +252,6 @@ pub(crate) fn put_notes<E: LineOutput>(notes: &[u8], err: &mut E)
 {
     if let Ok(text) = str::from_utf8(notes) {
         let _ = err.print_text(text);
-    }
-}
-
-/// Prints why an input or a member of one was refused: its error, or why it is declined.
-///
-/// # Errors
-/// `Line` or `Memory`.
-fn tell_error<E: LineOutput>(
-    alloc: Global,
-    why: &NotTaken<Error, Growth>,
-    err: &mut E,
-) -> Result<(), Failure>
-    ensures told { OnOk result (Tells E.contents err.new (refusal_text why.now)) }
-    ensures blamed { IfErr result (FailsBy (E.failed err.new)) }
-{
-    match why {
-        NotTaken::Failed(error) => print_error(alloc, error, err),
-        NotTaken::Declined(growth) => put_error(alloc, growth.error(), err),
     }
 }
 
