@@ -17,7 +17,7 @@ use std::alloc::{AllocError, Global};
 use std::collections::HashSet;
 use std::io::Write;
 use std::path::Path;
-use thorin::{BytesSession, DwarfPackage, Input, InputReader, NamelessUnits, NotTaken};
+use thorin::{BytesSession, DwarfPackage, Input, InputReader, NotTaken};
 use thorin_builder::admit_path;
 use thorin_errors::{Error, InputError, MissingReferencedObjectBehaviour};
 use thorin_executable::NamedUnits;
@@ -69,51 +69,56 @@ pub fn list_missing<F: FileSystem, O: Write, E: Write>(
 ) -> Result<u8, Failure>
     ensures { IfOk result (λ status. status ≤ 1) }
 {
-    let executables = paths_in(packing.executables);
-    if executables.is_empty() {
+    if paths_in(packing.executables).is_empty() {
         return Err(Failure::BadCommand);
     }
     let inputs = InputFiles::new(alloc, files, packing)?;
-    list_by(alloc, &inputs, executables, packing.nameless, out, err)
+    list_all(alloc, &inputs, out, err)
 }
 
-/// Lists what executables lack, of which there are some, by these inputs.
-fn list_by<F: FileSystem, O: Write, E: Write>(
+/// Lists what executables lack, each path once, up to the first executable that is refused.
+fn list_all<F: FileSystem, O: Write, E: Write>(
     alloc: Global,
     inputs: &InputFiles<'_, F>,
-    executables: &[&str],
-    nameless: NamelessUnits,
     out: &mut O,
     err: &mut E,
 ) -> Result<u8, Failure>
     ensures { IfOk result (λ status. status ≤ 1) }
 {
     let mut lines = buffer(alloc, out)?;
-    let listed = list_all(alloc, inputs, executables, nameless, &mut lines);
-    flush(&mut lines)?;
-    match listed {
-        Ok(false) => Ok(0),
-        Ok(true) => Ok(1),
-        Err(ListFailure::Refused(why, place)) => {
-            tell_why(alloc, inputs, &why, place.as_deref(), None, err)?;
-            Ok(1)
+    let mut seen = HashSet::new(alloc);
+    let mut is_one_missing = false;
+    for executable in paths_in(inputs.packing.executables) {
+        match list_of(alloc, inputs, *executable, &mut seen, &mut lines) {
+            Ok(is_missing) => is_one_missing |= is_missing,
+            Err(ListFailure::Refused(why)) => {
+                flush(&mut lines)?;
+                let place = place_of(alloc, *executable, None).ok();
+                tell_why(alloc, inputs, &why, place.as_deref(), None, err)?;
+                return Ok(1);
+            }
+            Err(ListFailure::Command(failure)) => {
+                flush(&mut lines)?;
+                return Err(failure);
+            }
         }
-        Err(ListFailure::Command(failure)) => Err(failure),
     }
+    flush(&mut lines)?;
+    if is_one_missing { Ok(1) } else { Ok(0) }
 }
 
 /// Why no more is listed.
 #[derive(Drop)]
 enum ListFailure {
-    /// An executable is refused: why, and which, as it is printed.
-    Refused(NotTaken<Error, Growth>, Option<String>),
+    /// An executable is refused.
+    Refused(NotTaken<Error, Growth>),
     /// What the command was given can't be done.
     Command(Failure),
 }
 
 impl From<Error> for ListFailure {
     fn from(error: Error) -> ListFailure {
-        ListFailure::Refused(NotTaken::Failed(error), None)
+        ListFailure::Refused(NotTaken::Failed(error))
     }
 }
 
@@ -123,30 +128,11 @@ impl From<AllocError> for ListFailure {
     }
 }
 
-/// Prints those of all executables, and answers whether there is one.
-fn list_all<F: FileSystem, W: Write>(
-    alloc: Global,
-    inputs: &InputFiles<'_, F>,
-    executables: &[&str],
-    nameless: NamelessUnits,
-    lines: &mut W,
-) -> Result<bool, ListFailure> {
-    let mut seen = HashSet::new(alloc);
-    let mut is_one_missing = false;
-    for executable in executables {
-        if list_of(alloc, inputs, *executable, nameless, &mut seen, lines)? {
-            is_one_missing = true;
-        }
-    }
-    Ok(is_one_missing)
-}
-
 /// Prints those of an executable that weren't seen before, and answers whether there is one.
 fn list_of<F: FileSystem, W: Write>(
     alloc: Global,
     inputs: &InputFiles<'_, F>,
     executable: &str,
-    nameless: NamelessUnits,
     seen: &mut HashSet<String>,
     lines: &mut W,
 ) -> Result<bool, ListFailure> {
@@ -155,24 +141,14 @@ fn list_of<F: FileSystem, W: Write>(
     let bump = Bump::new(alloc);
     let session = BytesSession::new(&bump);
     inputs.begin(Input::Executable(path, MissingReferencedObjectBehaviour::Skip));
-    let listed = match inputs.read_into(true, path, &mut room) {
-        Ok(bytes) => match NamedUnits::read_by(alloc, &session, bytes, nameless) {
-            Ok(mut units) => {
-                let listed = list_each(alloc, inputs, &mut units, seen, lines);
-                drop(units);
-                listed
-            }
-            Err(error) => Err(ListFailure::from(error)),
-        },
-        Err(why) => Err(ListFailure::Refused(NotTaken::from(why), None)),
+    let bytes = match inputs.read_into(true, path, &mut room) {
+        Ok(bytes) => bytes,
+        Err(why) => return Err(ListFailure::Refused(NotTaken::from(why))),
     };
-    match listed {
-        Err(ListFailure::Refused(why, _)) => {
-            let place = place_of(alloc, executable, None).ok();
-            Err(ListFailure::Refused(why, place))
-        }
-        listed => listed,
-    }
+    let mut units = NamedUnits::read_by(alloc, &session, bytes, inputs.packing.nameless)?;
+    let listed = list_each(alloc, inputs, &mut units, seen, lines);
+    drop(units);
+    listed
 }
 
 /// Prints the paths of the units that are left of those that an executable names, of objects that
@@ -190,7 +166,7 @@ fn list_each<F: FileSystem, W: Write>(
             continue;
         }
         if let Err(why) = admit_path(inputs, units.path()) {
-            return Err(ListFailure::Refused(NotTaken::Declined(why), None));
+            return Err(ListFailure::Refused(NotTaken::Declined(why)));
         }
         let path = inputs.prefixes.mapped(units.path())?;
         let told = shown(alloc, path.as_str())?;

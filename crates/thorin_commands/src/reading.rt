@@ -86,7 +86,7 @@ pub(crate) struct InputFiles<'f, F> {
     alloc: Global,
     pub(crate) files: &'f F,
     /// How they are read.
-    packing: &'f Packing<'f, 'f>,
+    pub(crate) packing: &'f Packing<'f, 'f>,
     /// The prefixes that others take the place of, and where the paths stand that the command line
     /// names, if there are any.
     pub(crate) prefixes: Prefixes<'f>,
