@@ -296,6 +296,34 @@ impl<'f, F: FileSystem> InputFiles<'f, F> {
             Err(MacrosError::Unrepresentable) => Err(NotTaken::Declined(Growth::Macros)),
         }
     }
+
+    /// What is taken for the content of a file, of an archive's member or of an object that is named
+    /// by a path; none where that is taken as it is.
+    ///
+    /// # Errors
+    /// `Memory`; `Declined` where sections or strings overlap, or no file has what would be taken.
+    fn taken(
+        &self,
+        is_executable: bool,
+        content: &[u8],
+        named: &str,
+        is_member: bool,
+    ) -> Result<Option<Vec<u8>>, NotTaken<InputError, Growth>>
+        ensures taken { IfOk result (λ taken. IsTakenFor (manner_of self.now.packing.now)
+            content.now (spec.or_content content.now taken)) }
+        ensures declined { OnDeclined result
+            (DeclinesBytes (manner_of self.now.packing.now) content.now) }
+        ensures memory { OnFailed result (λ e. e ≡ Memory) }
+    {
+        let plain = self.plain(is_executable, content)?;
+        let bytes = or_content(content, &plain);
+        self.test_strings(is_executable, bytes)?;
+        self.notes.inspect(bytes, named, is_member)?;
+        match self.kept(bytes)? {
+            Some(kept) => Ok(Some(kept)),
+            None => Ok(plain),
+        }
+    }
 }
 
 impl<F: FileSystem> InputReader for InputFiles<'_, F> {
@@ -313,13 +341,9 @@ impl<F: FileSystem> InputReader for InputFiles<'_, F> {
     ) -> Result<&'b [u8], NotTaken<InputError, Growth>> {
         let is_executable = is_own && self.is_executable.get();
         self.read(is_own, path, room)?;
-        let plain = self.plain(is_executable, room)?;
-        put_over(room, plain);
-        self.test_strings(is_executable, room)?;
         let named = if is_own { "" } else { path.path_text() };
-        self.notes.inspect(room, named, false)?;
-        let kept = self.kept(room)?;
-        put_over(room, kept);
+        let taken = self.taken(is_executable, room, named, false)?;
+        put_over(room, taken);
         Ok(room.as_slice())
     }
 
@@ -366,14 +390,7 @@ impl<F: FileSystem> Inputs for InputFiles<'_, F> {
     }
 
     fn member(&self, content: &[u8]) -> Result<Option<Vec<u8>>, NotTaken<InputError, Growth>> {
-        let plain = self.plain(false, content)?;
-        let bytes = or_content(content, &plain);
-        self.test_strings(false, bytes)?;
-        self.notes.inspect(bytes, "", true)?;
-        match self.kept(bytes)? {
-            Some(kept) => Ok(Some(kept)),
-            None => Ok(plain),
-        }
+        self.taken(false, content, "", true)
     }
 
     fn begin(&self, input: Input<'_>) {
