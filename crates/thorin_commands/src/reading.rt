@@ -342,8 +342,9 @@ impl<F: FileSystem> InputReader for InputFiles<'_, F> {
         let is_executable = is_own && self.is_executable.get();
         self.read(is_own, path, room)?;
         let named = if is_own { "" } else { path.path_text() };
-        let taken = self.taken(is_executable, room, named, false)?;
-        put_over(room, taken);
+        if let Some(taken) = self.taken(is_executable, room, named, false)? {
+            *room = taken;
+        }
         Ok(room.as_slice())
     }
 
@@ -433,15 +434,6 @@ impl<F: FileSystem> Inputs for InputFiles<'_, F> {
 
     fn notes(&self) -> &Notes {
         &self.notes
-    }
-}
-
-/// Puts what is taken in place of a file, where it doesn't stay as it is.
-pub(crate) fn put_over(room: &mut Vec<u8>, taken: Option<Vec<u8>>)
-    ensures { room.new.items ≡ spec.or_content room.old.items taken }
-{
-    if let Some(taken) = taken {
-        *room = taken;
     }
 }
 
