@@ -254,30 +254,6 @@ impl<'f, F: FileSystem> InputFiles<'f, F> {
         }
     }
 
-    /// Tests whether the strings of plain bytes overlap, where that isn't allowed. An executable
-    /// has none that are packed.
-    ///
-    /// # Errors
-    /// `Memory`; `Declined` where they do.
-    fn test_strings(
-        &self,
-        is_executable: bool,
-        plain: &[u8],
-    ) -> Result<(), NotTaken<InputError, Growth>>
-        ensures declined { OnDeclined result
-            (DeclinesPlain (manner_of self.now.packing.now) plain.now) }
-        ensures memory { OnFailed result (λ e. e ≡ Memory) }
-    {
-        if self.packing.allows_overlap || is_executable {
-            return Ok(());
-        }
-        match has_inner_strings(self.alloc, plain) {
-            Ok(false) => Ok(()),
-            Ok(true) => Err(NotTaken::Declined(Growth::Strings)),
-            Err(AllocError) => Err(NotTaken::Failed(InputError::Memory)),
-        }
-    }
-
     /// Plain bytes with the macros that are kept alone; none where they stay as they are.
     ///
     /// # Errors
@@ -317,7 +293,10 @@ impl<'f, F: FileSystem> InputFiles<'f, F> {
     {
         let plain = self.plain(is_executable, content)?;
         let bytes = or_content(content, &plain);
-        self.test_strings(is_executable, bytes)?;
+        // An executable has no strings that are packed.
+        if !self.packing.allows_overlap && !is_executable && has_inner_strings(self.alloc, bytes)? {
+            return Err(NotTaken::Declined(Growth::Strings));
+        }
         self.notes.inspect(bytes, named, is_member)?;
         match self.kept(bytes)? {
             Some(kept) => Ok(Some(kept)),
