@@ -6,12 +6,11 @@ ghost use Rattle.std.specs.Path.{path_bytes};
 ghost use Rattle.thorin_builder.specs.Reading.{OnDeclined, OnFailed};
 ghost use Rattle.thorin_sessions.specs.Sessions.{IsNoWantOfMemory};
 ghost use Rattle.thorin_errors.specs.declared.error.InputError.TheVariants.{Memory};
-ghost use Rattle.thorin_inputs.specs.Macros.{IsKeptOf};
 ghost use Rattle.thorin_inputs.specs.Plain as spec;
 ghost use Rattle.thorin_commands.specs.Naming.{IsUncounted};
 ghost use Rattle.thorin_commands.specs.Packing.{IsAmong, declines, manner_of, paths_in};
 ghost use Rattle.thorin_commands.specs.Packing.{read_through, reads};
-ghost use Rattle.thorin_commands.specs.Taken.{DeclinesBytes, DeclinesPlain, IsPlainFor};
+ghost use Rattle.thorin_commands.specs.Taken.{DeclinesBytes, IsPlainFor};
 ghost use Rattle.thorin_commands.specs.Taken.{IsReadInto, IsTakenFor, Manner, MayRepeat};
 ghost use Rattle.thorin_commands.specs.Warned.{TellsMacros};
 
@@ -254,30 +253,12 @@ impl<'f, F: FileSystem> InputFiles<'f, F> {
         }
     }
 
-    /// Plain bytes with the macros that are kept alone; none where they stay as they are.
-    ///
-    /// # Errors
-    /// `Memory`; `Declined` where the others can't be left out.
-    #[tactic(auto, unfolding(thorin_inputs::specs::Macros::IsKeptOf))]
-    fn kept(&self, plain: &[u8]) -> Result<Option<Vec<u8>>, NotTaken<InputError, Growth>>
-        ensures kept { IfOk result (λ kept. IsKeptOf self.now.packing.now.macros plain.now
-            (spec.or_content plain.now kept)) }
-        ensures declined { OnDeclined result
-            (DeclinesPlain (manner_of self.now.packing.now) plain.now) }
-        ensures memory { OnFailed result (λ e. e ≡ Memory) }
-    {
-        match with_macros(self.alloc, plain, self.packing.macros) {
-            Ok(kept) => Ok(kept),
-            Err(MacrosError::Memory) => Err(NotTaken::Failed(InputError::Memory)),
-            Err(MacrosError::Unrepresentable) => Err(NotTaken::Declined(Growth::Macros)),
-        }
-    }
-
     /// What is taken for the content of a file, of an archive's member or of an object that is named
     /// by a path; none where that is taken as it is.
     ///
     /// # Errors
     /// `Memory`; `Declined` where sections or strings overlap, or no file has what would be taken.
+    #[tactic(auto, unfolding(thorin_inputs::specs::Macros::IsKeptOf))]
     fn taken(
         &self,
         is_executable: bool,
@@ -298,9 +279,11 @@ impl<'f, F: FileSystem> InputFiles<'f, F> {
             return Err(NotTaken::Declined(Growth::Strings));
         }
         self.notes.inspect(bytes, named, is_member)?;
-        match self.kept(bytes)? {
-            Some(kept) => Ok(Some(kept)),
-            None => Ok(plain),
+        match with_macros(self.alloc, bytes, self.packing.macros) {
+            Ok(Some(kept)) => Ok(Some(kept)),
+            Ok(None) => Ok(plain),
+            Err(MacrosError::Memory) => Err(NotTaken::Failed(InputError::Memory)),
+            Err(MacrosError::Unrepresentable) => Err(NotTaken::Declined(Growth::Macros)),
         }
     }
 }
