@@ -206,31 +206,29 @@ module _ {manner : Manner} {offer : Offer} {declines : Reasons} where
       }
 
 -- of just the inputs that are asked for
-cause_for : (offer : Offer) (declines : Reasons) (packing : Packing) (opens : Bool)
-    (manner : Manner) (list : List Input) → opens ≡ packing.opens_archives
-    → manner ≡ manner_of packing → AreAsked packing list → (cause : Cause)
-    → IsCauseOf packing.partial opens manner offer declines list cause
-    → IsCauseFor offer declines packing cause
-cause_for offer declines packing opens manner list o m are cause is =
-    record { list = list; are = are; is = rw (o, m) at is }
+cause_for : (offer : Offer) (declines : Reasons) (packing : Packing) (list : List Input)
+    → AreAsked packing list → (cause : Cause)
+    → IsCauseOf packing.partial packing.opens_archives (manner_of packing) offer declines list
+    cause → IsCauseFor offer declines packing cause
+cause_for offer declines packing list are cause is =
+    record { list = list; are = are; is = is }
 
 module _ {W : Type 0} (contents : W → Option (List ℕ)) (failed : W → Type 0) (writer : W)
     (offer : Offer) (declines : Reasons) (packing : Packing) where
-  module _ (opens : Bool) (manner : Manner) (list : List Input)
-      (o : opens ≡ packing.opens_archives) (m : manner ≡ manner_of packing) where
+  module _ (list : List Input) where
     -- of those that were asked for; and where none of them began a package
     pub told_for : map asked list ≡ asks packing → (refusal : NoPackage)
-        → Refuses contents failed writer
-        (IsCauseOf packing.partial opens manner offer declines list) refusal
+        → Refuses contents failed writer (IsCauseOf packing.partial packing.opens_archives
+        (manner_of packing) offer declines list) refusal
         → Refuses contents failed writer (IsCauseFor offer declines packing) refusal
     told_for are refusal t = refuses_by contents failed writer
-        (cause_for offer declines packing opens manner list o m (inl are)) refusal t
+        (cause_for offer declines packing list (inl are)) refusal t
 
     pub empty_for : map asked list ≡ asks packing
-        → IsCauseOf packing.partial opens manner offer declines list
+        → IsCauseOf packing.partial packing.opens_archives (manner_of packing) offer declines list
         (Unfinished NoOutputObjectCreated)
         → IsCauseFor offer declines packing (Unfinished NoOutputObjectCreated)
-    empty_for are t = cause_for offer declines packing opens manner list o m (inl are)
+    empty_for are t = cause_for offer declines packing list (inl are)
         (Unfinished NoOutputObjectCreated) t
 
     -- the same with the first executable as an object behind them
@@ -238,12 +236,11 @@ module _ {W : Type 0} (contents : W → Option (List ℕ)) (failed : W → Type 
         → map asked list ≡ asks packing ++ Some (path.now, None) ∷ []
         → take 1 (paths_in packing.executables) ≡ path ∷ []
         → {X : Type 0} (result : Result X NoPackage)
-        → IfErr result (Refuses contents failed writer
-        (IsCauseOf packing.partial opens manner offer declines list))
+        → IfErr result (Refuses contents failed writer (IsCauseOf packing.partial
+        packing.opens_archives (manner_of packing) offer declines list))
         → IfErr result (Refuses contents failed writer (IsCauseFor offer declines packing))
     told_unsplit path lets are first result t = err_by contents failed writer
-        (cause_for offer declines packing opens manner list o m (inr (lets, rw first are)))
-        result t
+        (cause_for offer declines packing list (inr (lets, rw first are))) result t
 
   -- the line that no input began a package
   pub told_empty : IsCauseFor offer declines packing (Unfinished NoOutputObjectCreated)

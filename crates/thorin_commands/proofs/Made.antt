@@ -87,20 +87,18 @@ if_refused (Err e) f p q = f e p q
 
 -- of just the inputs that were asked for
 pub made_for : (Tells : List Input → (added : List ℕ) → State → (text : List ℕ) → Type 0)
-    {offer : Offer} (packing : Packing) {verbose warns named opens : Bool} {manner : Manner}
-    (list : List Input) {a b : Option (List ℕ)} {object : File}
-    {differing : List DebugTypeSignature} {lines : List ℕ} → opens ≡ packing.opens_archives
-    → manner ≡ manner_of packing → named ≡ names packing.verbose packing.warnings
-    → AreAsked packing list
+    {offer : Offer} (packing : Packing) {verbose warns named : Bool} (list : List Input)
+    {a b : Option (List ℕ)} {object : File} {differing : List DebugTypeSignature}
+    {lines : List ℕ} → named ≡ names packing.verbose packing.warnings → AreAsked packing list
     → ((added : List ℕ) (state : State) (text : List ℕ)
     → TellsTaken verbose warns packing.partial list added state text → Tells list added state text)
-    → IsMade verbose warns packing.partial named opens manner offer list a b object differing lines
-    → IsMadeFor Tells offer packing a b object differing lines
-made_for Tells {offer} packing {verbose} {warns} list {a} {b} {object} {differing} {lines} o m n are
-    f made =
+    → IsMade verbose warns packing.partial named packing.opens_archives (manner_of packing) offer
+    list a b object differing lines → IsMadeFor Tells offer packing a b object differing lines
+made_for Tells {offer} packing {verbose} {warns} list {a} {b} {object} {differing} {lines} n are f
+    made =
     let it : IsMade verbose warns packing.partial (names packing.verbose packing.warnings)
     packing.opens_archives (manner_of packing) offer list a b object differing lines =
-    rw (o, m, n) at made in record {
+    rw n at made in record {
       is = record { list = list; are = are; packed = it.packed };
       told = printed_as (f (added_in it.packed.took) it.packed.state) it.told;
       differ = it.differ;
@@ -108,14 +106,14 @@ made_for Tells {offer} packing {verbose} {warns} list {a} {b} {object} {differin
     }
 
 -- behind a run that began no package
-pub made_twice : {offer : Offer} (packing : Packing) {opens : Bool} {manner : Manner}
-    (list : List Input) (a b c : Option (List ℕ)) {object : File}
-    {differing : List DebugTypeSignature} {lines : List ℕ} → opens ≡ packing.opens_archives
-    → manner ≡ manner_of packing → packing.lets_empty ≡ true → map asked list ≡ asks packing
-    → IsPrinted a b (TellsUnsplitRun packing.verbose true packing.partial opens manner offer list)
+pub made_twice : {offer : Offer} (packing : Packing) (list : List Input)
+    (a b c : Option (List ℕ)) {object : File} {differing : List DebugTypeSignature}
+    {lines : List ℕ} → packing.lets_empty ≡ true → map asked list ≡ asks packing
+    → IsPrinted a b (TellsUnsplitRun packing.verbose true packing.partial packing.opens_archives
+    (manner_of packing) offer list)
     → IsMadeFor (TellsTaken false false packing.partial) offer packing b c object differing lines
     → IsMadeFor (TellsInputs offer packing) offer packing a c object differing lines
-made_twice {offer} packing list a b c o m lets are p made = record {
+made_twice {offer} packing list a b c lets are p made = record {
   is = made.is;
   told = printed_then {R = TellsInputs offer packing made.is.list
       (added_in made.is.packed.took) made.is.packed.state}
@@ -124,7 +122,7 @@ made_twice {offer} packing list a b c o m lets are p made = record {
         inputs = list;
         are = are;
         before = x;
-        before_are = rw (o, m) at t;
+        before_are = t;
         behind = y;
         behind_are = u;
         text_is = refl;

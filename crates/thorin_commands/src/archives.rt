@@ -8,21 +8,23 @@ ghost use Rattle.thorin_commands.specs.Archives.{is_archive, is_split, split_con
 ghost use Rattle.thorin_commands.specs.Cause.{IsMalformed, IsNotTaken, IsTakenNot, IsUnfit};
 ghost use Rattle.thorin_commands.specs.Cause.{IsUntaken, Refuses, StopsAmong, StopsIn};
 ghost use Rattle.thorin_commands.specs.Opened.{TookAll, TookEach, TookMembers, unit_count};
+ghost use Rattle.thorin_commands.specs.Packing.{declines, manner_of, reads};
 ghost use Rattle.thorin_commands.specs.Warned.{TellsAdded, path_of};
 
 use crate::making::{Attempt, settle};
 use crate::notes::{Origin, now_in, place_of_refused, unit_count};
 use crate::packing::NoPackage;
-use crate::reading::{Inputs, or_content};
+use crate::reading::{InputFiles, or_content};
 use crate::telling::{ReportOptions, put_error, put_notes, tell_added, tell_refused, tell_why};
 use dwp_archive::{ArchiveError, Member, members};
 use dwp_bytes::RelocationEntry;
 use dwp_elf::ElfFile;
 use std::alloc::Global;
 use std::path::{AsPath, Path};
-use thorin::{DwarfPackage, Input, NotTaken, take_input};
+use thorin::{DwarfPackage, Input, InputReader, NotTaken, take_input};
 use thorin_errors::Error;
 use thorin_inputs::{Growth, MEMBER_NAME_READ, note_alone, note_reason, place_of_member};
+use thorin_output::FileSystem;
 use thorin_print::{Failure, LineOutput, shown};
 use thorin_sessions::Session;
 
@@ -54,23 +56,25 @@ fn is_split(bytes: &[u8]) -> bool
 /// Takes the file at a path: an object, or where it is an archive its members that have split
 /// units. Tells what came of it where that is asked for.
 #[tactic(auto, using(crate::proofs::Causes::stops_by))]
-pub(crate) fn take_opened<'o, 's: 'o, Sess: Session<RelocationEntry>, I: Inputs, E: LineOutput>(
-    inputs: &I,
+pub(crate) fn take_opened<'o, 's: 'o, Sess: Session<RelocationEntry>, F: FileSystem, E: LineOutput>(
+    inputs: &InputFiles<'_, F>,
     builder: &mut DwarfPackage<'o, 's, Sess>,
     room: &mut Vec<u8>,
     path: Path<'_>,
     options: ReportOptions,
     err: &mut E,
 ) -> Result<(), NoPackage>
-    requires { I.opens inputs.now ≡ true }
-    ensures took { OnOk result (TookAll (I.opens inputs.now) (I.manner inputs.now)
-        (I.offer inputs.now) (Object path.entry) builder.old.state builder.new.state) }
+    requires { inputs.now.packing.now.opens_archives ≡ true }
+    ensures took { OnOk result (TookAll inputs.now.packing.now.opens_archives (manner_of
+        inputs.now.packing.now) (reads inputs.now.packing.now (F.offer inputs.now.files.now))
+        (Object path.entry) builder.old.state builder.new.state) }
     ensures line { OnOk result (IsPrinted (E.contents err.old) (E.contents err.new)
         (TellsAdded options.verbose (path_of (Object path.entry))
         (unit_count builder.new.state - unit_count builder.old.state))) }
     ensures told { IfErr result (Refuses E.contents E.failed err.new (IsNotTaken
-        (I.opens inputs.now) (I.manner inputs.now) (I.offer inputs.now) (I.declines inputs.now)
-        (Object path.entry) builder.old.state)) }
+        inputs.now.packing.now.opens_archives (manner_of inputs.now.packing.now) (reads
+        inputs.now.packing.now (F.offer inputs.now.files.now)) (declines inputs.now.packing.now
+        (F.offer inputs.now.files.now)) (Object path.entry) builder.old.state)) }
 {
     inputs.begin(Input::Object(path));
     match inputs.read_into(true, path, room) {
@@ -96,7 +100,8 @@ pub(crate) fn take_opened<'o, 's: 'o, Sess: Session<RelocationEntry>, I: Inputs,
         }
         Err(why) => {
             let why = NotTaken::from(why);
-            tell_refused(options.alloc, inputs, Input::Object(path), &why, None, err)?;
+            let notes = &inputs.notes;
+            tell_refused(options.alloc, notes, Input::Object(path), &why, None, err)?;
             Err(NoPackage::Told)
         }
     }
@@ -113,19 +118,22 @@ struct OpenedFile<'f> {
 /// Takes the members of an archive that have split units, in order, and tells what came of it where
 /// that is asked for.
 #[tactic(auto, using(crate::proofs::Causes::stops_by))]
-fn take_members<'o, 's: 'o, Sess: Session<RelocationEntry>, I: Inputs, E: LineOutput>(
-    inputs: &I,
+fn take_members<'o, 's: 'o, Sess: Session<RelocationEntry>, F: FileSystem, E: LineOutput>(
+    inputs: &InputFiles<'_, F>,
     builder: &mut DwarfPackage<'o, 's, Sess>,
     file: OpenedFile<'_>,
     err: &mut E,
 ) -> Result<(), NoPackage>
-    ensures took { OnOk result (TookMembers (I.manner inputs.now) (I.offer inputs.now)
-        file.entry.bytes.now builder.old.state builder.new.state) }
+    ensures took { OnOk result (TookMembers (manner_of inputs.now.packing.now) (reads
+        inputs.now.packing.now (F.offer inputs.now.files.now)) file.entry.bytes.now
+        builder.old.state builder.new.state) }
     ensures line { OnOk result (IsPrinted (E.contents err.old) (E.contents err.new)
         (TellsAdded file.entry.options.verbose (path_of (Object file.entry.path))
         (unit_count builder.new.state - unit_count builder.old.state))) }
-    ensures told { IfErr result (Refuses E.contents E.failed err.new (StopsIn (I.offer inputs.now)
-        (I.declines inputs.now) (I.manner inputs.now) file.entry.bytes.now builder.old.state)) }
+    ensures told { IfErr result (Refuses E.contents E.failed err.new (StopsIn (reads
+        inputs.now.packing.now (F.offer inputs.now.files.now)) (declines inputs.now.packing.now
+        (F.offer inputs.now.files.now)) (manner_of inputs.now.packing.now) file.entry.bytes.now
+        builder.old.state)) }
 {
     let before = unit_count(builder);
     let members = match members(file.options.alloc, file.bytes) {
@@ -142,25 +150,27 @@ fn take_members<'o, 's: 'o, Sess: Session<RelocationEntry>, I: Inputs, E: LineOu
         before,
     };
     let units = unit_count(builder);
-    tell_added(inputs, attempt, units, file.options, err)?;
+    tell_added(inputs.files, attempt, units, file.options, err)?;
     Ok(())
 }
 
 /// Takes a member of an archive, where it has split units, and keeps it for notes.
 #[tactic(auto, using(crate::proofs::Causes::stops_by))]
-fn take_split<'o, 's: 'o, Sess: Session<RelocationEntry>, I: Inputs, E: LineOutput>(
-    inputs: &I,
+fn take_split<'o, 's: 'o, Sess: Session<RelocationEntry>, F: FileSystem, E: LineOutput>(
+    inputs: &InputFiles<'_, F>,
     builder: &mut DwarfPackage<'o, 's, Sess>,
     member: Member<'_>,
     file: OpenedFile<'_>,
     err: &mut E,
 ) -> Result<(), NoPackage>
-    ensures took { OnOk result (TookEach (I.manner inputs.now) (I.offer inputs.now)
-        (split_contents (view.member member.entry ∷ [])) builder.old.state builder.new.state) }
+    ensures took { OnOk result (TookEach (manner_of inputs.now.packing.now) (reads
+        inputs.now.packing.now (F.offer inputs.now.files.now)) (split_contents (view.member
+        member.entry ∷ [])) builder.old.state builder.new.state) }
     ensures kept { OnOk result (err.new ≡ err.old) }
-    ensures told { IfErr result (Refuses E.contents E.failed err.new (IsUntaken (StopsAmong (I.offer
-        inputs.now) (I.declines inputs.now) (I.manner inputs.now) (split_contents (view.member
-        member.entry ∷ [])) builder.old.state))) }
+    ensures told { IfErr result (Refuses E.contents E.failed err.new (IsUntaken (StopsAmong (reads
+        inputs.now.packing.now (F.offer inputs.now.files.now)) (declines inputs.now.packing.now
+        (F.offer inputs.now.files.now)) (manner_of inputs.now.packing.now) (split_contents
+        (view.member member.entry ∷ [])) builder.old.state))) }
 {
     let content = member.content();
     if !is_split(content) {
@@ -170,7 +180,7 @@ fn take_split<'o, 's: 'o, Sess: Session<RelocationEntry>, I: Inputs, E: LineOutp
         Ok(()) => {
             let name = member.beginning_of_name(MEMBER_NAME_READ);
             let origin = Origin::Member(file.path.path_text(), name);
-            inputs.notes().keep_taken(origin, now_in(builder));
+            inputs.notes.keep_taken(origin, now_in(builder));
             Ok(())
         }
         Err(why) => {
@@ -178,26 +188,28 @@ fn take_split<'o, 's: 'o, Sess: Session<RelocationEntry>, I: Inputs, E: LineOutp
             let name = member.beginning_of_name(MEMBER_NAME_READ);
             let place = place_of_member(alloc, file.path.path_text(), name).ok();
             let before = place_of_refused(builder, &why);
-            tell_why(alloc, inputs, &why, place.as_deref(), before, err)?;
+            tell_why(alloc, &inputs.notes, &why, place.as_deref(), before, err)?;
             Err(NoPackage::Told)
         }
     }
 }
 
 /// Takes what is taken for the content of a member.
-fn take_content<'o, 's: 'o, Sess: Session<RelocationEntry>, I: Inputs>(
+fn take_content<'o, 's: 'o, Sess: Session<RelocationEntry>, F: FileSystem>(
     alloc: Global,
-    inputs: &I,
+    inputs: &InputFiles<'_, F>,
     builder: &mut DwarfPackage<'o, 's, Sess>,
     content: &[u8],
 ) -> Result<(), NotTaken<Error, Growth>>
-    ensures took { OnOk result (TookEach (I.manner inputs.now) (I.offer inputs.now)
-        (content.now ∷ []) builder.old.state builder.new.state) }
-    ensures refused { IfErr result (λ why. IsUnfit (I.manner inputs.now) content.now why
-        ⊎ IsTakenNot (I.offer inputs.now) (I.declines inputs.now) (I.manner inputs.now)
+    ensures took { OnOk result (TookEach (manner_of inputs.now.packing.now) (reads
+        inputs.now.packing.now (F.offer inputs.now.files.now)) (content.now ∷ []) builder.old.state
+        builder.new.state) }
+    ensures refused { IfErr result (λ why. IsUnfit (manner_of inputs.now.packing.now) content.now
+        why ⊎ IsTakenNot (reads inputs.now.packing.now (F.offer inputs.now.files.now)) (declines
+        inputs.now.packing.now (F.offer inputs.now.files.now)) (manner_of inputs.now.packing.now)
         content.now builder.old.state why) }
 {
-    match inputs.member(content) {
+    match inputs.taken(false, content, "", true) {
         Ok(taken) => {
             let mut room = Vec::new(alloc);
             let bytes = or_content(content, &taken);

@@ -14,15 +14,16 @@ ghost use Rattle.thorin_commands.specs.Cause.{IsCauseOf, IsNotTaken, IsUnfinishe
 ghost use Rattle.thorin_commands.specs.Cause.{IsUntaken, Refuses, StopsAt, Unfinished};
 ghost use Rattle.thorin_commands.specs.Made.{FillsTelling, IsMade, TookTelling};
 ghost use Rattle.thorin_commands.specs.Opened.{TookAll, unit_count};
+ghost use Rattle.thorin_commands.specs.Packing.{declines, manner_of, reads};
 ghost use Rattle.thorin_commands.specs.Warned.{TellsAdded, TellsUnsplitRun, path_of};
 ghost use Rattle.thorin_commands.specs.declared.packing.NoPackage.TheVariants.{Empty};
 ghost use Rattle.thorin_output.specs.Warnings.{IsPrinted};
 
 use crate::archives::take_opened;
 use crate::missing::leave_out;
-use crate::notes::{Origin, lines_of_differing, now_in, place_of_refused, unit_count};
+use crate::notes::{Notes, Origin, lines_of_differing, now_in, place_of_refused, unit_count};
 use crate::packing::NoPackage;
-use crate::reading::Inputs;
+use crate::reading::InputFiles;
 use crate::telling::{
     ReportOptions, lack_of, tell_added, tell_refused, tell_unfinished, warn_unsplit,
 };
@@ -37,34 +38,37 @@ use thorin::laws::runs_go_on;
 use thorin::{BytesSession, DwarfPackage, Input, NotTaken, take_input};
 use thorin_errors::Error;
 use thorin_inputs::{Growth, Lack};
+use thorin_output::FileSystem;
 use thorin_print::{Failure, LineOutput};
 use thorin_sessions::Session;
 
 /// The object to be written for these inputs, the signatures of type units that differ, and their
 /// lines.
-pub(crate) fn packed_inputs<I: Inputs, E: LineOutput>(
-    inputs: &I,
+pub(crate) fn packed_inputs<F: FileSystem, E: LineOutput>(
+    inputs: &InputFiles<'_, F>,
     list: &[Input<'_>],
     options: ReportOptions,
     err: &mut E,
 ) -> Result<(WritableObject, Vec<DebugTypeSignature>, String), NoPackage>
     ensures made { IfOk result (λ made. IsMade options.verbose options.warns options.partial
-        options.names (I.opens inputs.now) (I.manner inputs.now) (I.offer inputs.now) list.now
-        (E.contents err.old) (E.contents err.new) made.0 made.1.items (string_bytes made.2)) }
-    ensures tried { IfErr result (λ refusal. refusal ≡ Empty
-        → IsPrinted (E.contents err.old) (E.contents err.new)
-        (TellsUnsplitRun options.verbose options.warns options.partial (I.opens inputs.now)
-        (I.manner inputs.now) (I.offer inputs.now) list.now)) }
+        options.names inputs.now.packing.now.opens_archives (manner_of inputs.now.packing.now)
+        (reads inputs.now.packing.now (F.offer inputs.now.files.now)) list.now (E.contents err.old)
+        (E.contents err.new) made.0 made.1.items (string_bytes made.2)) }
+    ensures tried { IfErr result (λ refusal. refusal ≡ Empty → IsPrinted (E.contents err.old)
+        (E.contents err.new) (TellsUnsplitRun options.verbose options.warns options.partial
+        inputs.now.packing.now.opens_archives (manner_of inputs.now.packing.now) (reads
+        inputs.now.packing.now (F.offer inputs.now.files.now)) list.now)) }
     ensures told { IfErr result (Refuses E.contents E.failed err.new (IsCauseOf options.partial
-        (I.opens inputs.now) (I.manner inputs.now) (I.offer inputs.now) (I.declines inputs.now)
-        list.now)) }
+        inputs.now.packing.now.opens_archives (manner_of inputs.now.packing.now) (reads
+        inputs.now.packing.now (F.offer inputs.now.files.now)) (declines inputs.now.packing.now
+        (F.offer inputs.now.files.now)) list.now)) }
 {
     runs_go_on(inputs);
     let bump = Bump::new(options.alloc);
     let session = BytesSession::new(&bump);
     let mut builder = DwarfPackage::new(options.alloc, &session);
     match fill(inputs, &mut builder, list, options, err) {
-        Ok(lines) => finished(options.alloc, inputs, builder, lines, err),
+        Ok(lines) => finished(options.alloc, &inputs.notes, builder, lines, err),
         Err(refusal) => {
             drop(builder);
             Err(refusal)
@@ -75,43 +79,46 @@ pub(crate) fn packed_inputs<I: Inputs, E: LineOutput>(
 /// Takes these inputs, warns of those without split units, and leaves out what isn't there, where
 /// that is asked for. Answers the lines of type units that differ.
 #[tactic(auto, using(crate::proofs::Causes::stops_by))]
-fn fill<'o, 's: 'o, Sess: Session<RelocationEntry>, I: Inputs, E: LineOutput>(
-    inputs: &I,
+fn fill<'o, 's: 'o, Sess: Session<RelocationEntry>, F: FileSystem, E: LineOutput>(
+    inputs: &InputFiles<'_, F>,
     builder: &mut DwarfPackage<'o, 's, Sess>,
     list: &[Input<'_>],
     options: ReportOptions,
     err: &mut E,
 ) -> Result<String, NoPackage>
     ensures fills { IfOk result (λ lines. FillsTelling options.verbose options.warns options.partial
-        options.names (I.opens inputs.now) (I.manner inputs.now) (I.offer inputs.now) list.now
-        builder.old.state builder.new.state (E.contents err.old) (E.contents err.new)
-        (string_bytes lines)) }
-    ensures told { IfErr result (Refuses E.contents E.failed err.new (StopsAt (I.opens inputs.now)
-        (I.manner inputs.now) (I.offer inputs.now) (I.declines inputs.now) list.now
-        builder.old.state)) }
+        options.names inputs.now.packing.now.opens_archives (manner_of inputs.now.packing.now)
+        (reads inputs.now.packing.now (F.offer inputs.now.files.now)) list.now builder.old.state
+        builder.new.state (E.contents err.old) (E.contents err.new) (string_bytes lines)) }
+    ensures told { IfErr result (Refuses E.contents E.failed err.new (StopsAt
+        inputs.now.packing.now.opens_archives (manner_of inputs.now.packing.now) (reads
+        inputs.now.packing.now (F.offer inputs.now.files.now)) (declines inputs.now.packing.now
+        (F.offer inputs.now.files.now)) list.now builder.old.state)) }
 {
     let lacks = take_all(inputs, builder, list, options, err)?;
     warn_unsplit(inputs, builder, list, lacks.as_slice(), options, err)?;
-    let lines = lines_of_differing(inputs, builder, options)?;
-    leave_out(inputs, builder, options, err)?;
+    let lines = lines_of_differing(&inputs.notes, builder, options)?;
+    leave_out(&inputs.notes, builder, options, err)?;
     Ok(lines)
 }
 
 /// Takes the inputs in order, up to the first that is refused. Answers of each why it added no
 /// unit, if it added none.
-fn take_all<'o, 's: 'o, Sess: Session<RelocationEntry>, I: Inputs, E: LineOutput>(
-    inputs: &I,
+fn take_all<'o, 's: 'o, Sess: Session<RelocationEntry>, F: FileSystem, E: LineOutput>(
+    inputs: &InputFiles<'_, F>,
     builder: &mut DwarfPackage<'o, 's, Sess>,
     list: &[Input<'_>],
     options: ReportOptions,
     err: &mut E,
 ) -> Result<Vec<Lack>, NoPackage>
-    ensures took { IfOk result (λ lacks. TookTelling options.verbose (I.opens inputs.now)
-        (I.manner inputs.now) (I.offer inputs.now) list.now builder.old.state builder.new.state
-        (E.contents err.old) (E.contents err.new) lacks.items) }
-    ensures told { IfErr result (Refuses E.contents E.failed err.new (StopsAt (I.opens inputs.now)
-        (I.manner inputs.now) (I.offer inputs.now) (I.declines inputs.now) list.now
-        builder.old.state)) }
+    ensures took { IfOk result (λ lacks. TookTelling options.verbose
+        inputs.now.packing.now.opens_archives (manner_of inputs.now.packing.now) (reads
+        inputs.now.packing.now (F.offer inputs.now.files.now)) list.now builder.old.state
+        builder.new.state (E.contents err.old) (E.contents err.new) lacks.items) }
+    ensures told { IfErr result (Refuses E.contents E.failed err.new (StopsAt
+        inputs.now.packing.now.opens_archives (manner_of inputs.now.packing.now) (reads
+        inputs.now.packing.now (F.offer inputs.now.files.now)) (declines inputs.now.packing.now
+        (F.offer inputs.now.files.now)) list.now builder.old.state)) }
 {
     let mut room = Vec::new(options.alloc);
     let mut lacks = Vec::new(options.alloc);
@@ -119,7 +126,7 @@ fn take_all<'o, 's: 'o, Sess: Session<RelocationEntry>, I: Inputs, E: LineOutput
         let before = unit_count(builder);
         take(inputs, builder, &mut room, *input, options, err)?;
         let added = unit_count(builder).saturating_sub(before);
-        match lacks.push(lack_of(inputs, *input, room.as_slice(), added)) {
+        match lacks.push(lack_of(inputs.files, *input, room.as_slice(), added)) {
             Ok(()) => {}
             Err(_) => return Err(NoPackage::Command(Failure::Memory)),
         }
@@ -129,25 +136,27 @@ fn take_all<'o, 's: 'o, Sess: Session<RelocationEntry>, I: Inputs, E: LineOutput
 
 /// Takes an input, or where it is an archive that is to be opened the members of it, and tells what
 /// came of it.
-fn take<'o, 's: 'o, Sess: Session<RelocationEntry>, I: Inputs, E: LineOutput>(
-    inputs: &I,
+fn take<'o, 's: 'o, Sess: Session<RelocationEntry>, F: FileSystem, E: LineOutput>(
+    inputs: &InputFiles<'_, F>,
     builder: &mut DwarfPackage<'o, 's, Sess>,
     room: &mut Vec<u8>,
     input: Input<'_>,
     options: ReportOptions,
     err: &mut E,
 ) -> Result<(), NoPackage>
-    ensures took { OnOk result (TookAll (I.opens inputs.now) (I.manner inputs.now)
-        (I.offer inputs.now) input.entry builder.old.state builder.new.state) }
+    ensures took { OnOk result (TookAll inputs.now.packing.now.opens_archives (manner_of
+        inputs.now.packing.now) (reads inputs.now.packing.now (F.offer inputs.now.files.now))
+        input.entry builder.old.state builder.new.state) }
     ensures line { OnOk result (IsPrinted (E.contents err.old) (E.contents err.new)
         (TellsAdded options.verbose (path_of input.entry)
         (unit_count builder.new.state - unit_count builder.old.state))) }
     ensures told { IfErr result (Refuses E.contents E.failed err.new (IsNotTaken
-        (I.opens inputs.now) (I.manner inputs.now) (I.offer inputs.now) (I.declines inputs.now)
-        input.entry builder.old.state)) }
+        inputs.now.packing.now.opens_archives (manner_of inputs.now.packing.now) (reads
+        inputs.now.packing.now (F.offer inputs.now.files.now)) (declines inputs.now.packing.now
+        (F.offer inputs.now.files.now)) input.entry builder.old.state)) }
 {
     match input {
-        Input::Object(path) if inputs.opens_archives() => {
+        Input::Object(path) if inputs.packing.opens_archives => {
             take_opened(inputs, builder, room, path, options, err)
         }
         _ => {
@@ -177,8 +186,8 @@ pub(crate) struct Attempt<'a> {
 /// Keeps for notes an object that was taken, and tells of an input by its outcome: how many units
 /// were added, where that is asked for, or why it was refused.
 #[tactic(auto, using(crate::proofs::Causes::stops_by))]
-pub(crate) fn settle<'o, 's: 'o, Sess: Session<RelocationEntry>, I: Inputs, E: LineOutput>(
-    inputs: &I,
+pub(crate) fn settle<'o, 's: 'o, Sess: Session<RelocationEntry>, F: FileSystem, E: LineOutput>(
+    inputs: &InputFiles<'_, F>,
     builder: &DwarfPackage<'o, 's, Sess>,
     attempt: Attempt<'_>,
     outcome: Result<(), NotTaken<Error, Growth>>,
@@ -192,21 +201,20 @@ pub(crate) fn settle<'o, 's: 'o, Sess: Session<RelocationEntry>, I: Inputs, E: L
     ensures told { IfErr result (Refuses E.contents E.failed err.new
         (IsUntaken (λ why. outcome ≡ Err why))) }
 {
+    let notes = &inputs.notes;
     match outcome {
         Ok(()) => {
             let now = now_in(builder);
             // (those of executables are kept as they are read)
             if let Input::Object(path) = attempt.input {
-                inputs
-                    .notes()
-                    .keep_taken(Origin::Object(path.path_text()), now);
+                notes.keep_taken(Origin::Object(path.path_text()), now);
             }
-            tell_added(inputs, attempt, now.units, options, err)?;
+            tell_added(inputs.files, attempt, now.units, options, err)?;
             Ok(())
         }
         Err(why) => {
             let before = place_of_refused(builder, &why);
-            tell_refused(options.alloc, inputs, attempt.input, &why, before, err)?;
+            tell_refused(options.alloc, notes, attempt.input, &why, before, err)?;
             Err(NoPackage::Told)
         }
     }
@@ -214,9 +222,9 @@ pub(crate) fn settle<'o, 's: 'o, Sess: Session<RelocationEntry>, I: Inputs, E: L
 
 /// The object of the package, which can be written, those signatures, and these lines. Where it
 /// can't be finished, that is printed.
-fn finished<'o, 's: 'o, Sess: Session<RelocationEntry>, I: Inputs, E: LineOutput>(
+fn finished<'o, 's: 'o, Sess: Session<RelocationEntry>, E: LineOutput>(
     alloc: Global,
-    inputs: &I,
+    notes: &Notes,
     builder: DwarfPackage<'o, 's, Sess>,
     lines: String,
     err: &mut E,
@@ -237,20 +245,15 @@ fn finished<'o, 's: 'o, Sess: Session<RelocationEntry>, I: Inputs, E: LineOutput
     match finished {
         Ok(object) => match can_be_written(&object) {
             Ok(()) => Ok((object, differing, lines)),
-            Err(error) => Err(unfinished(alloc, inputs, &error, err)),
+            Err(error) => Err(unfinished(alloc, notes, &error, err)),
         },
-        Err(error) => Err(unfinished(alloc, inputs, &error, err)),
+        Err(error) => Err(unfinished(alloc, notes, &error, err)),
     }
 }
 
 /// What becomes of a package that can't be finished: it is told here, unless no input began it.
 #[tactic(auto, using(crate::proofs::Causes::stops_by))]
-fn unfinished<I: Inputs, E: LineOutput>(
-    alloc: Global,
-    inputs: &I,
-    error: &Error,
-    err: &mut E,
-) -> NoPackage
+fn unfinished<E: LineOutput>(alloc: Global, notes: &Notes, error: &Error, err: &mut E) -> NoPackage
     ensures told { Refuses E.contents E.failed err.new (λ cause. cause ≡ Unfinished error.now)
         result }
     ensures empty { result ≡ Empty → err.new ≡ err.old }
@@ -258,7 +261,7 @@ fn unfinished<I: Inputs, E: LineOutput>(
     if let Error::NoOutputObjectCreated = error {
         return NoPackage::Empty;
     }
-    match tell_unfinished(alloc, inputs, error, err) {
+    match tell_unfinished(alloc, notes, error, err) {
         Ok(()) => NoPackage::Told,
         Err(failure) => NoPackage::Command(failure),
     }

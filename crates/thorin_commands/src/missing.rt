@@ -7,8 +7,9 @@ ghost use Rattle.thorin_print.specs.Answers.{FailsBy};
 ghost use Rattle.thorin_commands.specs.Opened.{left};
 ghost use Rattle.thorin_commands.specs.Warned.{TellsLeft};
 
+use crate::notes::Notes;
 use crate::packing::{Packing, paths_in};
-use crate::reading::{InputFiles, Inputs};
+use crate::reading::InputFiles;
 use crate::telling::{ReportOptions, tell_why, unit_line};
 use bumpalo::Bump;
 use dwp_bytes::RelocationEntry;
@@ -29,8 +30,8 @@ use thorin_sessions::Session;
 /// Where that is asked for, warns of each unit that an executable names and the package lacks, and
 /// leaves it out.
 #[tactic(auto, using(crate::proofs::Warned::none_left))]
-pub(crate) fn leave_out<'o, 's: 'o, Sess: Session<RelocationEntry>, I: Inputs, E: LineOutput>(
-    inputs: &I,
+pub(crate) fn leave_out<'o, 's: 'o, Sess: Session<RelocationEntry>, E: LineOutput>(
+    notes: &Notes,
     builder: &mut DwarfPackage<'o, 's, Sess>,
     options: ReportOptions,
     err: &mut E,
@@ -43,7 +44,7 @@ pub(crate) fn leave_out<'o, 's: 'o, Sess: Session<RelocationEntry>, I: Inputs, E
     if !options.partial {
         return Ok(());
     }
-    let absent = inputs.notes().absent_units();
+    let absent = notes.absent_units();
     for target in builder.missing_targets() {
         let unit = target.index();
         let reason = absent.reason(unit).unwrap_or("not found");
@@ -94,7 +95,7 @@ fn list_all<F: FileSystem, O: Write, E: Write>(
             Err(ListFailure::Refused(why)) => {
                 flush(&mut lines)?;
                 let place = place_of(alloc, *executable, None).ok();
-                tell_why(alloc, inputs, &why, place.as_deref(), None, err)?;
+                tell_why(alloc, &inputs.notes, &why, place.as_deref(), None, err)?;
                 return Ok(1);
             }
             Err(ListFailure::Command(failure)) => {

@@ -7,7 +7,6 @@ ghost use Rattle.thorin_commands.specs.Opened.{unit_count};
 ghost use Rattle.thorin_commands.specs.Warned.{TellsNamed};
 
 use crate::packing::{Packing, path_of};
-use crate::reading::Inputs;
 use crate::telling::{ReportOptions, unit_line};
 use dwp_bytes::RelocationEntry;
 use dwp_table::{DebugTypeSignature, DwarfObject, DwoId};
@@ -344,8 +343,8 @@ pub(crate) fn place_of_refused<'o, 's: 'o, Sess: Session<RelocationEntry>>(
 /// The lines of all type units that differ, which are printed once the package is written, where
 /// that is asked for.
 #[tactic(auto, using(crate::proofs::Warned::without_names))]
-pub(crate) fn lines_of_differing<'o, 's: 'o, Sess: Session<RelocationEntry>, I: Inputs>(
-    inputs: &I,
+pub(crate) fn lines_of_differing<'o, 's: 'o, Sess: Session<RelocationEntry>>(
+    notes: &Notes,
     builder: &DwarfPackage<'o, 's, Sess>,
     options: ReportOptions,
 ) -> Result<String, AllocError>
@@ -363,7 +362,7 @@ pub(crate) fn lines_of_differing<'o, 's: 'o, Sess: Session<RelocationEntry>, I: 
         let more = if lines.len() < MOST {
             let unit = DwarfObject::TypeUnit(signature);
             let kept = builder.contained_units().get_index_of(&unit);
-            inputs.notes().difference(number, kept)?
+            notes.difference(number, kept)?
         } else {
             String::new(alloc)
         };

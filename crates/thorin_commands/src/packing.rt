@@ -13,11 +13,11 @@ ghost use Rattle.thorin_commands.specs.Packing.{out_of, Packs};
 ghost use Rattle.thorin_commands.specs.Packing.{AllApart, Fails, IsNoInput, asked, asks};
 ghost use Rattle.thorin_commands.specs.declared.packing.NoPackage.TheVariants.{Command};
 ghost use Rattle.thorin_print.specs.declared.output.Failure.TheVariants.{Memory};
-ghost use Rattle.thorin_commands.specs.Packing.{declines, manner_of, paths_in, reads};
+ghost use Rattle.thorin_commands.specs.Packing.{declines, paths_in, reads};
 ghost use Rattle.thorin_commands.specs.Warned.{PacksTelling, TellsTaken, names, others, path_of};
 
 use crate::making::packed_inputs;
-use crate::reading::{InputFiles, Inputs};
+use crate::reading::InputFiles;
 use crate::telling::{ReportOptions, print_error};
 use dwp_elf::WritableObject;
 use dwp_macros::KeptMacros;
@@ -251,27 +251,27 @@ fn packed<F: FileSystem, E: LineOutput>(
 {
     let list = inputs_of(alloc, packing)?;
     let inputs = InputFiles::new(alloc, files, packing)?;
-    packed_by(alloc, &inputs, packing, list.as_slice(), err)
+    packed_by(alloc, &inputs, list.as_slice(), err)
 }
 
 /// What `packed` gives, by these inputs, of the list of what is asked for.
 #[tactic(auto, using(crate::proofs::Causes::told_for, crate::proofs::Causes::empty_for))]
-fn packed_by<I: Inputs, E: LineOutput>(
+fn packed_by<F: FileSystem, E: LineOutput>(
     alloc: Global,
-    inputs: &I,
-    packing: &Packing<'_, '_>,
+    inputs: &InputFiles<'_, F>,
     list: &[Input<'_>],
     err: &mut E,
 ) -> Result<(WritableObject, Vec<DebugTypeSignature>, String), NoPackage>
-    requires asked { map asked list.now ≡ asks packing.now }
-    requires opens { I.opens inputs.now ≡ packing.now.opens_archives }
-    requires manner { I.manner inputs.now ≡ manner_of packing.now }
-    requires warns { I.warns_of_macros inputs.now ≡ packing.now.warns_of_macros }
-    ensures ready { IfOk result (λ made. IsReady (I.offer inputs.now) packing.now
+    requires { map asked list.now ≡ asks inputs.now.packing.now }
+    ensures ready { IfOk result (λ made. IsReady
+        (reads inputs.now.packing.now (F.offer inputs.now.files.now)) inputs.now.packing.now
         (E.contents err.old) (E.contents err.new) made.0 made.1.items (string_bytes made.2)) }
     ensures told { IfErr result (Refuses E.contents E.failed err.new (IsCauseFor
-        (I.offer inputs.now) (I.declines inputs.now) packing.now)) }
+        (reads inputs.now.packing.now (F.offer inputs.now.files.now))
+        (declines inputs.now.packing.now (F.offer inputs.now.files.now))
+        inputs.now.packing.now)) }
 {
+    let packing = inputs.packing;
     let options = ReportOptions {
         alloc,
         verbose: packing.verbose,
@@ -285,7 +285,7 @@ fn packed_by<I: Inputs, E: LineOutput>(
             lines.push_str(named.as_str())?;
             Ok((object, differing, lines))
         }
-        Err(NoPackage::Empty) if packing.lets_empty => packed_unsplit(alloc, inputs, packing, err),
+        Err(NoPackage::Empty) if packing.lets_empty => packed_unsplit(alloc, inputs, err),
         Err(refusal) => Err(refusal),
     }
 }
@@ -293,23 +293,25 @@ fn packed_by<I: Inputs, E: LineOutput>(
 /// The object to be written where nothing is split: an executable is taken as an object too, which
 /// has nothing to be packed.
 #[tactic(auto, using(crate::proofs::Whys::uncounted))]
-fn packed_unsplit<I: Inputs, E: LineOutput>(
+fn packed_unsplit<F: FileSystem, E: LineOutput>(
     alloc: Global,
-    inputs: &I,
-    packing: &Packing<'_, '_>,
+    inputs: &InputFiles<'_, F>,
     err: &mut E,
 ) -> Result<(WritableObject, Vec<DebugTypeSignature>, String), NoPackage>
-    requires allowed { packing.now.lets_empty ≡ true }
-    requires opens { I.opens inputs.now ≡ packing.now.opens_archives }
-    requires manner { I.manner inputs.now ≡ manner_of packing.now }
-    requires empty { IsCauseFor (I.offer inputs.now) (I.declines inputs.now) packing.now
+    requires allowed { inputs.now.packing.now.lets_empty ≡ true }
+    requires empty { IsCauseFor (reads inputs.now.packing.now (F.offer inputs.now.files.now))
+        (declines inputs.now.packing.now (F.offer inputs.now.files.now)) inputs.now.packing.now
         (Unfinished NoOutputObjectCreated) }
-    ensures made { IfOk result (λ made. IsMadeFor (TellsTaken false false packing.now.partial)
-        (I.offer inputs.now) packing.now (E.contents err.old) (E.contents err.new) made.0
-        made.1.items (string_bytes made.2)) }
+    ensures made { IfOk result (λ made. IsMadeFor
+        (TellsTaken false false inputs.now.packing.now.partial)
+        (reads inputs.now.packing.now (F.offer inputs.now.files.now)) inputs.now.packing.now
+        (E.contents err.old) (E.contents err.new) made.0 made.1.items (string_bytes made.2)) }
     ensures told { IfErr result (Refuses E.contents E.failed err.new (IsCauseFor
-        (I.offer inputs.now) (I.declines inputs.now) packing.now)) }
+        (reads inputs.now.packing.now (F.offer inputs.now.files.now))
+        (declines inputs.now.packing.now (F.offer inputs.now.files.now))
+        inputs.now.packing.now)) }
 {
+    let packing = inputs.packing;
     let Some(executable) = paths_in(packing.executables).first() else {
         return Err(NoPackage::Empty);
     };

@@ -1,7 +1,7 @@
-//! The reader of the inputs of `pack`, as a trait and of files: these are read, decompressed, left
-//! with the macros that are kept, and tested for strings and sections that overlap.
+//! The reader of the inputs of `pack`: files are read, decompressed, left with the macros that are
+//! kept, and tested for strings and sections that overlap.
 
-ghost use Rattle.std.specs.Prelude.{◌≡◌, ◌⊎◌, Bool, false, IsTrue, IfOk, IfErr, string_bytes};
+ghost use Rattle.std.specs.Prelude.{◌≡◌, ◌⊎◌, false, IsTrue, IfOk, IfErr, string_bytes};
 ghost use Rattle.std.specs.Path.{path_bytes};
 ghost use Rattle.thorin_builder.specs.Reading.{OnDeclined, OnFailed};
 ghost use Rattle.thorin_sessions.specs.Sessions.{IsNoWantOfMemory};
@@ -11,7 +11,7 @@ ghost use Rattle.thorin_commands.specs.Naming.{IsUncounted};
 ghost use Rattle.thorin_commands.specs.Packing.{IsAmong, declines, manner_of, paths_in};
 ghost use Rattle.thorin_commands.specs.Packing.{read_through, reads};
 ghost use Rattle.thorin_commands.specs.Taken.{DeclinesBytes, IsPlainFor};
-ghost use Rattle.thorin_commands.specs.Taken.{IsReadInto, IsTakenFor, Manner, MayRepeat};
+ghost use Rattle.thorin_commands.specs.Taken.{IsReadInto, IsTakenFor, MayRepeat};
 ghost use Rattle.thorin_commands.specs.Warned.{TellsMacros};
 
 use crate::notes::{Holding, Notes};
@@ -30,56 +30,7 @@ use thorin_inputs::{
 use thorin_output::FileSystem;
 use thorin_print::Failure;
 
-/// What reads inputs, and tells of them. It declines those that would make the package larger than
-/// its files.
-pub(crate) trait Inputs: InputReader<Refusal = Growth> {
-    /// Begins an input. The objects that it names must be regular files: a read of another may wait
-    /// for ever.
-    fn begin(&self, input: Input<'_>);
-
-    // Whether archives are opened, how inputs are taken, and whether sections of macros are warned
-    // of.
-    ghost opens: { Self → Bool };
-
-    ghost manner: { Self → Manner };
-
-    ghost warns_of_macros: { Self → Bool };
-
-    /// Whether archives are opened.
-    fn opens_archives(&self) -> bool
-        ensures { result ≡ opens self.now };
-
-    /// What is taken for the content of an archive's member, as for a file; none where that is
-    /// taken as it is.
-    ///
-    /// # Errors
-    /// `Memory`; `Declined` as for a file.
-    fn member(&self, content: &[u8]) -> Result<Option<Vec<u8>>, NotTaken<InputError, Growth>>
-        ensures taken { IfOk result (λ taken. IsTakenFor (manner self.now) content.now
-            (spec.or_content content.now taken)) }
-        ensures declined { OnDeclined result (DeclinesBytes (manner self.now) content.now) }
-        ensures memory { OnFailed result (λ e. e ≡ Memory) };
-
-    /// Whether there is a regular file at a path.
-    fn is_regular(&self, path: &str) -> bool;
-
-    /// How many units the file at a path has, which is read for that; none where it is no regular
-    /// file.
-    ///
-    /// # Errors
-    /// `Input` where the read fails, `Memory`.
-    fn unit_count(&self, path: &str) -> Result<Option<usize>, Failure>
-        ensures { IfErr result IsUncounted };
-
-    /// The warnings of sections of macros, where these are asked for. Asked for once.
-    fn macro_warnings(&self) -> String
-        ensures { TellsMacros (warns_of_macros self.now) (string_bytes result) };
-
-    /// What is kept of the inputs for what is told of them.
-    fn notes(&self) -> &Notes;
-}
-
-/// Files as inputs.
+/// Files as inputs. It declines those that would make the package larger than its files.
 #[derive(Drop)]
 pub(crate) struct InputFiles<'f, F> {
     alloc: Global,
@@ -94,7 +45,8 @@ pub(crate) struct InputFiles<'f, F> {
     is_executable: Cell<bool>,
     /// What was counted of the files that were read.
     repetitions: Cell<Repetitions>,
-    notes: Notes,
+    /// What is kept of the inputs for what is told of them.
+    pub(crate) notes: Notes,
     ghost maps: { prefixes.words.now ≡ paths_in packing.now.prefix_maps },
 }
 
@@ -124,6 +76,17 @@ impl<'f, F: FileSystem> InputFiles<'f, F> {
             repetitions: Cell::new(Repetitions::new(alloc)),
             notes: Notes::new(alloc, packing),
         })
+    }
+
+    /// Begins an input. The objects that it names must be regular files: a read of another may wait
+    /// for ever.
+    pub(crate) fn begin(&self, input: Input<'_>) {
+        self.notes.begin(input);
+        self.is_executable
+            .set(!matches!(input, Input::Object(_) | Input::Bytes(_)));
+        let mut repetitions = self.repetitions.replace(Repetitions::new(self.alloc));
+        repetitions.begin();
+        self.repetitions.set(repetitions);
     }
 
     /// Whether the command line names a path.
@@ -259,7 +222,7 @@ impl<'f, F: FileSystem> InputFiles<'f, F> {
     /// # Errors
     /// `Memory`; `Declined` where sections or strings overlap, or no file has what would be taken.
     #[tactic(auto, unfolding(thorin_inputs::specs::Macros::IsKeptOf))]
-    fn taken(
+    pub(crate) fn taken(
         &self,
         is_executable: bool,
         content: &[u8],
@@ -284,6 +247,41 @@ impl<'f, F: FileSystem> InputFiles<'f, F> {
             Ok(None) => Ok(plain),
             Err(MacrosError::Memory) => Err(NotTaken::Failed(InputError::Memory)),
             Err(MacrosError::Unrepresentable) => Err(NotTaken::Declined(Growth::Macros)),
+        }
+    }
+
+    /// How many units the file at a path has, which is read for that; none where it is no regular
+    /// file.
+    ///
+    /// # Errors
+    /// `Input` where the read fails, `Memory`.
+    pub(crate) fn unit_count(&self, path: &str) -> Result<Option<usize>, Failure>
+        ensures { IfErr result IsUncounted }
+    {
+        if !self.files.is_regular(path) {
+            return Ok(None);
+        }
+        let mut room = Vec::new(self.alloc);
+        match self.files.read_over(Path::new(path), &mut room) {
+            Ok(()) => {}
+            Err(InputError::Io(_)) => return Err(Failure::Input),
+            Err(InputError::Memory) => return Err(Failure::Memory),
+        }
+        if self.packing.decompresses {
+            decompress(self.alloc, &mut room, self.packing.allows_overlap)?;
+        }
+        Ok(count_units(room.as_slice()))
+    }
+
+    /// The warnings of sections of macros, where these are asked for. Asked for once.
+    #[tactic(auto, using(crate::proofs::Warned::no_macros))]
+    pub(crate) fn macro_warnings(&self) -> String
+        ensures { TellsMacros self.now.packing.now.warns_of_macros (string_bytes result) }
+    {
+        if self.packing.warns_of_macros {
+            self.notes.macros.take()
+        } else {
+            String::new(self.alloc)
         }
     }
 }
@@ -338,64 +336,6 @@ impl<F: FileSystem> InputReader for InputFiles<'_, F> {
             differing,
         };
         self.notes.after_unit(unit, is_there, now);
-    }
-}
-
-impl<F: FileSystem> Inputs for InputFiles<'_, F> {
-    ghost opens = { λ inputs. inputs.packing.now.opens_archives };
-
-    ghost manner = { λ inputs. manner_of inputs.packing.now };
-
-    ghost warns_of_macros = { λ inputs. inputs.packing.now.warns_of_macros };
-
-    fn opens_archives(&self) -> bool {
-        self.packing.opens_archives
-    }
-
-    fn member(&self, content: &[u8]) -> Result<Option<Vec<u8>>, NotTaken<InputError, Growth>> {
-        self.taken(false, content, "", true)
-    }
-
-    fn begin(&self, input: Input<'_>) {
-        self.notes.begin(input);
-        self.is_executable
-            .set(!matches!(input, Input::Object(_) | Input::Bytes(_)));
-        let mut repetitions = self.repetitions.replace(Repetitions::new(self.alloc));
-        repetitions.begin();
-        self.repetitions.set(repetitions);
-    }
-
-    fn is_regular(&self, path: &str) -> bool {
-        self.files.is_regular(path)
-    }
-
-    fn unit_count(&self, path: &str) -> Result<Option<usize>, Failure> {
-        if !self.files.is_regular(path) {
-            return Ok(None);
-        }
-        let mut room = Vec::new(self.alloc);
-        match self.files.read_over(Path::new(path), &mut room) {
-            Ok(()) => {}
-            Err(InputError::Io(_)) => return Err(Failure::Input),
-            Err(InputError::Memory) => return Err(Failure::Memory),
-        }
-        if self.packing.decompresses {
-            decompress(self.alloc, &mut room, self.packing.allows_overlap)?;
-        }
-        Ok(count_units(room.as_slice()))
-    }
-
-    #[tactic(auto, using(crate::proofs::Warned::no_macros))]
-    fn macro_warnings(&self) -> String {
-        if self.packing.warns_of_macros {
-            self.notes.macros.take()
-        } else {
-            String::new(self.alloc)
-        }
-    }
-
-    fn notes(&self) -> &Notes {
-        &self.notes
     }
 }
 

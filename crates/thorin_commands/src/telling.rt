@@ -12,19 +12,20 @@ ghost use Rattle.thorin_commands.specs.Warned.{TellUnsplitBy, TellsAdded, TellsU
 ghost use Rattle.thorin_commands.specs.Warned.{path_of, unit_line};
 
 use crate::making::Attempt;
-use crate::notes::unit_count;
+use crate::notes::{Notes, unit_count};
 use crate::packing::path_of;
-use crate::reading::Inputs;
+use crate::reading::InputFiles;
 use dwp_bytes::RelocationEntry;
 use std::alloc::{AllocError, Global};
 use std::io::Write;
 use std::path::{AsPath, Path};
-use thorin::{DwarfPackage, Input, NotTaken};
+use thorin::{DwarfPackage, Input, InputReader, NotTaken};
 use thorin_errors::Error;
 use thorin_inputs::{
     Growth, Lack, count_units, has_types_alone, note_absent, note_alone, note_before, note_reason,
     note_refused, note_twice_in, place_of, reason,
 };
+use thorin_output::FileSystem;
 use thorin_print::{Failure, LineOutput, shown, tell_taken};
 use thorin_sessions::Session;
 use thorin_words::printed;
@@ -51,8 +52,8 @@ pub(crate) struct ReportOptions {
 /// how many the package has now. Of an object that is a regular file it tells how many units it
 /// has.
 #[tactic(auto, using(crate::proofs::Warned::not_verbose, crate::proofs::Warned::pathless, crate::proofs::Warned::added_told))]
-pub(crate) fn tell_added<I: Inputs, E: LineOutput>(
-    inputs: &I,
+pub(crate) fn tell_added<F: FileSystem, E: LineOutput>(
+    files: &F,
     attempt: Attempt<'_>,
     units: usize,
     options: ReportOptions,
@@ -70,7 +71,7 @@ pub(crate) fn tell_added<I: Inputs, E: LineOutput>(
     };
     let name = path.path_text();
     let all = match attempt.input {
-        Input::Object(_) if inputs.is_regular(name) => count_units(attempt.room),
+        Input::Object(_) if files.is_regular(name) => count_units(attempt.room),
         _ => None,
     };
     let added = units.saturating_sub(attempt.before);
@@ -79,12 +80,12 @@ pub(crate) fn tell_added<I: Inputs, E: LineOutput>(
 
 /// Why an input that was taken added no unit, if it added none, by the bytes that were read. Of
 /// what is no regular file it isn't told that type units were passed over.
-pub(crate) fn lack_of<I: Inputs>(inputs: &I, input: Input<'_>, room: &[u8], added: usize) -> Lack
+pub(crate) fn lack_of<F: FileSystem>(files: &F, input: Input<'_>, room: &[u8], added: usize) -> Lack
     ensures { result ≡ Types → added ≡ 0 }
 {
     match input {
         Input::Object(path) if added == 0 => {
-            if has_types_alone(room) && inputs.is_regular(path.path_text()) {
+            if has_types_alone(room) && files.is_regular(path.path_text()) {
                 Lack::Types
             } else {
                 Lack::of(room, false)
@@ -95,8 +96,13 @@ pub(crate) fn lack_of<I: Inputs>(inputs: &I, input: Input<'_>, room: &[u8], adde
 }
 
 /// Why a regular file that was taken for an executable added no unit: it is read again for that.
-fn lack_at<I: Inputs>(alloc: Global, inputs: &I, input: Input<'_>, path: Path<'_>) -> Lack {
-    if !inputs.is_regular(path.path_text()) {
+fn lack_at<F: FileSystem>(
+    alloc: Global,
+    inputs: &InputFiles<'_, F>,
+    input: Input<'_>,
+    path: Path<'_>,
+) -> Lack {
+    if !inputs.files.is_regular(path.path_text()) {
         return Lack::Unknown;
     }
     let mut room = Vec::new(alloc);
@@ -111,8 +117,14 @@ fn lack_at<I: Inputs>(alloc: Global, inputs: &I, input: Input<'_>, path: Path<'_
 /// nothing is missing, of each other input too: none of them has split units. Where something is
 /// missing, of objects alone: some executable has split units.
 #[tactic(auto, using(crate::proofs::Warned::unsplit_unasked))]
-pub(crate) fn warn_unsplit<'o, 's: 'o, Sess: Session<RelocationEntry>, I: Inputs, E: LineOutput>(
-    inputs: &I,
+pub(crate) fn warn_unsplit<
+    'o,
+    's: 'o,
+    Sess: Session<RelocationEntry>,
+    F: FileSystem,
+    E: LineOutput,
+>(
+    inputs: &InputFiles<'_, F>,
     builder: &DwarfPackage<'o, 's, Sess>,
     list: &[Input<'_>],
     lacks: &[Lack],
@@ -140,9 +152,9 @@ pub(crate) fn warn_unsplit<'o, 's: 'o, Sess: Session<RelocationEntry>, I: Inputs
 /// package has no units of any other too, but of an executable only where no executable has split
 /// units.
 #[tactic(auto, using(crate::proofs::Warned::unsplit_none))]
-fn warn_for<I: Inputs, E: LineOutput>(
+fn warn_for<F: FileSystem, E: LineOutput>(
     alloc: Global,
-    inputs: &I,
+    inputs: &InputFiles<'_, F>,
     input: Input<'_>,
     lack: Lack,
     count: usize,
@@ -194,9 +206,9 @@ pub(crate) fn unit_line(
 ///
 /// # Errors
 /// `Line` or `Memory`.
-pub(crate) fn tell_refused<I: Inputs, E: LineOutput>(
+pub(crate) fn tell_refused<E: LineOutput>(
     alloc: Global,
-    inputs: &I,
+    notes: &Notes,
     input: Input<'_>,
     why: &NotTaken<Error, Growth>,
     before: Option<usize>,
@@ -205,7 +217,7 @@ pub(crate) fn tell_refused<I: Inputs, E: LineOutput>(
     ensures told { OnOk result (Tells E.contents err.new (refusal_text why.now)) }
     ensures blamed { IfErr result (FailsBy (E.failed err.new)) }
 {
-    let object = inputs.notes().named.replace(None);
+    let object = notes.named.replace(None);
     let named = match &object {
         Some(object) => Some(object.path.as_str()),
         None => None,
@@ -214,7 +226,7 @@ pub(crate) fn tell_refused<I: Inputs, E: LineOutput>(
         Some(path) => place_of(alloc, path.path_text(), named).ok(),
         None => None,
     };
-    tell_why(alloc, inputs, why, place.as_deref(), before, err)
+    tell_why(alloc, notes, why, place.as_deref(), before, err)
 }
 
 /// Prints why an input or a member of one was refused, its error or why it is declined, and a note
@@ -223,9 +235,9 @@ pub(crate) fn tell_refused<I: Inputs, E: LineOutput>(
 /// # Errors
 /// `Line` or `Memory`.
 #[tactic(auto, using(crate::proofs::Lines::followed))]
-pub(crate) fn tell_why<I: Inputs, E: LineOutput>(
+pub(crate) fn tell_why<E: LineOutput>(
     alloc: Global,
-    inputs: &I,
+    notes: &Notes,
     why: &NotTaken<Error, Growth>,
     place: Option<&str>,
     before: Option<usize>,
@@ -238,11 +250,11 @@ pub(crate) fn tell_why<I: Inputs, E: LineOutput>(
         NotTaken::Failed(error) => print_error(alloc, error, err)?,
         NotTaken::Declined(growth) => put_error(alloc, growth.error(), err)?,
     }
-    let mut notes = Vec::new(alloc);
+    let mut lines = Vec::new(alloc);
     if let Some(place) = place {
-        note_why(alloc, inputs, why, place, before, &mut notes);
+        note_why(alloc, notes, why, place, before, &mut lines);
     }
-    put_notes(notes.as_slice(), err);
+    put_notes(lines.as_slice(), err);
     Ok(())
 }
 
@@ -257,43 +269,41 @@ pub(crate) fn put_notes<E: LineOutput>(notes: &[u8], err: &mut E)
 
 /// Prints the note on what was refused, an input, an object that it names or a member of it:
 /// `before` is where among the package's units the one stands that it has too.
-fn note_why<I: Inputs>(
+fn note_why(
     alloc: Global,
-    inputs: &I,
+    notes: &Notes,
     why: &NotTaken<Error, Growth>,
     place: &str,
     before: Option<usize>,
-    notes: &mut Vec<u8>,
+    lines: &mut Vec<u8>,
 ) {
     match why {
-        NotTaken::Declined(growth) => note_reason(place, growth.note(), notes),
+        NotTaken::Declined(growth) => note_reason(place, growth.note(), lines),
         NotTaken::Failed(Error::ReadInput(cause)) => match reason(alloc, cause) {
-            Ok(reason) => note_reason(place, reason.as_str(), notes),
-            Err(_) => note_alone(place, notes),
+            Ok(reason) => note_reason(place, reason.as_str(), lines),
+            Err(_) => note_alone(place, lines),
         },
-        NotTaken::Failed(Error::MixedInputEncodings) => note_encodings(inputs, Some(place), notes),
+        NotTaken::Failed(Error::MixedInputEncodings) => note_encodings(notes, Some(place), lines),
         NotTaken::Failed(Error::DuplicateUnit(unit)) => match before {
             Some(before) => {
                 let mut first = String::new(alloc);
-                match inputs.notes().put_origin("", before, &mut first) {
+                match notes.put_origin("", before, &mut first) {
                     Ok(()) if !first.is_empty() => {
-                        note_before(*unit, place, first.as_str(), notes);
+                        note_before(*unit, place, first.as_str(), lines);
                     }
-                    _ => note_alone(place, notes),
+                    _ => note_alone(place, lines),
                 }
             }
-            None => note_twice_in(*unit, place, notes),
+            None => note_twice_in(*unit, place, lines),
         },
-        NotTaken::Failed(error) => {
-            note_refused(place, error, inputs.notes().compression.get(), notes)
-        },
+        NotTaken::Failed(error) => { note_refused(place, error, notes.compression.get(), lines) },
     }
 }
 
 /// Prints a note for each encoding of the inputs, with the first input of each; of a place alone
 /// where there are not several.
-fn note_encodings<I: Inputs, E: Write>(inputs: &I, place: Option<&str>, err: &mut E) {
-    match (inputs.notes().encodings.notes(), place) {
+fn note_encodings<E: Write>(notes: &Notes, place: Option<&str>, err: &mut E) {
+    match (notes.encodings.notes(), place) {
         (Ok(Some(lines)), _) => {
             let _ = writeln!(err, "{lines}{ENCODINGS}");
         }
@@ -308,9 +318,9 @@ fn note_encodings<I: Inputs, E: Write>(inputs: &I, place: Option<&str>, err: &mu
 /// # Errors
 /// `Line` or `Memory`.
 #[tactic(auto, using(crate::proofs::Lines::followed))]
-pub(crate) fn tell_unfinished<I: Inputs, E: LineOutput>(
+pub(crate) fn tell_unfinished<E: LineOutput>(
     alloc: Global,
-    inputs: &I,
+    notes: &Notes,
     error: &Error,
     err: &mut E,
 ) -> Result<(), Failure>
@@ -318,18 +328,18 @@ pub(crate) fn tell_unfinished<I: Inputs, E: LineOutput>(
     ensures blamed { IfErr result (FailsBy (E.failed err.new)) }
 {
     print_error(alloc, error, err)?;
-    let mut notes = Vec::new(alloc);
+    let mut lines = Vec::new(alloc);
     match error {
         Error::MissingReferencedUnit(unit) => {
-            let absent = inputs.notes().absent_units();
+            let absent = notes.absent_units();
             if let Some(reason) = absent.reason(*unit) {
-                note_absent(reason, absent.others(), &mut notes);
+                note_absent(reason, absent.others(), &mut lines);
             }
         }
-        Error::MixedInputEncodings => note_encodings(inputs, None, &mut notes),
+        Error::MixedInputEncodings => note_encodings(notes, None, &mut lines),
         _ => {}
     }
-    put_notes(notes.as_slice(), err);
+    put_notes(lines.as_slice(), err);
     Ok(())
 }
 

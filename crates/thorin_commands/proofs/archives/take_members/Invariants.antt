@@ -2,12 +2,14 @@ use Rattle.std.proofs.Common.{◌≡◌, map, take}
 use Rattle.dwp_archive.specs.View.{member}
 use Rattle.thorin_commands.specs.Archives.{split_contents}
 use Rattle.thorin_commands.specs.Opened.{TookEach}
+use Rattle.thorin_commands.specs.Packing.{manner_of, reads}
 use Rattle.thorin_commands.proofs.archives.take_members.Given as goal
 
 -- the members so far were taken, and nothing was told
 abbrev pub invariant-loop-member : goal.invariant-loop-member
 invariant-loop-member g l = record {
-  took : TookEach (g.I.Inputs.manner l.inputs) (g.I.InputReader.offer l.inputs)
+  took : TookEach (manner_of l.inputs.packing.now)
+      (reads l.inputs.packing.now (g.F.FileSystem.offer l.inputs.files.now))
       (split_contents (map member (take l.member-index l.list))) l.fn.builder.state
       l.builder.state;
   kept : l.err ≡ l.fn.err;

@@ -1,5 +1,6 @@
 use Rattle.std.proofs.Common.{◌≡◌, Ok, refl, rules}
 use Rattle.std.proofs.lemmas.Result.{on_ok_weaker}
+use Rattle.thorin_commands.specs.Packing.{declines, reads}
 use Rattle.thorin_commands.proofs.Causes.{archive, bytes_refused, err_by, plain, reason_by}
 use Rattle.thorin_commands.proofs.Causes.{unread_told}
 use Rattle.thorin_commands.proofs.Opened.{took_object, took_archive}
@@ -34,14 +35,17 @@ returns-else-is_archive-clause-took g c =
     })) c.settle.ensures.took
 
 pub returns-else-is_archive-clause-told : goal.returns-else-is_archive-clause-told
-returns-else-is_archive-clause-told g c = err_by g.E.LineOutput.contents g.E.LineOutput.failed
+returns-else-is_archive-clause-told g c =
+    let packing = c.args.inputs.now.packing.now in
+    let offer = g.F.FileSystem.offer c.args.inputs.now.files.now in
+    err_by g.E.LineOutput.contents g.E.LineOutput.failed
     c.settle.new.err
     (plain c.requires c.in-Ok.ensures.read
     (search (rules, c.is_archive.ensures, c.if-is_archive)))
     c.settle.result
     (err_by g.E.LineOutput.contents g.E.LineOutput.failed c.settle.new.err
-    (reason_by c.take_input-outcome.result (bytes_refused (g.I.InputReader.offer c.args.inputs.now)
-    (g.I.InputReader.declines c.args.inputs.now) c.in-Ok.bytes c.args.builder.now.state
+    (reason_by c.take_input-outcome.result (bytes_refused (reads packing offer)
+    (declines packing offer) c.in-Ok.bytes c.args.builder.now.state
     c.take_input-outcome.new.builder.state c.take_input-outcome.result
     c.take_input-outcome.ensures.taken c.take_input-outcome.ensures.declined))
     c.settle.result c.settle.ensures.told)

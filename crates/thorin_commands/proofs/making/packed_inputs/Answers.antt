@@ -2,6 +2,7 @@ use Rattle.std.proofs.Common.{◌≡◌, ◌∙◌, Bool, true, false, refl, ap}
 use Rattle.thorin_join.specs.Builder.{State, differing_in}
 use Rattle.thorin_join.specs.Represents.{units_in}
 use Rattle.thorin_commands.specs.Opened.{left}
+use Rattle.thorin_commands.specs.Packing.{declines, manner_of, reads}
 use Rattle.thorin_commands.proofs.Causes.{err_by, finishing, refuses_by, taking}
 use Rattle.thorin_commands.proofs.Made.{differing_left, if_made, if_refused, never_empty}
 use Rattle.thorin_commands.proofs.Made.{none_began}
@@ -58,14 +59,17 @@ pub returns-in-Ok-clause-told : goal.returns-in-Ok-clause-told
 returns-in-Ok-clause-told g c =
     let filled = rw c.new-builder.ensures.state at c.in-Ok.ensures.fills in
     err_by g.E.LineOutput.contents g.E.LineOutput.failed c.finished.new.err
-    (finishing {declines = g.I.InputReader.declines c.args.inputs.now} c.args.options.partial
+    (finishing {declines = declines c.args.inputs.now.packing.now
+    (g.F.FileSystem.offer c.args.inputs.now.files.now)} c.args.options.partial
     c.args.list.now c.fill.new.builder.state filled.fills)
     c.finished.result c.finished.ensures.told
 
 pub returns-clause-tried : goal.returns-clause-tried
-returns-clause-tried g c = never_empty (g.I.Inputs.opens c.args.inputs.now)
-    (g.I.Inputs.manner c.args.inputs.now) (g.I.InputReader.offer c.args.inputs.now)
-    (g.I.InputReader.declines c.args.inputs.now) c.args.list.now _ g.E.LineOutput.contents
+returns-clause-tried g c =
+    let packing = c.args.inputs.now.packing.now in
+    let offer = g.F.FileSystem.offer c.args.inputs.now.files.now in
+    never_empty packing.opens_archives (manner_of packing) (reads packing offer)
+    (declines packing offer) c.args.list.now _ g.E.LineOutput.contents
     g.E.LineOutput.failed c.fill.new.err c.in-Err.refusal c.in-Err.ensures.told
 
 pub returns-clause-told : goal.returns-clause-told

@@ -1,5 +1,6 @@
 use Rattle.std.proofs.Common.{◌≡◌, Ok, rules}
 use Rattle.std.proofs.lemmas.Result.{on_ok_weaker}
+use Rattle.thorin_commands.specs.Packing.{declines, reads}
 use Rattle.thorin_commands.proofs.Causes.{alone, err_by, reason_by, refused}
 use Rattle.thorin_commands.proofs.Opened.{took_alone}
 use Rattle.thorin_commands.proofs.making.take.Goals as goal
@@ -10,12 +11,14 @@ returns-in_default-clause-took g c =
     took_alone (search rules) (rw e at c.take_input-outcome.ensures.taken)) c.settle.ensures.took
 
 pub returns-in_default-clause-told : goal.returns-in_default-clause-told
-returns-in_default-clause-told g c = err_by g.E.LineOutput.contents g.E.LineOutput.failed
+returns-in_default-clause-told g c =
+    let packing = c.args.inputs.now.packing.now in
+    let offer = g.F.FileSystem.offer c.args.inputs.now.files.now in
+    err_by g.E.LineOutput.contents g.E.LineOutput.failed
     c.settle.new.err (alone (search rules)) c.settle.result
     (err_by g.E.LineOutput.contents g.E.LineOutput.failed c.settle.new.err
     (reason_by c.take_input-outcome.result
-    (refused (g.I.InputReader.offer c.args.inputs.now)
-    (g.I.InputReader.declines c.args.inputs.now) c.args.input c.args.builder.now.state
+    (refused (reads packing offer) (declines packing offer) c.args.input c.args.builder.now.state
     c.take_input-outcome.new.builder.state c.take_input-outcome.result
     c.take_input-outcome.ensures.taken c.take_input-outcome.ensures.declined))
     c.settle.result c.settle.ensures.told)

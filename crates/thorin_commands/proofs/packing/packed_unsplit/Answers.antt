@@ -1,7 +1,7 @@
 use Rattle.std.proofs.Common.{◌≡◌, [], ◌∷◌, ◌++◌, arith, false, inr, map}
 use Rattle.std.proofs.lemmas.Grind.{common_steps}
 use Rattle.std.specs.Prelude.{None, Some}
-use Rattle.thorin_commands.specs.Packing.{asked, asks, paths_in}
+use Rattle.thorin_commands.specs.Packing.{asked, asks, declines, paths_in, reads}
 use Rattle.thorin_commands.specs.Warned.{TellsTaken}
 use Rattle.thorin_commands.proofs.Causes.{first_of, told_unsplit}
 use Rattle.thorin_commands.proofs.Made.{if_ok_as, made_for}
@@ -9,23 +9,24 @@ use Rattle.thorin_commands.proofs.packing.packed_unsplit.Goals as goal
 
 pub returns-clause-made : goal.returns-clause-made
 returns-clause-made g c =
-    let first = first_of (paths_in c.args.packing.now.executables) c.in-Some.executable.now
+    let packing = c.args.inputs.now.packing.now in
+    let first = first_of (paths_in packing.executables) c.in-Some.executable.now
     (rw c.paths_in.ensures at c.in-Some.ensures.value) in
-    let are : map asked c.as_slice.result.now ≡ asks c.args.packing.now
+    let are : map asked c.as_slice.result.now ≡ asks c.args.inputs.now.packing.now
     ++ Some (c.in-Some.executable.now.now, None) ∷ [] = grind (arith, common_steps) in
     if_ok_as c.packed_inputs.result (λ made it. made_for
-    (TellsTaken false false c.args.packing.now.partial) c.args.packing.now c.as_slice.result.now
-    c.requires.opens c.requires.manner c.tells_differences.ensures
-    (inr (c.requires.allowed, rw first are)) (λ added state text t. t) it)
+    (TellsTaken false false packing.partial) packing c.as_slice.result.now
+    c.tells_differences.ensures (inr (c.requires.allowed, rw first are))
+    (λ added state text t. t) it)
     c.packed_inputs.ensures.made
 
 pub returns-clause-told : goal.returns-clause-told
-returns-clause-told g c = told_unsplit g.E.LineOutput.contents g.E.LineOutput.failed
-    c.packed_inputs.new.err
-    (g.I.InputReader.offer c.args.inputs.now) (g.I.InputReader.declines c.args.inputs.now)
-    c.args.packing.now (g.I.Inputs.opens c.args.inputs.now) (g.I.Inputs.manner c.args.inputs.now)
-    c.as_slice.result.now c.requires.opens c.requires.manner c.in-Some.executable.now
-    c.requires.allowed (grind (arith, common_steps))
-    (first_of (paths_in c.args.packing.now.executables) c.in-Some.executable.now
+returns-clause-told g c =
+    let packing = c.args.inputs.now.packing.now in
+    let offer = g.F.FileSystem.offer c.args.inputs.now.files.now in
+    told_unsplit g.E.LineOutput.contents g.E.LineOutput.failed c.packed_inputs.new.err
+    (reads packing offer) (declines packing offer) packing c.as_slice.result.now
+    c.in-Some.executable.now c.requires.allowed (grind (arith, common_steps))
+    (first_of (paths_in packing.executables) c.in-Some.executable.now
     (rw c.paths_in.ensures at c.in-Some.ensures.value)) c.packed_inputs.result
     c.packed_inputs.ensures.told
