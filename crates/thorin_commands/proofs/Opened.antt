@@ -137,23 +137,17 @@ module _ {manner : Manner} {offer : Offer} where
   each_none = record { list = []; taken = tt; accepted = []; ran = (refl, refl) }
 
   -- what is taken for one content
-  pub each_one : {content taken : List ℕ} {old new : State}
-      → IsTakenFor manner content taken → TookBytes offer taken old new
-      → TookEach manner offer (content ∷ []) old new
-  each_one {old = old} {new = new} is by = record {
-    list = inputs.Bytes by.bytes ∷ [];
-    taken = (rw by.is is, tt);
-    accepted = by.took.accepted;
-    ran = ran_one offer (inputs.Bytes by.bytes) old new by.took;
-  }
-
   pub content_took : {content : List ℕ} {bytes : Bor (List ℕ)} {old new : State}
       → IsTakenFor manner content bytes.now
       → (r : Result (Unit {0}) (NotTaken Error Growth))
       → Took offer (inputs.Bytes bytes) old (outcome_of r) new
       → OnOk r (TookEach manner offer (content ∷ []) old new)
-  content_took {bytes = bytes} is (Ok tt) took =
-      each_one is (record { bytes = bytes; is = refl; took = took })
+  content_took {bytes = bytes} {old = old} {new = new} is (Ok tt) took = record {
+    list = inputs.Bytes bytes ∷ [];
+    taken = (is, tt);
+    accepted = took.accepted;
+    ran = ran_one offer (inputs.Bytes bytes) old new took;
+  }
   content_took is (Err why) took = tt
 
   -- what is taken for contents, and for more behind them
