@@ -9,7 +9,6 @@ use Rattle.thorin_print.specs.declared.output.Failure.TheVariants as failures
 use Rattle.thorin_commands.proofs.Lines.{followed, printed}
 use Rattle.thorin_commands.specs.Cause.{Cause, HasLine, Told, text_of}
 use Rattle.thorin_commands.specs.Failing.{FailsPacking, IsWhy}
-use Rattle.thorin_commands.specs.Packing.{declines, reads}
 use Rattle.thorin_commands.specs.declared.packing.Packing.{Packing}
 use Rattle.thorin_words.specs.Responses.{CannotBeTold}
 use Rattle.thorin_words.specs.declared.responses.ResponseError.{ResponseError}
