@@ -20,7 +20,7 @@ use Rattle.thorin.specs.Run.{Ran, Took}
 use Rattle.thorin.proofs.Running.{join-append}
 use Rattle.thorin_commands.specs.Archives.{AreTakenFor, StandsFor, is_archive}
 use Rattle.thorin_commands.specs.Opened.{AreAllAccepted, TookAll, TookInputs, TookNone, TookNext}
-use Rattle.thorin_commands.specs.Opened.{TookEach, TookMembers, TookBytes, accepted_in, added_in}
+use Rattle.thorin_commands.specs.Opened.{TookEach, TookMembers, accepted_in, added_in}
 use Rattle.thorin_commands.specs.Opened.{unit_count}
 use Rattle.thorin_commands.specs.Taken.{IsTakenFor, Manner, Offer}
 
@@ -71,19 +71,20 @@ module _ {opens : Bool} {manner : Manner} {offer : Offer} where
   }
 
   -- the object at a path, by its bytes
-  pub took_object : {path : Path} {bytes : List ℕ} {old new : State} → opens ≡ true
-      → offer (path_bytes path) (Ok bytes) → is_archive bytes ≡ false
-      → TookBytes offer bytes old new → TookAll opens manner offer (inputs.Object path) old new
-  took_object {old = old} {new = new} opened offered none by = record {
-    list = inputs.Bytes by.bytes ∷ [];
+  pub took_object : {path : Path} {bytes : Bor (List ℕ)} {old new : State} → opens ≡ true
+      → offer (path_bytes path) (Ok bytes.now) → is_archive bytes.now ≡ false
+      → Took offer (inputs.Bytes bytes) old (Ok tt) new
+      → TookAll opens manner offer (inputs.Object path) old new
+  took_object {bytes = bytes} {old = old} {new = new} opened offered none took = record {
+    list = inputs.Bytes bytes ∷ [];
     stands = rw opened (inl (record {
-      file = by.bytes;
-      offered = rw by.is offered;
-      begins = rw by.is none;
+      file = bytes;
+      offered = offered;
+      begins = none;
       list_is = refl;
     }));
-    accepted = by.took.accepted;
-    ran = ran_one offer (inputs.Bytes by.bytes) old new by.took;
+    accepted = took.accepted;
+    ran = ran_one offer (inputs.Bytes bytes) old new took;
   }
 
   -- the archive at a path

@@ -1,6 +1,5 @@
 -- What came of inputs, for which members of archives may stand.
 use Rattle.std.specs.Prelude.{◌≡◌, ℕ, ◌-◌, List, [], ◌∷◌, ◌++◌, Bool, true, false, map, length, Ok}
-use Rattle.std.specs.Borrow.{Bor}
 use Rattle.dwp_archive.specs.Entries.{Member}
 use Rattle.dwp_archive.specs.Members.{members_of}
 use Rattle.thorin_join.specs.Builder.{State}
@@ -8,8 +7,7 @@ use Rattle.thorin_join.specs.Represents.{units_in}
 use Rattle.thorin_builder.specs.Missing.{without_targets}
 use Rattle.thorin_builder.specs.Taking.{Outcome}
 use Rattle.thorin.specs.declared.packing.Input.{Input}
-use Rattle.thorin.specs.declared.packing.Input.TheVariants as inputs
-use Rattle.thorin.specs.Run.{Ran, Took}
+use Rattle.thorin.specs.Run.{Ran}
 use Rattle.thorin_commands.specs.Archives.{AreTakenFor, StandsFor, split_contents}
 use Rattle.thorin_commands.specs.Taken.{Manner, Offer}
 
@@ -80,9 +78,3 @@ pub record TookMembers (manner : Manner) (offer : Offer) (file : List ℕ) (old 
   pub members : List Member
   pub are : members_of file ≡ Ok members
   pub each : TookEach manner offer (split_contents members) old new
-
--- bytes were taken
-pub record TookBytes (offer : Offer) (taken : List ℕ) (old new : State) : Type 0 where
-  pub bytes : Bor (List ℕ)
-  pub is : bytes.now ≡ taken
-  pub took : Took offer (inputs.Bytes bytes) old (Ok tt) new

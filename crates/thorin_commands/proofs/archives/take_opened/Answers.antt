@@ -1,4 +1,4 @@
-use Rattle.std.proofs.Common.{◌≡◌, Ok, refl, rules}
+use Rattle.std.proofs.Common.{◌≡◌, Ok, rules}
 use Rattle.std.proofs.lemmas.Result.{on_ok_weaker}
 use Rattle.thorin_commands.specs.Packing.{declines, reads}
 use Rattle.thorin_commands.proofs.Causes.{archive, bytes_refused, err_by, plain, reason_by}
@@ -27,12 +27,9 @@ returns-then-is_archive-clause-told g c = err_by g.E.LineOutput.contents g.E.Lin
 pub returns-else-is_archive-clause-took : goal.returns-else-is_archive-clause-took
 returns-else-is_archive-clause-took g c =
     on_ok_weaker c.settle.result (λ (e : c.take_input-outcome.result ≡ Ok tt).
-    took_object c.requires c.in-Ok.ensures.read
-    (search (rules, c.is_archive.ensures, c.if-is_archive)) (record {
-      bytes = c.in-Ok.bytes;
-      is = refl;
-      took = rw e at c.take_input-outcome.ensures.taken;
-    })) c.settle.ensures.took
+    took_object {bytes = c.in-Ok.bytes} c.requires c.in-Ok.ensures.read
+    (search (rules, c.is_archive.ensures, c.if-is_archive))
+    (rw e at c.take_input-outcome.ensures.taken)) c.settle.ensures.took
 
 pub returns-else-is_archive-clause-told : goal.returns-else-is_archive-clause-told
 returns-else-is_archive-clause-told g c =
