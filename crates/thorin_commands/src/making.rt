@@ -11,7 +11,7 @@ ghost use Rattle.thorin_join.specs.Join.{IsPackageOf, IsPackageOnceWritten};
 ghost use Rattle.thorin_join.specs.Meaning.{Members};
 ghost use Rattle.thorin_join.specs.Represents.{units_in};
 ghost use Rattle.thorin_commands.specs.Cause.{IsCauseOf, IsNotTaken, IsUnfinished};
-ghost use Rattle.thorin_commands.specs.Cause.{IsUntaken, Refuses, StopsAt, Unfinished};
+ghost use Rattle.thorin_commands.specs.Cause.{IsUntaken, Refuses, StopsAt};
 ghost use Rattle.thorin_commands.specs.Made.{FillsTelling, IsMade, TookTelling};
 ghost use Rattle.thorin_commands.specs.Opened.{TookAll, unit_count};
 ghost use Rattle.thorin_commands.specs.Packing.{declines, manner_of, reads};
@@ -221,7 +221,8 @@ pub(crate) fn settle<'o, 's: 'o, Sess: Session<RelocationEntry>, F: FileSystem, 
 }
 
 /// The object of the package, which can be written, those signatures, and these lines. Where it
-/// can't be finished, that is printed.
+/// can't be finished, that is printed, unless no input began it.
+#[tactic(auto, using(crate::proofs::Causes::stops_by))]
 fn finished<'o, 's: 'o, Sess: Session<RelocationEntry>, E: LineOutput>(
     alloc: Global,
     notes: &Notes,
@@ -242,29 +243,18 @@ fn finished<'o, 's: 'o, Sess: Session<RelocationEntry>, E: LineOutput>(
         (IsUnfinished builder.entry.state)) }
 {
     let (finished, differing) = builder.finish_with_differing();
-    match finished {
+    let error = match finished {
         Ok(object) => match can_be_written(&object) {
-            Ok(()) => Ok((object, differing, lines)),
-            Err(error) => Err(unfinished(alloc, notes, &error, err)),
+            Ok(()) => return Ok((object, differing, lines)),
+            Err(error) => error,
         },
-        Err(error) => Err(unfinished(alloc, notes, &error, err)),
-    }
-}
-
-/// What becomes of a package that can't be finished: it is told here, unless no input began it.
-#[tactic(auto, using(crate::proofs::Causes::stops_by))]
-fn unfinished<E: LineOutput>(alloc: Global, notes: &Notes, error: &Error, err: &mut E) -> NoPackage
-    ensures told { Refuses E.contents E.failed err.new (λ cause. cause ≡ Unfinished error.now)
-        result }
-    ensures empty { result ≡ Empty → err.new ≡ err.old }
-{
+        Err(error) => error,
+    };
     if let Error::NoOutputObjectCreated = error {
-        return NoPackage::Empty;
+        return Err(NoPackage::Empty);
     }
-    match tell_unfinished(alloc, notes, error, err) {
-        Ok(()) => NoPackage::Told,
-        Err(failure) => NoPackage::Command(failure),
-    }
+    tell_unfinished(alloc, notes, &error, err)?;
+    Err(NoPackage::Told)
 }
 
 /// Tests the size of an object's file.
