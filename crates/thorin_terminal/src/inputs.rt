@@ -135,23 +135,6 @@ impl<'c, 'r, 'e, E: Write> HostFiles<'c, 'r, 'e, E> {
         }
         answer
     }
-
-    /// Tells of an object that a file names.
-    fn tell_object(&self, path: &str, object: &[u8]) {
-        let Some(named) = self.named.replace(None) else {
-            return;
-        };
-        let place = place_of(self.rt.alloc(), named.path.as_str(), Some(path));
-        self.named.set(Some(named));
-        if let Ok(place) = place {
-            let mut err = Lines(self.console);
-            let _ = match count_units(object) {
-                Some(1) => writeln!(err, "{place}: 1 unit"),
-                Some(units) => writeln!(err, "{place}: {units} units"),
-                None => writeln!(err, "{place}"),
-            };
-        }
-    }
 }
 
 /// Whether nothing was there to be read.
@@ -192,8 +175,22 @@ impl<E: Write> FileSystem for HostFiles<'_, '_, '_, E> {
     fn read_regular_over(&self, path: Path<'_>, room: &mut Vec<u8>) -> Result<(), InputError> {
         self.read_sought(path, room)?;
         self.console.count(room.len());
-        if self.settings.get().names_objects {
-            self.tell_object(path.path_text(), room);
+        if !self.settings.get().names_objects {
+            return Ok(());
+        }
+        // The object is told as one that the file names.
+        let Some(named) = self.named.replace(None) else {
+            return Ok(());
+        };
+        let place = place_of(self.rt.alloc(), named.path.as_str(), Some(path.path_text()));
+        self.named.set(Some(named));
+        if let Ok(place) = place {
+            let mut err = Lines(self.console);
+            let _ = match count_units(room) {
+                Some(1) => writeln!(err, "{place}: 1 unit"),
+                Some(units) => writeln!(err, "{place}: {units} units"),
+                None => writeln!(err, "{place}"),
+            };
         }
         Ok(())
     }
