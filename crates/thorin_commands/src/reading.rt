@@ -1,7 +1,7 @@
 //! The reader of the inputs of `pack`: files are read, decompressed, left with the macros that are
 //! kept, and tested for strings and sections that overlap.
 
-ghost use Rattle.std.specs.Prelude.{◌≡◌, ◌⊎◌, false, IsTrue, IfOk, IfErr, string_bytes};
+ghost use Rattle.std.specs.Prelude.{◌≡◌, ◌⊎◌, IsTrue, IfOk, IfErr, string_bytes};
 ghost use Rattle.std.specs.Path.{path_bytes};
 ghost use Rattle.thorin_builder.specs.Reading.{OnDeclined, OnFailed};
 ghost use Rattle.thorin_sessions.specs.Sessions.{IsNoWantOfMemory};
@@ -150,28 +150,25 @@ impl<'f, F: FileSystem> InputFiles<'f, F> {
             self.notes.keep_named(named, unread);
         }
         read?;
-        if self.packing.allows_overlap || self.admits_file(is_own, path.path_text(), room.len())? {
+        if self.packing.allows_overlap {
             return Ok(());
         }
-        Err(NotTaken::Declined(Growth::Repetition))
-    }
-
-    /// Whether a file that was read may be added: the input's own always; an object of an
-    /// executable may be one that was read before by another path.
-    fn admits_file(&self, is_own: bool, path: &str, size: usize) -> Result<bool, AllocError>
-        ensures { IfOk result (λ admits. admits ≡ false → is_own ≡ false) }
-    {
+        // The input's own file may always be added; an object of an executable may be one that was
+        // read before by another path.
         let mut repetitions = self.repetitions.replace(Repetitions::new(self.alloc));
         let admits = if is_own {
-            match repetitions.count_own(self.files.identity(path), size) {
+            match repetitions.count_own(self.files.identity(path.path_text()), room.len()) {
                 Ok(()) => Ok(true),
                 Err(e) => Err(e),
             }
         } else {
-            repetitions.admits_object(self.files.object_identity(path), size)
+            repetitions.admits_object(self.files.object_identity(path.path_text()), room.len())
         };
         self.repetitions.set(repetitions);
-        admits
+        if admits? {
+            return Ok(());
+        }
+        Err(NotTaken::Declined(Growth::Repetition))
     }
 
     /// The bytes of an input with plain sections, where that is asked for; none where they stay as
