@@ -186,9 +186,26 @@ impl Notes {
         self.absent.replace(AbsentUnits::new(self.alloc))
     }
 
-    /// Keeps what was taken, and what the package has now.
+    /// Keeps what was taken, where it brought a unit, and what the package has now. Where there is
+    /// no memory for it, nothing is kept any more.
     pub(crate) fn keep_taken(&self, taken: Origin<'_>, now: Holding<'_>) {
-        self.keep_origin(taken, now.units);
+        if let Some(mut origins) = self.origins.replace(None) {
+            let before = match origins.last() {
+                Some((before, _)) => *before,
+                None => 0,
+            };
+            let is_kept = if now.units > before {
+                match printed_origin(self.alloc, taken) {
+                    Ok(place) => origins.push((now.units, place)).is_ok(),
+                    Err(_) => false,
+                }
+            } else {
+                true
+            };
+            if is_kept {
+                self.origins.set(Some(origins));
+            }
+        }
         if !self.names {
             return;
         }
@@ -200,27 +217,6 @@ impl Notes {
             }
         }
         self.types.set(types);
-    }
-
-    /// Keeps what was taken, where it brought a unit, and how many units the package has now. Where
-    /// there is no memory for it, nothing is kept any more.
-    fn keep_origin(&self, origin: Origin<'_>, count: usize) {
-        let Some(mut origins) = self.origins.replace(None) else {
-            return;
-        };
-        let before = match origins.last() {
-            Some((before, _)) => *before,
-            None => 0,
-        };
-        if count > before {
-            let Ok(place) = printed_origin(self.alloc, origin) else {
-                return;
-            };
-            if origins.push((count, place)).is_err() {
-                return;
-            }
-        }
-        self.origins.set(Some(origins));
     }
 
     /// Adds words and what brought the unit at a place to a line, where that is known: the first
