@@ -95,24 +95,6 @@ pub(crate) fn lack_of<F: FileSystem>(files: &F, input: Input<'_>, room: &[u8], a
     }
 }
 
-/// Why a regular file that was taken for an executable added no unit: it is read again for that.
-fn lack_at<F: FileSystem>(
-    alloc: Global,
-    inputs: &InputFiles<'_, F>,
-    input: Input<'_>,
-    path: Path<'_>,
-) -> Lack {
-    if !inputs.files.is_regular(path.path_text()) {
-        return Lack::Unknown;
-    }
-    let mut room = Vec::new(alloc);
-    inputs.begin(input);
-    match inputs.read_into(true, path, &mut room) {
-        Ok(bytes) => Lack::of(bytes, true),
-        Err(_) => Lack::Unknown,
-    }
-}
-
 /// Warns of each object whose type units were passed over. Where the package has no units and
 /// nothing is missing, of each other input too: none of them has split units. Where something is
 /// missing, of objects alone: some executable has split units.
@@ -176,10 +158,18 @@ fn warn_for<F: FileSystem, E: LineOutput>(
         _ => {}
     }
     let name = shown(alloc, path.path_text())?;
-    let lack = if is_executable {
-        lack_at(alloc, inputs, input, path)
-    } else {
+    let mut room = Vec::new(alloc);
+    let lack = if !is_executable {
         lack
+    } else if inputs.files.is_regular(path.path_text()) {
+        // A regular file that was taken for an executable is read again for that.
+        inputs.begin(input);
+        match inputs.read_into(true, path, &mut room) {
+            Ok(bytes) => Lack::of(bytes, true),
+            Err(_) => Lack::Unknown,
+        }
+    } else {
+        Lack::Unknown
     };
     let why = format!(in alloc; "{lack}")?;
     let line = format!(in alloc; "warning: {name}: no split units{why}\n")?;
