@@ -12,7 +12,7 @@ ghost use Rattle.thorin_join.specs.Meaning.{Members};
 ghost use Rattle.thorin_join.specs.Represents.{units_in};
 ghost use Rattle.thorin_commands.specs.Cause.{IsCauseOf, IsNotTaken, IsUnfinished};
 ghost use Rattle.thorin_commands.specs.Cause.{IsUntaken, Refuses, StopsAt};
-ghost use Rattle.thorin_commands.specs.Made.{FillsTelling, IsMade, TookTelling};
+ghost use Rattle.thorin_commands.specs.Made.{FillsTelling, IsMade};
 ghost use Rattle.thorin_commands.specs.Opened.{TookAll, unit_count};
 ghost use Rattle.thorin_commands.specs.Packing.{declines, manner_of, reads};
 ghost use Rattle.thorin_commands.specs.Warned.{TellsAdded, TellsUnsplitRun, path_of};
@@ -37,7 +37,7 @@ use std::path::AsPath;
 use thorin::laws::runs_go_on;
 use thorin::{BytesSession, DwarfPackage, Input, NotTaken, take_input};
 use thorin_errors::Error;
-use thorin_inputs::{Growth, Lack};
+use thorin_inputs::Growth;
 use thorin_output::FileSystem;
 use thorin_print::{Failure, LineOutput};
 use thorin_sessions::Session;
@@ -76,8 +76,9 @@ pub(crate) fn packed_inputs<F: FileSystem, E: LineOutput>(
     }
 }
 
-/// Takes these inputs, warns of those without split units, and leaves out what isn't there, where
-/// that is asked for. Answers the lines of type units that differ.
+/// Takes these inputs in order, up to the first that is refused, warns of those without split
+/// units, and leaves out what isn't there, where that is asked for. Answers the lines of type units
+/// that differ.
 #[tactic(auto, using(crate::proofs::Causes::stops_by))]
 fn fill<'o, 's: 'o, Sess: Session<RelocationEntry>, F: FileSystem, E: LineOutput>(
     inputs: &InputFiles<'_, F>,
@@ -95,32 +96,8 @@ fn fill<'o, 's: 'o, Sess: Session<RelocationEntry>, F: FileSystem, E: LineOutput
         inputs.now.packing.now (F.offer inputs.now.files.now)) (declines inputs.now.packing.now
         (F.offer inputs.now.files.now)) list.now builder.old.state)) }
 {
-    let lacks = take_all(inputs, builder, list, options, err)?;
-    warn_unsplit(inputs, builder, list, lacks.as_slice(), options, err)?;
-    let lines = lines_of_differing(&inputs.notes, builder, options)?;
-    leave_out(&inputs.notes, builder, options, err)?;
-    Ok(lines)
-}
-
-/// Takes the inputs in order, up to the first that is refused. Answers of each why it added no
-/// unit, if it added none.
-fn take_all<'o, 's: 'o, Sess: Session<RelocationEntry>, F: FileSystem, E: LineOutput>(
-    inputs: &InputFiles<'_, F>,
-    builder: &mut DwarfPackage<'o, 's, Sess>,
-    list: &[Input<'_>],
-    options: ReportOptions,
-    err: &mut E,
-) -> Result<Vec<Lack>, NoPackage>
-    ensures took { IfOk result (λ lacks. TookTelling options.verbose
-        inputs.now.packing.now.opens_archives (manner_of inputs.now.packing.now) (reads
-        inputs.now.packing.now (F.offer inputs.now.files.now)) list.now builder.old.state
-        builder.new.state (E.contents err.old) (E.contents err.new) lacks.items) }
-    ensures told { IfErr result (Refuses E.contents E.failed err.new (StopsAt
-        inputs.now.packing.now.opens_archives (manner_of inputs.now.packing.now) (reads
-        inputs.now.packing.now (F.offer inputs.now.files.now)) (declines inputs.now.packing.now
-        (F.offer inputs.now.files.now)) list.now builder.old.state)) }
-{
     let mut room = Vec::new(options.alloc);
+    // Of each input why it added no unit, if it added none.
     let mut lacks = Vec::new(options.alloc);
     for input in list {
         let before = unit_count(builder);
@@ -131,7 +108,11 @@ fn take_all<'o, 's: 'o, Sess: Session<RelocationEntry>, F: FileSystem, E: LineOu
             Err(_) => return Err(NoPackage::Command(Failure::Memory)),
         }
     }
-    Ok(lacks)
+    let lacks = lacks.as_slice();
+    warn_unsplit(inputs, builder, list, lacks, options, err)?;
+    let lines = lines_of_differing(&inputs.notes, builder, options)?;
+    leave_out(&inputs.notes, builder, options, err)?;
+    Ok(lines)
 }
 
 /// Takes an input, or where it is an archive that is to be opened the members of it, and tells what

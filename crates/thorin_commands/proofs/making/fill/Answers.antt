@@ -1,20 +1,52 @@
-use Rattle.thorin_commands.proofs.Warned.{lack_count, taken_told}
+use Rattle.std.proofs.lemmas.Result.{err_from_is_err_and}
+use Rattle.std.proofs.Common.{◌≡◌, [], rules}
+use Rattle.std.proofs.lemmas.List.{take_all, take_more}
+use Rattle.thorin.specs.declared.packing.Input.{Input}
+use Rattle.thorin.specs.declared.packing.Input.TheVariants.{Object}
+use Rattle.thorin_commands.proofs.Causes.{refuses_by, stops_at}
+use Rattle.thorin_commands.proofs.Warned.{lack_count, taken_told, taking_begins, taking_more}
 use Rattle.thorin_commands.proofs.making.fill.Goals as goal
 
+abbrev none : Input
+none = Object (record { text = record { ref_ptr = (0, 0); now = [] } })
+
+pub loop-input-init : goal.loop-input-init
+loop-input-init g c =
+    let none : c.new-lacks.result.items ≡ [] = search rules in rw none taking_begins
+
+pub loop-input-preserved : goal.loop-input-preserved
+loop-input-preserved g c = taking_more
+    (take_more c.args.list.now c.loop-input.input-index none c.loop-input-test.true)
+    c.in-Ok.ensures.items
+    (rw (c.saturating_sub-added.ensures, c.unit_count.ensures, c.unit_count-before.ensures) at
+    c.lack_of.ensures)
+    c.loop-input.invariant c.in_ok-take.ensures.took c.in_ok-take.ensures.line
+
+pub returns-in_err-take-clause-told : goal.returns-in_err-take-clause-told
+returns-in_err-take-clause-told g c =
+    let p = err_from_is_err_and c.from_residual.result c.from_residual.ensures.1 in
+    rw (p.1, p.2) (refuses_by g.E.LineOutput.contents g.E.LineOutput.failed c.take.new.err
+    (stops_at c.args.list.now
+    c.loop-input.input-index none c.loop-input-test.true c.loop-input.invariant.took)
+    c.in_err-take.field-0.0 c.in_err-take.ensures.told)
+
 pub warn_unsplit-requires : goal.warn_unsplit-requires
-warn_unsplit-requires g c = rw c.as_slice.ensures.value (lack_count c.in_ok-lacks.ensures.took)
+warn_unsplit-requires g c = rw c.as_slice-lacks.ensures.value (lack_count
+    (rw (take_all c.loop-input.input-index c.args.list.now c.loop-input-test.false) at
+    c.loop-input.invariant))
 
 pub returns-clause-fills : goal.returns-clause-fills
 returns-clause-fills g c =
-    let so = c.in_ok-lacks.ensures.took in record {
+    let so = rw (take_all c.loop-input.input-index c.args.list.now c.loop-input-test.false) at
+    c.loop-input.invariant in record {
       fills = record {
-        state = c.take_all.new.builder.state;
+        state = c.loop-input.builder.state;
         took = so.took;
         rest = c.in_ok-leave_out.ensures.left;
       };
       told = taken_told c.args.options.verbose c.args.options.warns c.args.options.partial
-          c.args.list.now _ c.take_all.new.builder.state _ _ _ _ _ so.told
-          (rw c.as_slice.ensures.value at c.in_ok-warn_unsplit.ensures.lines)
+          c.args.list.now _ c.loop-input.builder.state _ _ _ _ _ so.told
+          (rw c.as_slice-lacks.ensures.value at c.in_ok-warn_unsplit.ensures.lines)
           c.in_ok-leave_out.ensures.lines;
       names_are = c.in_ok-lines.ensures;
     }

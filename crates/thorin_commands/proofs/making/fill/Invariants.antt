@@ -1,7 +1,7 @@
 use Rattle.std.proofs.Common.{take}
 use Rattle.thorin_commands.specs.Made.{TookTelling}
 use Rattle.thorin_commands.specs.Packing.{manner_of, reads}
-use Rattle.thorin_commands.proofs.making.take_all.Given as goal
+use Rattle.thorin_commands.proofs.making.fill.Given as goal
 
 -- the inputs so far were taken and told
 abbrev pub invariant-loop-input : goal.invariant-loop-input
