@@ -4,8 +4,7 @@ ghost use Rattle.std.specs.Prelude.{◌≡◌, Err};
 ghost use Rattle.thorin_print.specs.Watching.{LacksLine};
 ghost use Rattle.thorin_check.specs.Checking.{Checks};
 ghost use Rattle.thorin_reading.specs.Taken.{Takes};
-ghost use Rattle.thorin_cli.specs.Doing.{Answers, DoesCall, DoesPacking, HasStatus};
-ghost use Rattle.thorin_cli.specs.Doing.{Verifies};
+ghost use Rattle.thorin_cli.specs.Doing.{Answers, DoesCall, HasStatus, Verifies};
 ghost use Rattle.thorin_cli.specs.Programs.{KeepsPlaces, state_of, system};
 
 use crate::notes::{Lookup, note_listed, note_packing, note_reading, note_refused, note_why};
@@ -80,33 +79,6 @@ impl<F: NotedFiles, R: NotedReader, O: Write, E: Write> Program<'_, '_, '_, F, R
         }
     }
 
-    /// Packs.
-    fn pack_as(&mut self, packing: &Packing<'_, '_>) -> u8
-        ensures done { Answers (system F.offer F.known F.begun O.contents E.contents
-            (R.offer self.old.reader.now)) (state_of self.new)
-            (DoesPacking (system F.offer F.known F.begun O.contents E.contents
-            (R.offer self.old.reader.now)) packing.now (state_of self.old)
-            (state_of self.new)) result }
-        ensures places { KeepsPlaces self.old self.new }
-    {
-        let answer = pack(self.alloc, self.files, packing, self.out, self.err);
-        self.files.end();
-        match answer {
-            Ok(0) => 0,
-            Ok(status) => {
-                let named = self.files.last_named();
-                note_refused(self.alloc, packing, &named, &mut self.err.writer);
-                status
-            }
-            Err(failure) => {
-                let status = self.report(&failure);
-                let cause = self.files.unwritten();
-                note_packing(self.alloc, &failure, packing, cause, &mut self.err.writer);
-                status
-            }
-        }
-    }
-
     /// Checks the package that would be made.
     fn verify_as(&mut self, packing: &Packing<'_, '_>) -> u8
         ensures done { Answers (system F.offer F.known F.begun O.contents E.contents
@@ -177,19 +149,27 @@ impl<F: NotedFiles, R: NotedReader, O: Write, E: Write> Commands
             },
             names_objects: packs && packing.verbose,
         });
-        if packs {
-            self.pack_as(&packing)
-        } else {
-            let answer = list_missing(
-                self.alloc,
-                self.files,
-                &packing,
-                self.out,
-                &mut self.err.writer,
-            );
-            match answer {
+        let alloc = self.alloc;
+        if arguments.lists_missing {
+            return match list_missing(alloc, self.files, &packing, self.out, &mut self.err.writer) {
                 Ok(status) => status,
                 Err(failure) => self.report(&failure),
+            };
+        }
+        let answer = pack(alloc, self.files, &packing, self.out, self.err);
+        self.files.end();
+        match answer {
+            Ok(0) => 0,
+            Ok(status) => {
+                let named = self.files.last_named();
+                note_refused(alloc, &packing, &named, &mut self.err.writer);
+                status
+            }
+            Err(failure) => {
+                let status = self.report(&failure);
+                let cause = self.files.unwritten();
+                note_packing(alloc, &failure, &packing, cause, &mut self.err.writer);
+                status
             }
         }
     }
