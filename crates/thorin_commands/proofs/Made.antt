@@ -75,11 +75,6 @@ pub if_made : {X E K : Type 0} {A B C D M : X → Type 0} (r : Result X E)
 if_made (Ok made) f a b c d k = f made a b c d k
 if_made (Err e) f a b c d k = tt
 
-pub if_ok_as : {X E : Type 0} {P Q : X → Type 0} (r : Result X E) → ((x : X) → P x → Q x)
-    → IfOk r P → IfOk r Q
-if_ok_as (Ok x) f h = f x h
-if_ok_as (Err e) f h = tt
-
 pub if_refused : {X E : Type 0} {P Q R : E → Type 0} (r : Result X E)
     → ((e : E) → P e → Q e → R e) → IfErr r P → IfErr r Q → IfErr r R
 if_refused (Ok x) f p q = tt

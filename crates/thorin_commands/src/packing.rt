@@ -251,27 +251,6 @@ fn packed<F: FileSystem, E: LineOutput>(
 {
     let list = inputs_of(alloc, packing)?;
     let inputs = InputFiles::new(alloc, files, packing)?;
-    packed_by(alloc, &inputs, list.as_slice(), err)
-}
-
-/// What `packed` gives, by these inputs, of the list of what is asked for.
-#[tactic(auto, using(crate::proofs::Causes::told_for, crate::proofs::Causes::empty_for))]
-fn packed_by<F: FileSystem, E: LineOutput>(
-    alloc: Global,
-    inputs: &InputFiles<'_, F>,
-    list: &[Input<'_>],
-    err: &mut E,
-) -> Result<(WritableObject, Vec<DebugTypeSignature>, String), NoPackage>
-    requires { map asked list.now ≡ asks inputs.now.packing.now }
-    ensures ready { IfOk result (λ made. IsReady
-        (reads inputs.now.packing.now (F.offer inputs.now.files.now)) inputs.now.packing.now
-        (E.contents err.old) (E.contents err.new) made.0 made.1.items (string_bytes made.2)) }
-    ensures told { IfErr result (Refuses E.contents E.failed err.new (IsCauseFor
-        (reads inputs.now.packing.now (F.offer inputs.now.files.now))
-        (declines inputs.now.packing.now (F.offer inputs.now.files.now))
-        inputs.now.packing.now)) }
-{
-    let packing = inputs.packing;
     let options = ReportOptions {
         alloc,
         verbose: packing.verbose,
@@ -279,13 +258,13 @@ fn packed_by<F: FileSystem, E: LineOutput>(
         partial: packing.partial,
         names: packing.tells_differences(),
     };
-    match packed_inputs(inputs, list, options, err) {
+    match packed_inputs(&inputs, list.as_slice(), options, err) {
         Ok((object, differing, named)) => {
             let mut lines = inputs.macro_warnings();
             lines.push_str(named.as_str())?;
             Ok((object, differing, lines))
         }
-        Err(NoPackage::Empty) if packing.lets_empty => packed_unsplit(alloc, inputs, err),
+        Err(NoPackage::Empty) if packing.lets_empty => packed_unsplit(alloc, &inputs, err),
         Err(refusal) => Err(refusal),
     }
 }

@@ -1,10 +1,11 @@
 use Rattle.std.proofs.Common.{◌≡◌, [], ◌∷◌, ◌++◌, arith, false, inr, map}
 use Rattle.std.proofs.lemmas.Grind.{common_steps}
+use Rattle.std.proofs.lemmas.Result.{IfOk-weaker}
 use Rattle.std.specs.Prelude.{None, Some}
 use Rattle.thorin_commands.specs.Packing.{asked, asks, declines, paths_in, reads}
 use Rattle.thorin_commands.specs.Warned.{TellsTaken}
 use Rattle.thorin_commands.proofs.Causes.{first_of, told_unsplit}
-use Rattle.thorin_commands.proofs.Made.{if_ok_as, made_for}
+use Rattle.thorin_commands.proofs.Made.{made_for}
 use Rattle.thorin_commands.proofs.packing.packed_unsplit.Goals as goal
 
 pub returns-clause-made : goal.returns-clause-made
@@ -14,7 +15,7 @@ returns-clause-made g c =
     (rw c.paths_in.ensures at c.in-Some.ensures.value) in
     let are : map asked c.as_slice.result.now ≡ asks c.args.inputs.now.packing.now
     ++ Some (c.in-Some.executable.now.now, None) ∷ [] = grind (arith, common_steps) in
-    if_ok_as c.packed_inputs.result (λ made it. made_for
+    IfOk-weaker c.packed_inputs.result _ _ (λ made it. made_for
     (TellsTaken false false packing.partial) packing c.as_slice.result.now
     c.tells_differences.ensures (inr (c.requires.allowed, rw first are))
     (λ added state text t. t) it)
