@@ -84,10 +84,7 @@ impl Packing<'_, '_> {
             (None, Some([executable])) => format!(in alloc; "{executable}.dwp"),
             (None, _) => return Err(Failure::BadCommand),
         };
-        match name {
-            Ok(name) => Ok(name),
-            Err(AllocError) => Err(Failure::Memory),
-        }
+        Ok(name?)
     }
 
     /// Whether each type unit that differs is told of with the inputs that brought it and the one
