@@ -94,15 +94,9 @@ impl<'f, F: FileSystem> InputFiles<'f, F> {
         ensures { IsTrue result → IsAmong (paths_in self.now.packing.now.inputs) path.now
             ⊎ IsAmong (paths_in self.now.packing.now.executables) path.now }
     {
-        let inputs = paths_in(self.packing.inputs);
-        if let Some(_place) = self.places.place_among(inputs, path) {
-            return true;
-        }
-        let executables = paths_in(self.packing.executables);
-        if let Some(_place) = self.places.place_among(executables, path) {
-            return true;
-        }
-        false
+        let (inputs, executables) = (self.packing.inputs, self.packing.executables);
+        self.places.place_among(paths_in(inputs), path).is_some()
+            || self.places.place_among(paths_in(executables), path).is_some()
     }
 
     /// Reads the file of a path that the input has, or that it names.
