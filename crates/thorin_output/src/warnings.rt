@@ -140,10 +140,8 @@ fn put_each(differing: &[DebugTypeSignature], text: &mut String) -> Result<(), A
     ensures { OnOk result (string_bytes text.new ≡ string_bytes text.old
         ++ flat_map differing_line differing.now) }
 {
-    let before = "warning: type unit 0x";
-    let after = " differs from the one kept\n";
     for signature in differing {
-        put_between(before, signature.0, after, text)?;
+        put_between("warning: type unit 0x", signature.0, " differs from the one kept\n", text)?;
     }
     Ok(())
 }
