@@ -14,16 +14,7 @@ returns-in-Ok-clause-does g c =
       files = c.pack-answer.new.files;
       out = c.pack-answer.new.out;
       err = c.pack-answer.new.err;
-    }) c.pack-answer.result = record {
-      packed = c.pack-answer.ensures.packed;
-      warned = c.pack-answer.ensures.warned;
-      status = c.pack-answer.ensures.status;
-      refused = c.pack-answer.ensures.refused;
-      told = c.pack-answer.ensures.told;
-      failed = c.pack-answer.ensures.failed;
-      why = c.pack-answer.ensures.why;
-      apart = c.pack-answer.ensures.apart;
-    } in
+    }) c.pack-answer.result = assumption c.pack-answer.ensures in
     (
       (refl, refl, refl),
       rw (verifies, lists) (record {
@@ -47,16 +38,7 @@ returns-in-Err-clause-does g c =
       files = c.pack-answer.new.files;
       out = c.pack-answer.new.out;
       err = c.pack-answer.new.err;
-    }) c.pack-answer.result = record {
-      packed = c.pack-answer.ensures.packed;
-      warned = c.pack-answer.ensures.warned;
-      status = c.pack-answer.ensures.status;
-      refused = c.pack-answer.ensures.refused;
-      told = c.pack-answer.ensures.told;
-      failed = c.pack-answer.ensures.failed;
-      why = c.pack-answer.ensures.why;
-      apart = c.pack-answer.ensures.apart;
-    } in
+    }) c.pack-answer.result = assumption c.pack-answer.ensures in
     let report = c.report-status in
     (
       (rw report.ensures.kept.0 refl, rw report.ensures.kept.1 refl, report.ensures.place),
