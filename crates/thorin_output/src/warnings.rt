@@ -122,13 +122,8 @@ fn warnings_text(warned: Warned<'_>) -> Result<String, AllocError>
     match warned.warnings {
         Warnings::Each => put_each(warned.differing, &mut text)?,
         Warnings::Once if !warned.differing.is_empty() => {
-            let mut numbers = Vec::with_capacity(warned.alloc, warned.differing.len())?;
-            for signature in warned.differing {
-                numbers.push(signature.0)?;
-            }
-            numbers.sort_unstable();
-            numbers.dedup();
-            put_count(numbers.len(), warned.differing.len(), &mut text)?;
+            let units = count_distinct(warned.alloc, warned.differing)?;
+            put_count(units, warned.differing.len(), &mut text)?;
         }
         _ => {}
     }
@@ -172,4 +167,15 @@ fn put_count(units: usize, copies: usize, text: &mut String) -> Result<(), Alloc
             "warning: {units} type units differ from the ones kept, copies: {copies}"
         )
     }
+}
+
+/// How many signatures a list has, each once.
+fn count_distinct(alloc: Global, signatures: &[DebugTypeSignature]) -> Result<usize, AllocError> {
+    let mut numbers = Vec::with_capacity(alloc, signatures.len())?;
+    for signature in signatures {
+        numbers.push(signature.0)?;
+    }
+    numbers.sort_unstable();
+    numbers.dedup();
+    Ok(numbers.len())
 }
