@@ -39,7 +39,7 @@ use thorin::{BytesSession, DwarfPackage, Input, NotTaken, take_input};
 use thorin_errors::Error;
 use thorin_inputs::Growth;
 use thorin_output::FileSystem;
-use thorin_print::LineOutput;
+use thorin_print::{Failure, LineOutput};
 use thorin_sessions::Session;
 
 /// The object to be written for these inputs, the signatures of type units that differ, and their
@@ -103,7 +103,10 @@ fn fill<'o, 's: 'o, Sess: Session<RelocationEntry>, F: FileSystem, E: LineOutput
         let before = unit_count(builder);
         take(inputs, builder, &mut room, *input, options, err)?;
         let added = unit_count(builder).saturating_sub(before);
-        lacks.push(lack_of(inputs.files, *input, room.as_slice(), added))?;
+        match lacks.push(lack_of(inputs.files, *input, room.as_slice(), added)) {
+            Ok(()) => {}
+            Err(_) => return Err(NoPackage::Command(Failure::Memory)),
+        }
     }
     let lacks = lacks.as_slice();
     warn_unsplit(inputs, builder, list, lacks, options, err)?;

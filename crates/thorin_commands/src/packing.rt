@@ -295,7 +295,10 @@ fn packed_unsplit<F: FileSystem, E: LineOutput>(
         return Err(NoPackage::Empty);
     }
     let mut list = inputs_of(alloc, packing)?;
-    list.push(Input::Object(Path::new(*executable)))?;
+    match list.push(Input::Object(Path::new(*executable))) {
+        Ok(()) => {}
+        Err(_) => return Err(NoPackage::Command(Failure::Memory)),
+    }
     let options = ReportOptions {
         alloc,
         verbose: false,

@@ -17,7 +17,7 @@ loop-input-init g c =
 pub loop-input-preserved : goal.loop-input-preserved
 loop-input-preserved g c = taking_more
     (take_more c.args.list.now c.loop-input.input-index none c.loop-input-test.true)
-    c.in_ok-push.ensures.items
+    c.in-Ok.ensures.items
     (rw (c.saturating_sub-added.ensures, c.unit_count.ensures, c.unit_count-before.ensures) at
     c.lack_of.ensures)
     c.loop-input.invariant c.in_ok-take.ensures.took c.in_ok-take.ensures.line
