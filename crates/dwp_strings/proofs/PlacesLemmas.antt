@@ -3,6 +3,7 @@ use Rattle.std.proofs.lemmas.List.{get_or-set_other, get_or-set_same, get_or_pas
 use Rattle.dwp_strings.proofs.Terms.{List, None, Slot, Some, ap, arith, cases_lt, free, get_or}
 use Rattle.dwp_strings.proofs.Terms.{home, length, place_from, place_of, refl, set, suc, zero, ℕ}
 use Rattle.dwp_strings.proofs.Terms.{◌+◌, ◌-◌, ◌<◌, ◌≡◌, ◌≢◌, ◌≤◌}
+use Rattle.dwp_strings.specs.Places.{IsSlotOf}
 
 -- past all slots each is free
 pub free_past : (slots : List Slot) (k : ℕ) → length slots ≤ k → (get_or slots k free).behind ≡ 0
@@ -38,17 +39,17 @@ module _ (slots : List Slot) (h k : ℕ) where
   none_from at zero low passed none = refl
   none_from at (suc n) low passed none = grind (arith, none_from (at + 1) n, passed at)
 
-  -- the same where a hash begins
-  module _ (size at : ℕ) (is_at : at ≡ home size h) (low : at ≤ k) (passed : ArePassed slots at k h)
-    where
-      pub found_of : k < at + 128 → slot.behind ≢ 0 → slot.hash ≡ h
-          → place_of slots size h ≡ Some (slot.behind - 1)
-      unfolding place_of
-      found_of high some same = grind (arith, slot_from at 128 low passed high some same)
+  -- the same where the hash begins
+  pub found_of : (size : ℕ) → IsSlotOf slots size h k → place_of slots size h
+      ≡ Some (slot.behind - 1)
+  unfolding place_of
+  found_of size is =
+      grind (arith, slot_from (home size h) 128 is.from is.passed is.within is.used is.same)
 
-      pub none_of : (k < at + 128 → slot.behind ≡ 0) → place_of slots size h ≡ None
-      unfolding place_of
-      none_of none = grind (arith, none_from at 128 low passed none)
+  pub none_of : (size : ℕ) → home size h ≤ k → ArePassed slots (home size h) k h
+      → (k < home size h + 128 → slot.behind ≡ 0) → place_of slots size h ≡ None
+  unfolding place_of
+  none_of size low passed none = grind (arith, none_from (home size h) 128 low passed none)
 
 -- each slot has its place among others, and so has each hash
 pub each_from : (slots new : List Slot) (size at n h p : ℕ)
@@ -80,15 +81,18 @@ module _ (slots : List Slot) (s : Slot) (k : ℕ) where
         let other = get_or-set_other slots k at s free in
         grind (arith, put_from (at + 1) n, used at, here, other)
 
-    -- or the first one, once it has another place
-    pub shared_of : (size h at : ℕ) → at ≡ home size h → at ≤ k → k < at + 128
-        → ArePassed slots at k h → s.hash ≡ h
-        → place_of (set slots k s) size h ≡ Some (s.behind - 1)
-    shared_of size h at is_at low high passed same =
+    -- or where it has one, once that is another
+    pub given_of : (size : ℕ) → IsSlotOf slots size s.hash k
+        → place_of (set slots k s) size s.hash ≡ Some (s.behind - 1)
+    given_of size is =
         let here = get_or-set_same slots k s free within in
-        rw here at (found_of (set slots k s) h k size at is_at low
-        (λ j l m. rw (get_or-set_other slots k j s free (omega arith)) (passed j l m)) high
-        (rw here some) (rw here same))
+        rw here at (found_of (set slots k s) s.hash k size (record {
+          used = rw here some;
+          same = rw here refl;
+          from = is.from;
+          within = is.within;
+          passed = λ j l m. rw (get_or-set_other slots k j s free (omega arith)) (is.passed j l m);
+        }))
 
     -- and other hashes have theirs
     pub others_from : (at n h : ℕ) → s.hash ≡ (get_or slots k free).hash

@@ -62,6 +62,15 @@ pub record IsNext (slots : List Slot) (size h number : ℕ) : Type 0 where
   pub within : number < home size h + 128
   pub used : (j : ℕ) → home size h ≤ j → j < number → (slice_index_or slots j free).behind ≢ 0
 
+-- a slot is that of a hash: a used one of its own with that hash, behind used ones of others
+pub record IsSlotOf (slots : List Slot) (size h number : ℕ) : Type 0 where
+  pub used : (slice_index_or slots number free).behind ≢ 0
+  pub same : (slice_index_or slots number free).hash ≡ h
+  pub from : home size h ≤ number
+  pub within : number < home size h + 128
+  pub passed : (j : ℕ) → home size h ≤ j → j < number
+      → ((slice_index_or slots j free).behind ≢ 0) × ((slice_index_or slots j free).hash ≢ h)
+
 -- strings of a hash are looked for in their order: they share it, or it has no place where no more
 -- get one
 abbrev pub IsOrdered : List Slot → ℕ → Bool → ℕ → Type 0

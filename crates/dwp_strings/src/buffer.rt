@@ -1,7 +1,7 @@
 //! Strings one behind the other, each ended by a zero byte, and room for more.
 
-ghost use Rattle.std.specs.Prelude.{◌≡◌, ◌≢◌, ◌<◌, ◌≤◌, ◌+◌, ◌^◌, ◌++◌, ◌∷◌, ℕ, [], length, take};
-ghost use Rattle.std.specs.Prelude.{drop, slice_index, IsTrue, OnOk, OnErr, false};
+ghost use Rattle.std.specs.Prelude.{◌≡◌, ◌≢◌, ◌<◌, ◌≤◌, ◌+◌, ◌^◌, ◌++◌, ℕ, [], length, take, drop};
+ghost use Rattle.std.specs.Prelude.{slice_index, IsTrue, OnOk, OnErr, false};
 ghost use Rattle.dwp_strings.specs.Ends.{IsFirstZero, IsCopied};
 ghost use Rattle.dwp_strings.specs.Strings.{terminated};
 

@@ -8,7 +8,7 @@ ghost use Rattle.dwp_strings.specs.Hashed.{held, IsHashed};
 ghost use Rattle.dwp_strings.specs.Places.{hash as hash_of, place_of, shared, IsNext, IsOrdered};
 
 use crate::buffer::Buffer;
-use crate::places::HashedPlaces;
+use crate::places::{HashedPlaces, behind};
 use crate::positions::Positions;
 use crate::search::{begins_at, search};
 use dwp_bytes::string_at;
@@ -105,11 +105,11 @@ impl Entries {
             return Ok(None);
         }
         let last = self.bytes.len();
-        self.bytes.append(string)?;
-        if !self.places.give(hash, last) {
-            self.bytes.truncate(last);
+        let Some(behind) = behind(last) else {
             return Ok(None);
-        }
+        };
+        self.bytes.append(string)?;
+        self.places.give(hash, behind);
         self.count += 1;
         Ok(Some(last))
     }
@@ -182,7 +182,7 @@ impl Entries {
             self.new.places.is_full hash) }
     {
         self.keep_ordered(place)?;
-        self.places.share(hash);
+        self.places.give(hash, u32::MAX);
         Ok(())
     }
 

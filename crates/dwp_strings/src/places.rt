@@ -1,26 +1,16 @@
 //! Places of strings by their hashes, none of which is lost.
 
-ghost use Rattle.std.specs.Prelude.{◌≡◌, ◌≢◌, ◌<◌, ◌≤◌, ◌+◌, ◌-◌, ◌^◌, ℕ, length, Some, None};
-ghost use Rattle.std.specs.Prelude.{IfSome, IsTrue, OnErr, IfOk, IfErr, true, false};
-ghost use Rattle.std.specs.Prelude.{slice_index_or};
-ghost use Rattle.dwp_strings.specs.Places.{free, place_of, home, shared, IsNext};
+ghost use Rattle.std.specs.Prelude.{◌≡◌, ◌≢◌, ◌<◌, ◌+◌, ◌-◌, ◌^◌, ℕ, length, Some, None, IfSome};
+ghost use Rattle.std.specs.Prelude.{IsTrue, OnErr, IfOk, IfErr, true, false, slice_index_or};
+ghost use Rattle.dwp_strings.specs.Places.{free, place_of, shared, IsNext, IsSlotOf};
 
 use std::alloc::Global;
 
 /// How many slots are looked at for a hash.
 const PROBES: usize = 128;
 
-/// How many slots hashes begin at, at first.
-const FIRST_SIZE: u32 = 1024;
-
-/// At how many then.
-const FEW: u32 = 1 << 14;
-
-/// And then.
-const SOME: u32 = 3 << 15;
-
-/// And then; three times as many after that, and from there on twice as many.
-const MANY: u32 = 1 << 18;
+/// At how many slots hashes begin, from step to step; then at twice as many each time.
+const SIZES: [u32; 5] = [1 << 10, 1 << 14, 3 << 15, 1 << 18, 3 << 18];
 
 /// A free slot: `behind` alone tells that. (Not all of its bytes are zero: so many are written 16
 /// bytes at a time.)
@@ -37,7 +27,7 @@ pub(crate) struct Slot {
 }
 
 /// One more than a place, where a slot has room for it.
-fn behind(place: usize) -> Option<u32>
+pub(crate) fn behind(place: usize) -> Option<u32>
     ensures value { IfSome result (λ behind. behind ≡ place + 1) }
     ensures fits { IfSome result (λ _. place < shared) }
 {
@@ -47,47 +37,23 @@ fn behind(place: usize) -> Option<u32>
     Some(place as u32 + 1)
 }
 
-/// The first slot of a hash.
-fn home(size: u32, hash: u32) -> usize
-    ensures value { result ≡ home size hash }
-    ensures small { result < 2 ^ 32 }
-{
-    (u64::from(hash) * u64::from(size) >> 32) as usize
-}
-
-/// The slot behind the last one of a hash.
+/// The slot of a hash, or the one that is next for it, past all if none is.
 #[inline(always)]
-fn behind_last(slots: &[Slot], home: usize) -> usize
-    requires { home < 2 ^ 32 }
-    ensures within { result ≤ length slots.now }
-    ensures near { result ≤ home + 128 }
-    ensures far { result < home + 128 → result ≡ length slots.now }
-{
-    if slots.len() < home + PROBES {
-        slots.len()
-    } else {
-        home + PROBES
-    }
-}
-
-/// The place that a hash has in these slots, or the slot that is next for it, past all if none is.
-#[inline(always)]
-fn seek(slots: &[Slot], size: u32, hash: u32) -> Result<usize, usize>
-    ensures found { IfOk result (λ place. place_of slots.now size hash ≡ Some place) }
-    ensures fits { IfOk result (λ place. place < 2 ^ 32) }
+fn find(slots: &[Slot], size: u32, hash: u32) -> Result<usize, usize>
+    ensures found { IfOk result (IsSlotOf slots.now size hash) }
     ensures none { OnErr result (place_of slots.now size hash ≡ None) }
     ensures next { IfErr result (λ number. number < length slots.now
         → IsNext slots.now size hash number) }
 {
-    let home = home(size, hash);
-    let last = behind_last(slots, home);
+    let home = (u64::from(hash) * u64::from(size) >> 32) as usize;
+    let last = slots.len().min(home + PROBES);
     for number in home..last {
         let slot = slots[number];
         if slot.behind == 0 {
             return Err(number);
         }
         if slot.hash == hash {
-            return Ok(slot.behind as usize - 1);
+            return Ok(number);
         }
     }
     Err(slots.len())
@@ -123,7 +89,7 @@ fn put(slots: &mut [Slot], size: u32, slot: Slot) -> bool
         → place_of slots.new size h ≡ Some n }
     ensures long { length slots.new ≡ length slots.old }
 {
-    match seek(slots, size, slot.hash) {
+    match find(slots, size, slot.hash) {
         Ok(_) => false,
         Err(number) => put_next(slots, number, slot),
     }
@@ -149,42 +115,12 @@ fn put_again(slots: &mut [Slot], size: u32, others: &[Slot]) -> Option<usize>
     Some(used)
 }
 
-/// Gives a hash that has a place another one, which is one less than `behind`.
-fn put_over(slots: &mut [Slot], size: u32, hash: u32, behind: u32)
-    requires some { behind ≢ 0 }
-    ensures given { (n : ℕ) → place_of slots.old size hash ≡ Some n
-        → place_of slots.new size hash ≡ Some (behind - 1) }
-    ensures others { (h : ℕ) → h ≢ hash → place_of slots.new size h ≡ place_of slots.old size h }
-    ensures long { length slots.new ≡ length slots.old }
-{
-    let home = home(size, hash);
-    let last = behind_last(slots, home);
-    for number in home..last {
-        if slots[number].behind == 0 {
-            return;
-        }
-        if slots[number].hash == hash {
-            slots[number].behind = behind;
-            return;
-        }
-    }
-}
-
-/// How many slots hashes are to begin at, where they begin at so many now.
+/// At how many slots hashes are to begin, where they begin at so many now.
 fn more_than(size: u32) -> u32 {
-    if size == 0 {
-        FIRST_SIZE
-    } else if size < FEW {
-        FEW
-    } else if size < SOME {
-        SOME
-    } else if size < MANY {
-        MANY
-    } else if size == MANY {
-        MANY * 3
-    } else {
-        size.saturating_mul(2)
-    }
+    SIZES
+        .into_iter()
+        .find(|next| size < *next)
+        .unwrap_or(size.saturating_mul(2))
 }
 
 /// How many slots are used at most, where hashes begin at so many: five of eight.
@@ -230,7 +166,8 @@ impl HashedPlaces {
         ensures next { IfErr result (λ number. number < length self.now.slots.items
             → IsNext self.now.slots.items self.now.size hash number) }
     {
-        seek(&self.slots, self.size, hash)
+        let number = find(&self.slots, self.size, hash)?;
+        Ok(self.slots[number].behind as usize - 1)
     }
 
     /// The places in more slots, with one more. None where they don't fit or there is no memory.
@@ -313,33 +250,17 @@ impl HashedPlaces {
         self.enter_in_more(slot)
     }
 
-    /// Gives a hash that has a place the one of hashes that strings share.
-    pub fn share(&mut self, hash: u32)
-        ensures shared { (n : ℕ) → place_of self.old.slots.items self.old.size hash ≡ Some n
-            → place_of self.new.slots.items self.new.size hash ≡ Some shared }
+    /// Gives a hash that has a place another one, which is one less than `behind`.
+    pub fn give(&mut self, hash: u32, behind: u32)
+        requires some { behind ≢ 0 }
+        ensures given { (n : ℕ) → place_of self.old.slots.items self.old.size hash ≡ Some n
+            → place_of self.new.slots.items self.new.size hash ≡ Some (behind - 1) }
         ensures others { (h : ℕ) → h ≢ hash → place_of self.new.slots.items self.new.size h
             ≡ place_of self.old.slots.items self.old.size h }
         ensures full { self.new.is_full ≡ self.old.is_full }
     {
-        put_over(&mut self.slots, self.size, hash, u32::MAX);
-    }
-
-    /// Gives a hash that has a place another one; false where four bytes don't hold that.
-    pub fn give(&mut self, hash: u32, place: usize) -> bool
-        ensures given { IsTrue result → (n : ℕ)
-            → place_of self.old.slots.items self.old.size hash ≡ Some n
-            → place_of self.new.slots.items self.new.size hash ≡ Some place }
-        ensures fits { IsTrue result → place < shared }
-        ensures others { (h : ℕ) → h ≢ hash → place_of self.new.slots.items self.new.size h
-            ≡ place_of self.old.slots.items self.old.size h }
-        ensures full { self.new.is_full ≡ self.old.is_full }
-        ensures same { result ≡ false → self.new.slots.items ≡ self.old.slots.items }
-        ensures size { self.new.size ≡ self.old.size }
-    {
-        let Some(behind) = behind(place) else {
-            return false;
-        };
-        put_over(&mut self.slots, self.size, hash, behind);
-        true
+        if let Ok(number) = find(&self.slots, self.size, hash) {
+            self.slots[number].behind = behind;
+        }
     }
 }

@@ -1,4 +1,4 @@
-use Rattle.dwp_strings.proofs.Terms.{BeginsAt, false≢true, inl, refl, rules, sym, ◌+◌, ◌∙◌}
+use Rattle.dwp_strings.proofs.Terms.{BeginsAt, arith, false≢true, inl, refl, rules, sym, ◌+◌, ◌∙◌}
 use Rattle.dwp_strings.proofs.HashedLemmas.{added, begins_at_offset, carried_over, indexed_push}
 use Rattle.dwp_strings.proofs.HashedLemmas.{misplaced}
 use Rattle.dwp_strings.proofs.entries.Entries.add_over.Goals as goal
@@ -6,12 +6,8 @@ use Rattle.dwp_strings.proofs.entries.Entries.add_over.Goals as goal
 pub returns : goal.returns
 returns c =
     let e = c.args.self.now in
-    let new = record e {
-      bytes = c.append.new.self;
-      count = e.count + 1;
-      places =
-          c.give.new.self;
-    } in
+    let places = c.give.new.self in
+    let new = record e { bytes = c.append.new.self; count = e.count + 1; places = places } in
     let s = c.args.string.now in
     let table = c.requires.table in
     let gone : BeginsAt e.bytes c.args.place → ⊥ = λ begins. false≢true
@@ -23,5 +19,5 @@ returns c =
     (indexed_push e.bytes e.ordered s table.findable.indexed c.requires.zero_free absent)
     (carried_over e new c.args.hash c.args.place c.give.ensures.full refl c.requires.has
     c.give.ensures.others c.requires.own (λ begun. gone (begins_at_offset e table _ begun)))
-    (inl (c.if-not-give.ensures.given refl _ c.requires.has, c.if-not-give.ensures.fits refl)) in
+    (inl (grind (arith, c.give.ensures.given _ c.requires.has), c.in-Some.ensures.fits)) in
     search rules

@@ -7,8 +7,8 @@ returns-clause-table c =
     let e = c.keep_ordered.new.self in
     let table = c.keep_ordered.ensures.table in
     let has : place_in e c.args.hash ≡ Some c.args.place = grind arith in
-    let new = record e { places = c.share.new.self } in
+    let new = record e { places = c.give.new.self } in
     hashed_kept e new table refl refl table.findable.indexed
-    (carried_shared e new c.args.hash c.args.place c.share.ensures.full refl has
-    c.share.ensures.others (c.share.ensures.shared _ has)
+    (carried_shared e new c.args.hash c.args.place c.give.ensures.full refl has
+    c.give.ensures.others (c.give.ensures.given _ has)
     (λ begun. c.in_ok-keep_ordered.ensures.there (begins_at_offset e table _ begun)))

@@ -1,0 +1,27 @@
+use Rattle.dwp_strings.proofs.Terms.{Slot, ap, arith, free, get_or_read, place_of, ◌∙◌}
+use Rattle.dwp_strings.proofs.PlacesLemmas.{given_of, others_from, slot_within}
+use Rattle.dwp_strings.proofs.places.HashedPlaces.give.Goals as goal
+
+pub index_mut-requires : goal.index_mut-requires
+index_mut-requires c = grind (arith, slot_within)
+
+pub returns-in-Ok-clause-given : goal.returns-in-Ok-clause-given
+returns-in-Ok-clause-given c = λ n is.
+    let items = c.args.self.now.slots.items in
+    let slot = rw c.deref.ensures.value at c.in-Ok.ensures.found in
+    let within = slot_within items c.in-Ok.number slot.used in
+    let read = get_or_read _ _ _ within c.index_mut.ensures.value free in
+    let same = ap (λ (s : Slot). s.hash) read ∙ slot.same in
+    rw same (given_of items (record { hash = c.args.hash; behind = c.args.behind }) c.in-Ok.number
+    within c.requires.some c.args.self.now.size slot)
+
+pub returns-in-Ok-clause-others : goal.returns-in-Ok-clause-others
+unfolding place_of
+returns-in-Ok-clause-others c = λ h other.
+    let items = c.args.self.now.slots.items in
+    let slot = rw c.deref.ensures.value at c.in-Ok.ensures.found in
+    let within = slot_within items c.in-Ok.number slot.used in
+    let read = get_or_read _ _ _ within c.index_mut.ensures.value free in
+    let same = ap (λ (s : Slot). s.hash) read in
+    others_from items _ c.in-Ok.number within c.requires.some _ 128 h same slot.used
+    (λ e. other (e ∙ same ∙ slot.same))
