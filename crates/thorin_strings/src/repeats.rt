@@ -49,10 +49,7 @@ fn walk(links: &[usize], pairs: &[(u64, u64)], offset: u64) -> Result<u64, usize
     let mut at = offset as usize % TREES;
     let mut rest = offset / TREES as u64;
     for _ in 0..u64::BITS {
-        let number = match links.get(at) {
-            Some(number) => *number,
-            None => FREE,
-        };
+        let number = links.get(at).copied().unwrap_or(FREE);
         let Some(pair) = pairs.get(number.wrapping_sub(1)) else {
             break;
         };
@@ -75,10 +72,7 @@ fn look(cells: &[u32], pairs: &[(u64, u64)], offset: u64) -> Option<u64>
 {
     let number = *cells.get(offset as usize / CELL)?;
     let pair = pairs.get((number as usize).wrapping_sub(1))?;
-    if pair.0 != offset {
-        return None;
-    }
-    Some(pair.1)
+    (pair.0 == offset).then_some(pair.1)
 }
 
 /// Leads the cell of an offset to a pair; false where there is none or it is taken.
@@ -90,22 +84,6 @@ fn lead_cell(cells: &mut [u32], offset: u64, number: usize) -> bool {
         }
         _ => false,
     }
-}
-
-/// Makes the first links of the trees, where there are none.
-fn plant(alloc: Global, links: &mut Vec<usize>) -> Result<(), AllocError> {
-    if links.is_empty() {
-        *links = Vec::from_elem(alloc, FREE, TREES)?;
-    }
-    Ok(())
-}
-
-/// Leads a link to a pair, and adds the two links of that pair.
-fn lead(links: &mut Vec<usize>, at: usize, number: usize) {
-    if let Some(link) = links.get_mut(at) {
-        *link = number;
-    }
-    let _added = links.extend_from_slice(&[FREE, FREE]);
 }
 
 impl Repeats {
@@ -180,14 +158,18 @@ impl Repeats {
             }
             return Ok(());
         }
-        plant(self.alloc, &mut self.links)?;
+        if self.links.is_empty() {
+            self.links = Vec::from_elem(self.alloc, FREE, TREES)?;
+        }
         let Err(at) = walk(&self.links, &self.pairs, offset) else {
             return Ok(());
         };
         self.links.reserve(2)?;
         self.pairs.push((offset, known))?;
-        lead(&mut self.links, at, number);
-        Ok(())
+        if let Some(link) = self.links.get_mut(at) {
+            *link = number;
+        }
+        self.links.extend_from_slice(&[FREE, FREE])
     }
 
     /// Forgets all.
