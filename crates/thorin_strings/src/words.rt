@@ -56,30 +56,14 @@ fn append_by_pieces(out: &mut Vec<u8>, bytes: &[u8]) -> Result<(), AllocError>
     ensures { OnOk result (out.new.items ≡ out.old.items ++ bytes.now) }
 {
     out.reserve(bytes.len())?;
-    let mut at = 0;
-    while at < bytes.len() {
-        let next = if bytes.len() - at < PIECE {
-            bytes.len()
-        } else {
-            at + PIECE
-        };
-        out.extend_from_slice(&bytes[at..next])?;
-        at = next;
+    for piece in bytes.chunks(PIECE) {
+        out.extend_from_slice(piece)?;
     }
     Ok(())
 }
 
 /// How many entries are rewritten one by one where the first of them isn't told by a hash.
 const APART: usize = 16;
-
-/// From which entry on it is tried again to tell entries by hashes.
-fn next_try(again: usize, from: usize, to: usize) -> usize {
-    if from >= again && to == from {
-        to.saturating_add(APART)
-    } else {
-        again
-    }
-}
 
 /// How many bytes a string has at most, with the zero at its end, whose end is guessed: longer ones
 /// are looked for among those that are remembered.
@@ -224,7 +208,9 @@ impl PackageStringTable {
             // (nearly every entry is told here, without room for an error)
             let from = index;
             index = self.write_told(range, &mut out, from, again);
-            again = next_try(again, from, index);
+            if from >= again && index == from {
+                again = index.saturating_add(APART);
+            }
             let named = word_at(offsets, encoding, index);
             let offset = self.other_word(repeats, range, index, named)?;
             write_word(&mut out, first + index * 4, offset);

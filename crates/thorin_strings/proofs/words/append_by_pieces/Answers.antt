@@ -1,15 +1,15 @@
-use Rattle.thorin_strings.proofs.Terms.{append_assoc, arith, elements, take-add, ◌-◌}
+use Rattle.std.proofs.lemmas.List.{nil_from_length}
+use Rattle.thorin_strings.proofs.Terms.{append-nil, append_assoc, arith, rules}
 use Rattle.thorin_strings.proofs.words.append_by_pieces.Goals as goal
 
-pub loop-at-preserved : goal.loop-at-preserved
-loop-at-preserved c = record {
-  within = grind arith;
-  so_far = grind (
-    arith,
-    append_assoc,
-    take-add c.loop-at.at (c.if-bytes-at-lt-PIECE.next - c.loop-at.at) c.args.bytes.now,
-  );
-}
+pub loop-piece-init : goal.loop-piece-init
+loop-piece-init c = (search rules, tt, search rules)
+
+pub loop-piece-preserved : goal.loop-piece-preserved
+loop-piece-preserved c =
+    (search rules, tt, grind (arith, append_assoc, c.in-Some.ensures.steps))
 
 pub returns : goal.returns
-returns c = grind (arith, elements)
+returns c =
+    let none = nil_from_length _ c.in-None.ensures.steps.1.0 in
+    rw (none, append-nil) at c.loop-piece.invariant.2

@@ -1,11 +1,9 @@
-use Rattle.thorin_strings.proofs.Terms.{length, take, ◌++◌, ◌-◌, ◌≡◌, ◌≤◌}
+use Rattle.std.specs.Slice.Iter.{chunks_rest}
+use Rattle.thorin_strings.proofs.Terms.{◌++◌, ◌≡◌}
 use Rattle.thorin_strings.proofs.words.append_by_pieces.Given as goal
 
-abbrev pub invariant-loop-at : goal.invariant-loop-at
-invariant-loop-at l = record {
-  within : l.at ≤ length l.bytes;
-  so_far : l.out.items ≡ l.initial.out.items ++ take l.at l.bytes;
-}
-
-abbrev pub decreases-loop-at : goal.decreases-loop-at
-decreases-loop-at l = length l.bytes - l.at
+abbrev pub invariant-loop-piece : goal.invariant-loop-piece
+invariant-loop-piece l =
+    goal.iterator-loop-piece.can_next l.piece-iterator
+    × goal.iterator-loop-piece.is_finite l.piece-iterator
+    × (l.out.items ++ chunks_rest l.piece-iterator ≡ l.initial.out.items ++ l.bytes)
