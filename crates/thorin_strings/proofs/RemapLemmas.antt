@@ -9,7 +9,13 @@ use Terms.{get_or, header_of, header_size, length, length-take, list_any_at, nam
 use Terms.{offset_at, offset_limit, offset_read, offset_size, refl, remapped, remapped_entries}
 use Terms.{remapped_entry, string_at, string_read, suc, take, take-take, take_rest, there_later}
 use Terms.{there_once_used, zero, ℕ, ◌*◌, ◌++◌, ◌+◌, ◌-◌, ◌<◌, ◌^◌, ◌∙◌, ◌∷◌, ◌≡◌, ◌≤◌}
-use Rattle.dwp_bytes.specs.declared.encoding.Format.TheVariants.{Dwarf32}
+use Rattle.std.proofs.Common.{ltb, not}
+use Rattle.std.proofs.lemmas.Bool.Decides.{nat_tests}
+use Rattle.dwp_bytes.specs.StringOffsets.{entry_in}
+use Rattle.dwp_bytes.specs.declared.encoding.Format.{Format}
+use Rattle.dwp_bytes.specs.declared.encoding.Format.TheVariants.{Dwarf32, Dwarf64}
+use Rattle.dwp_bytes.specs.declared.error.ReadError.TheVariants.{UnexpectedEof}
+use Rattle.thorin_errors.specs.Errors.{OffsetAtIndex}
 
 -- what keeps the strings before it keeps those before them
 pub kept_more : (old now new : List (List ℕ)) → take (length old) now ≡ old → take (length now) new
@@ -65,11 +71,23 @@ are_known_later section old new pairs kept known = λ i d within.
     grind (arith, there_later old new r.0 kept, there_once_used old r.0)
 
 -- the offset that was read of an entry
-pub entry_was : (order : Endianness) (encoding : Encoding) (bytes : List ℕ) (index named : ℕ)
-    → offset_at order encoding.format bytes (header_size encoding
-    + index * offset_size encoding.format) ≡ Ok named → entry_at order encoding bytes
-    index ≡ Ok named
-entry_was order encoding bytes index named h = rw h refl
+in_range : (format : Format) (index front size : ℕ) → ltb index ((size - front) / offset_size format)
+    ≡ not (ltb size (front + index * offset_size format + offset_size format))
+in_range Dwarf32 index front size = grind (arith, nat_tests)
+in_range Dwarf64 index front size = grind (arith, nat_tests)
+
+module _ (order : Endianness) (encoding : Encoding) (bytes : List ℕ) (index : ℕ) where
+  pub entry_was : (named : ℕ) → entry_in order encoding bytes index ≡ Some named
+      → entry_at order encoding bytes index ≡ Ok named
+  unfolding entry_in offset_at
+  entry_was named is =
+      grind (arith, in_range encoding.format index (header_size encoding) (length bytes))
+
+  pub no_entry : entry_in order encoding bytes index ≡ None
+      → entry_at order encoding bytes index ≡ Err (OffsetAtIndex UnexpectedEof index)
+  unfolding entry_in offset_at
+  no_entry is =
+      grind (arith, in_range encoding.format index (header_size encoding) (length bytes))
 
 -- what an entry comes to, by the offset that it has
 module _ (order : Endianness) (encoding : Encoding) (section bytes : List ℕ) (index : ℕ) where

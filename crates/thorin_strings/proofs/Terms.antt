@@ -2,8 +2,8 @@
 pub use Rattle.std.proofs.Common.{Err, List, None, Ok, Option, Some, [], add-one, ap, append-nil}
 pub use Rattle.std.proofs.Common.{append_assoc, arith, codes, drop, eqb, get_or, length}
 pub use Rattle.std.proofs.Common.{length-append, length-drop, length-take, refl, rules, suc, sym}
-pub use Rattle.std.proofs.Common.{take, take-add, take-take, take_all, zero, ℕ, ◌*◌, ◌++◌, ◌+◌, ◌-◌}
-pub use Rattle.std.proofs.Common.{◌<◌, ◌^◌, ◌∙◌, ◌∷◌, ◌≡◌, ◌≤◌}
+pub use Rattle.std.proofs.Common.{take, take-take, take_all, zero, ℕ, ◌*◌, ◌++◌, ◌+◌, ◌-◌, ◌<◌, ◌^◌}
+pub use Rattle.std.proofs.Common.{◌∙◌, ◌∷◌, ◌≡◌, ◌≤◌}
 pub use Rattle.std.proofs.lemmas.Bool.{cases_eq, eq-eqb, eqb-false}
 pub use Rattle.std.proofs.lemmas.Grind.{elements}
 pub use Rattle.std.proofs.lemmas.List.{flat_map_more, take_rest, with_items_is}

@@ -1,16 +1,13 @@
 //! Entries of string offsets whose strings are told without room for an error (DWARF 5, 7.26).
 
-ghost use Rattle.std.specs.Prelude.{◌≡◌, ◌≤◌, ◌<◌, ◌+◌, ◌*◌, ◌^◌, length, take, Ok, IsNone, IfSome};
-ghost use Rattle.dwp_bytes.specs.Encoding.{offset_size};
-ghost use Rattle.dwp_bytes.specs.StringOffsets.{header_size};
+ghost use Rattle.std.specs.Prelude.{◌≡◌, ◌≤◌, length, take, Ok, IsNone, IfSome};
 ghost use Rattle.thorin_strings.specs.StringOffsets.{offset_limit, remapped_entry};
 ghost use Rattle.thorin_strings.specs.Known.{offset_read, AreKnown};
 
-use crate::offsets::{entry_at, offset_limit};
+use crate::offsets::offset_limit;
 use crate::repeats::Repeats;
 use crate::table::PackageStringTable;
-use dwp_base::Endianness;
-use dwp_bytes::Encoding;
+use dwp_bytes::StringOffsets;
 use dwp_strings::{ROUNDS, end_of, short_end};
 
 #[tactic(auto, using(std::proofs::lemmas::List::take_all))]
@@ -107,24 +104,23 @@ impl PackageStringTable {
     pub(crate) fn entry_told(
         &mut self,
         repeats: &mut Repeats,
-        debug_str: &[u8],
-        debug_str_offsets: &[u8],
-        endian: Endianness,
-        encoding: Encoding,
+        range: StringOffsets<'_>,
         index: u64,
     ) -> Option<u64>
-        requires small { header_size encoding + index * offset_size encoding.format < 2 ^ 64 }
-        requires known { AreKnown debug_str.now self.old repeats.old }
-        ensures meaning { IfSome result (λ offset. remapped_entry endian encoding debug_str.now
-            debug_str_offsets.now index self.old ≡ Ok (offset, self.new)) }
-        ensures fits { IfSome result (λ offset. offset ≤ offset_limit encoding.format) }
+        requires { AreKnown range.strings.now self.old repeats.old }
+        ensures meaning { IfSome result (λ offset. remapped_entry range.order range.encoding
+            range.strings.now range.offsets.now index self.old ≡ Ok (offset, self.new)) }
+        ensures fits { IfSome result (λ offset. offset ≤ offset_limit range.encoding.format) }
         ensures kept { take (length self.old) self.new ≡ self.old }
         ensures none { IsNone result → self.new ≡ self.old }
-        ensures known { AreKnown debug_str.now self.new repeats.new }
+        ensures known { AreKnown range.strings.now self.new repeats.new }
     {
-        let Ok(named) = entry_at(debug_str_offsets, endian, encoding, index) else {
-            return None;
-        };
-        self.offset_told(repeats, debug_str, named, offset_limit(encoding.format))
+        let named = range.entry(index)?;
+        self.offset_told(
+            repeats,
+            range.strings,
+            named,
+            offset_limit(range.encoding.format),
+        )
     }
 }

@@ -3,15 +3,12 @@
 ghost use Rattle.std.specs.Prelude.{◌≡◌, ◌≢◌, ◌≤◌, ◌<◌, ◌+◌, ◌*◌, ◌^◌, ◌++◌, [], length, take};
 ghost use Rattle.std.specs.Prelude.{OnOk, OnErr, IfOk};
 ghost use Rattle.dwp_base.specs.Numbers.{number_bytes};
-ghost use Rattle.dwp_base.specs.Reading.{Answers};
 ghost use Rattle.dwp_bytes.specs.declared.encoding.Format.TheVariants.{Dwarf32};
 ghost use Rattle.dwp_bytes.specs.Encoding.{offset_size};
 ghost use Rattle.thorin_errors.specs.Answers.{Gives};
 ghost use Rattle.dwp_bytes.specs.StringOffsets.{header_size};
-ghost use Rattle.thorin_strings.specs.StringOffsets.{length_limit, offset_limit, header_of};
-ghost use Rattle.thorin_strings.specs.StringOffsets.{offset_at, entry_at, string_read};
-ghost use Rattle.thorin_strings.specs.StringOffsets.{remapped_entry, remapped};
-ghost use Rattle.dwp_strings.specs.Strings.{IsZeroFree};
+ghost use Rattle.thorin_strings.specs.StringOffsets.{offset_limit, header_of, remapped_entry};
+ghost use Rattle.thorin_strings.specs.StringOffsets.{remapped};
 ghost use Rattle.thorin_strings.specs.Known.{offset_read, AreKnown};
 
 use crate::repeats::Repeats;
@@ -21,15 +18,8 @@ use dwp_bytes::{Encoding, Format, ReadError, StringOffsets, string_at};
 use std::alloc::{AllocError, Global};
 use thorin_errors::Error;
 
-/// The largest length that an initial length of the format holds (DWARF 5, 7.4).
-fn length_limit(format: Format) -> u64
-    ensures { result ≡ length_limit format }
-{
-    match format {
-        Format::Dwarf32 => 0xffff_ffef,
-        Format::Dwarf64 => u64::MAX,
-    }
-}
+/// The largest length of the 32-bit format (DWARF 5, 7.4).
+const LENGTH_LIMIT: u64 = 0xffff_ffef;
 
 /// The largest offset of the format.
 pub(crate) fn offset_limit(format: Format) -> u64
@@ -79,10 +69,10 @@ pub(crate) fn header(
         return Ok(bytes);
     }
     let length = entry_bytes + 4;
-    if length_limit(encoding.format) < length {
-        return Err(Error::NumberTooLarge("string offsets length", length));
-    }
     match encoding.format {
+        Format::Dwarf32 if length > LENGTH_LIMIT => {
+            return Err(Error::NumberTooLarge("string offsets length", length));
+        }
         Format::Dwarf32 => {}
         Format::Dwarf64 => bytes.extend_from_slice(&endian.bytes_of_u32(u32::MAX))?,
     }
@@ -90,43 +80,6 @@ pub(crate) fn header(
     bytes.extend_from_slice(&endian.bytes_of_u16(5))?;
     bytes.extend_from_slice(&endian.bytes_of_u16(0))?;
     Ok(bytes)
-}
-
-/// The offset that the entry of a number has.
-#[inline(always)]
-#[tactic(auto, unfolding(crate::specs::StringOffsets::offset_at), using(std::proofs::lemmas::Grind::elements))]
-pub(crate) fn entry_at(
-    debug_str_offsets: &[u8],
-    endian: Endianness,
-    encoding: Encoding,
-    index: u64,
-) -> Result<u64, ReadError>
-    requires { header_size encoding + index * offset_size encoding.format < 2 ^ 64 }
-    ensures { Answers (λ offset. offset) result
-        (offset_at endian encoding.format debug_str_offsets.now
-        (header_size encoding + index * offset_size encoding.format)) }
-{
-    let size = encoding.format.offset_size();
-    let at = encoding.string_offsets_header_size() + index as usize * size;
-    if debug_str_offsets.len() < at || debug_str_offsets.len() - at < size {
-        return Err(ReadError::UnexpectedEof);
-    }
-    let rest = &debug_str_offsets[at..];
-    Ok(match encoding.format {
-        Format::Dwarf32 => endian.read_u32(rest) as u64,
-        Format::Dwarf64 => endian.read_u64(rest),
-    })
-}
-
-/// The string at an offset.
-pub(crate) fn string_read(debug_str: &[u8], offset: u64) -> Result<&[u8], Error>
-    ensures meaning { Gives (λ string. string.now) result (string_read debug_str.now offset) }
-    ensures zero_free { IfOk result (λ string. IsZeroFree string.now) }
-{
-    match string_at(debug_str, offset) {
-        Ok(string) => Ok(string),
-        Err(e) => Err(Error::StrAtOffset(e, offset as usize)),
-    }
 }
 
 /// An encoding, of which the compiler knows the format then.
@@ -270,27 +223,23 @@ impl PackageStringTable {
         ensures kept { take (length self.old) self.new ≡ self.old }
         ensures known { AreKnown range.now.strings.now self.new repeats.new }
     {
-        let StringOffsets {
-            strings,
-            offsets,
-            ..
-        } = *range;
+        let of_form = StringOffsets {
+            order,
+            encoding,
+            ..*range
+        };
         let entry_size = encoding.format.offset_size() as u64;
         let count = encoding.string_offsets_count(section_size);
         let mut out = header(self.alloc, order, encoding, count * entry_size)?;
-        out.reserve(offsets.len())?;
+        out.reserve(range.offsets.len())?;
         for index in 0..count {
             // (nearly every entry is told here, without room for an error)
-            let offset = match self.entry_told(repeats, strings, offsets, order, encoding, index) {
+            let offset = match self.entry_told(repeats, of_form, index) {
                 Some(offset) => offset,
                 None => {
-                    let of_form = StringOffsets {
-                        strings,
-                        offsets,
-                        order,
-                        encoding,
-                    };
-                    self.remapped_entry(repeats, &of_form, index)?
+                    // (of a copy: so the compiler knows that no call changes the other)
+                    let copy = of_form;
+                    self.remapped_entry(repeats, &copy, index)?
                 }
             };
             push_offset(&mut out, order, encoding.format, offset)?;
@@ -306,9 +255,7 @@ impl PackageStringTable {
         range: &StringOffsets<'_>,
         index: u64,
     ) -> Result<u64, Error>
-        requires small { header_size range.now.encoding
-            + index * offset_size range.now.encoding.format < 2 ^ 64 }
-        requires known { AreKnown range.now.strings.now self.old repeats.old }
+        requires { AreKnown range.now.strings.now self.old repeats.old }
         ensures meaning { Gives (λ offset. (offset, self.new)) result
             (remapped_entry range.now.order range.now.encoding range.now.strings.now
             range.now.offsets.now index self.old) }
@@ -316,9 +263,9 @@ impl PackageStringTable {
         ensures kept { take (length self.old) self.new ≡ self.old }
         ensures known { AreKnown range.now.strings.now self.new repeats.new }
     {
-        let named = match entry_at(range.offsets, range.order, range.encoding, index) {
-            Ok(named) => named,
-            Err(e) => return Err(Error::OffsetAtIndex(e, index)),
+        let named = match range.entry(index) {
+            Some(named) => named,
+            None => return Err(Error::OffsetAtIndex(ReadError::UnexpectedEof, index)),
         };
         let offset = self.offset_read(repeats, range.strings, named)?;
         if offset_limit(range.encoding.format) < offset {
@@ -344,7 +291,10 @@ impl PackageStringTable {
         if let Some(known) = repeats.find(named) {
             return Ok(known);
         }
-        let string = string_read(debug_str, named)?;
+        let string = match string_at(debug_str, named) {
+            Ok(string) => string,
+            Err(e) => return Err(Error::StrAtOffset(e, named as usize)),
+        };
         let offset = self.get_or_insert(string)?.0 as u64;
         let _remembered = repeats.enter(string.len(), named, offset);
         Ok(offset)

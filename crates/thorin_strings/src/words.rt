@@ -156,8 +156,6 @@ impl PackageStringTable {
     ) -> Result<u64, Error>
         requires little { range.now.order ≡ Little }
         requires form { range.now.encoding.format ≡ Dwarf32 }
-        requires within { header_size range.now.encoding + index * 4 + 4
-            ≤ length range.now.offsets.now }
         requires named { entry_at Little range.now.encoding range.now.offsets.now index ≡ Ok named }
         requires known { AreKnown range.now.strings.now self.old repeats.old }
         ensures meaning { Gives (λ offset. (offset, self.new)) result
