@@ -1,14 +1,15 @@
 -- Strings that are read, what is remembered of them, and entries that are rewritten one after
 -- another, while more strings come.
 use Rattle.thorin_strings.proofs.Terms
-use Terms.{AreKnown, AreWritten, Encoding, Endianness, Err, ErrorValue, IfSome, IsFirstZero}
-use Terms.{IsKnown, IsPlaced, IsZeroFree, List, Little, None, NumberTooLarge, Ok, Option, Some, []}
+use Terms.{AreKnown, AreWritten, Encoding, Endianness, Err, ErrorValue, IsFirstZero}
+use Terms.{IsKnown, IsPlaced, IsZeroFree, List, Little, None, NumberTooLarge, Ok, Some, []}
 use Terms.{add-one, ap, arith, bind-was, cases_eq, codes, drop, ended_free, ended_front, entry_at}
-use Terms.{entry_bytes, entry_count, eq-eqb, eqb, fitting_offset, flat_map_more, front_string}
-use Terms.{get_or, header_of, header_size, length, length-take, list_any_at, named_at, number_bytes}
-use Terms.{offset_at, offset_limit, offset_read, offset_size, refl, remapped, remapped_entries}
-use Terms.{remapped_entry, string_at, string_read, suc, take, take-take, take_rest, there_later}
-use Terms.{there_once_used, zero, ℕ, ◌*◌, ◌++◌, ◌+◌, ◌-◌, ◌<◌, ◌^◌, ◌∙◌, ◌∷◌, ◌≡◌, ◌≤◌}
+use Terms.{entry_bytes, entry_count, eq-eqb, eqb, fitting_offset, fitting_read, flat_map_more}
+use Terms.{front_string, get_or, header_of, header_size, length, length-take, list_any_at, named_at}
+use Terms.{number_bytes, offset_at, offset_limit, offset_read, offset_size, refl, remapped}
+use Terms.{remapped_entries, remapped_entry, string_at, string_read, suc, take, take-take}
+use Terms.{take_rest, there_later, there_once_used, zero, ℕ, ◌*◌, ◌++◌, ◌+◌, ◌-◌, ◌<◌, ◌^◌, ◌∙◌}
+use Terms.{◌∷◌, ◌≡◌, ◌≤◌}
 use Rattle.std.proofs.Common.{ltb, not}
 use Rattle.std.proofs.lemmas.Bool.Decides.{nat_tests}
 use Rattle.dwp_bytes.specs.StringOffsets.{entry_in}
@@ -70,12 +71,14 @@ are_known_later section old new pairs kept known = λ i d within.
     let r = was_read section _ _ old old (known i d within) in
     grind (arith, there_later old new r.0 kept, there_once_used old r.0)
 
--- the offset that was read of an entry
-in_range : (format : Format) (index front size : ℕ) → ltb index ((size - front) / offset_size format)
+-- an entry is whole just where its end is within the bytes
+in_range : (format : Format) (index front size : ℕ)
+    → ltb index ((size - front) / offset_size format)
     ≡ not (ltb size (front + index * offset_size format + offset_size format))
 in_range Dwarf32 index front size = grind (arith, nat_tests)
 in_range Dwarf64 index front size = grind (arith, nat_tests)
 
+-- the offset that was read of an entry
 module _ (order : Endianness) (encoding : Encoding) (bytes : List ℕ) (index : ℕ) where
   pub entry_was : (named : ℕ) → entry_in order encoding bytes index ≡ Some named
       → entry_at order encoding bytes index ≡ Ok named
@@ -83,43 +86,45 @@ module _ (order : Endianness) (encoding : Encoding) (bytes : List ℕ) (index : 
   entry_was named is =
       grind (arith, in_range encoding.format index (header_size encoding) (length bytes))
 
-  pub no_entry : entry_in order encoding bytes index ≡ None
+  no_entry : entry_in order encoding bytes index ≡ None
       → entry_at order encoding bytes index ≡ Err (OffsetAtIndex UnexpectedEof index)
   unfolding entry_in offset_at
   no_entry is =
       grind (arith, in_range encoding.format index (header_size encoding) (length bytes))
 
+-- a string that was read and used, and is to fit the format
+module _ (format : Format) (section : List ℕ) (named place : ℕ) (old new : List (List ℕ))
+    (h : offset_read section named old ≡ Ok (place, new)) where
+  pub read_fitting : place ≤ offset_limit format → fitting_read format section named old ≡ Ok
+      (place, new)
+  unfolding fitting_read fitting_offset
+  read_fitting fits = let r = was_read section named place old new h in grind arith
+
+  pub read_large : offset_limit format < place → fitting_read format section named old ≡ Err
+      (NumberTooLarge (codes "string offset") place)
+  unfolding fitting_read fitting_offset
+  read_large large = let r = was_read section named place old new h in grind arith
+
 -- what an entry comes to, by the offset that it has
 module _ (order : Endianness) (encoding : Encoding) (section bytes : List ℕ) (index : ℕ) where
-  module _ (named place : ℕ) (old new : List (List ℕ))
-      (entry : entry_at order encoding bytes index ≡ Ok named)
-      (h : offset_read section named old ≡ Ok (place, new)) where
-    pub entry_read : place ≤ offset_limit encoding.format
-        → remapped_entry order encoding section bytes index old ≡ Ok (place, new)
-    unfolding named_at remapped_entry fitting_offset
-    entry_read fits = let r = was_read section named place old new h in grind arith
+  pub entry_is : (named : ℕ) (old : List (List ℕ)) → entry_at order encoding bytes index ≡ Ok named
+      → remapped_entry order encoding section bytes index old
+      ≡ fitting_read encoding.format section named old
+  unfolding named_at remapped_entry fitting_read
+  entry_is named old entry = rw entry refl
 
-    pub entry_large : offset_limit encoding.format < place
-        → remapped_entry order encoding section bytes index old
-        ≡ Err (NumberTooLarge (codes "string offset") place)
-    unfolding named_at remapped_entry fitting_offset
-    entry_large large = let r = was_read section named place old new h in grind arith
+  pub entry_read : (named place : ℕ) (old new : List (List ℕ))
+      → entry_at order encoding bytes index ≡ Ok named
+      → offset_read section named old ≡ Ok (place, new) → place ≤ offset_limit encoding.format
+      → remapped_entry order encoding section bytes index old ≡ Ok (place, new)
+  entry_read named place old new entry read fits =
+      entry_is named old entry ∙ read_fitting encoding.format section named place old new read fits
 
-  pub entry_some : (named limit : ℕ) (old new : List (List ℕ)) (told : Option ℕ)
-      → entry_at order encoding bytes index ≡ Ok named → limit ≡ offset_limit encoding.format
-      → IfSome told (λ place. offset_read section named old ≡ Ok (place, new))
-      → IfSome told (λ place. place ≤ limit)
-      → IfSome told (λ place. remapped_entry order encoding section bytes index old ≡ Ok
-      (place, new))
-  entry_some named limit old new None entry is read fits = tt
-  entry_some named limit old new (Some place) entry is read fits =
-      entry_read named place old new entry read (rw is at fits)
-
-  pub entry_unread : (named : ℕ) (old : List (List ℕ)) (error : ErrorValue)
-      → entry_at order encoding bytes index ≡ Ok named → offset_read section named old ≡ Err error
-      → remapped_entry order encoding section bytes index old ≡ Err error
-  unfolding named_at remapped_entry offset_read
-  entry_unread named old error entry h = grind arith
+  pub entry_absent : (old : List (List ℕ)) → entry_in order encoding bytes index ≡ None
+      → remapped_entry order encoding section bytes index old
+      ≡ Err (OffsetAtIndex UnexpectedEof index)
+  unfolding named_at remapped_entry
+  entry_absent old none = rw (no_entry order encoding bytes index none) refl
 
 -- so many entries are rewritten behind other bytes, from the first strings to those that there are
 abbrev pub AreRewritten : Endianness → Encoding → (section bytes : List ℕ) → ℕ → List ℕ

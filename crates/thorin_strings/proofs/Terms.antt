@@ -25,7 +25,7 @@ pub use Rattle.dwp_strings.specs.Ends.{IsFirstZero}
 pub use Rattle.dwp_strings.specs.Strings.{IsPlaced, IsZeroFree}
 pub use Rattle.thorin_errors.specs.Errors.{ErrorValue, NumberTooLarge}
 pub use Rattle.thorin_strings.specs.Known.{AreKnown, IsKnown}
-unfoldable pub use Rattle.thorin_strings.specs.Known.{offset_read}
+unfoldable pub use Rattle.thorin_strings.specs.Known.{fitting_read, offset_read}
 pub use Rattle.thorin_strings.specs.StringOffsets.{entry_bytes, offset_limit, string_read}
 unfoldable pub use Rattle.thorin_strings.specs.StringOffsets.{entry_at, fitting_offset, header_of}
 unfoldable pub use Rattle.thorin_strings.specs.StringOffsets.{named_at, offset_at, remapped}

@@ -1,13 +1,10 @@
 //! Entries of string offsets whose strings are told without room for an error (DWARF 5, 7.26).
 
 ghost use Rattle.std.specs.Prelude.{◌≡◌, ◌≤◌, length, take, Ok, IsNone, IfSome};
-ghost use Rattle.thorin_strings.specs.StringOffsets.{offset_limit, remapped_entry};
 ghost use Rattle.thorin_strings.specs.Known.{offset_read, AreKnown};
 
-use crate::offsets::offset_limit;
 use crate::repeats::Repeats;
 use crate::table::PackageStringTable;
-use dwp_bytes::StringOffsets;
 use dwp_strings::{ROUNDS, end_of, short_end};
 
 #[tactic(auto, using(std::proofs::lemmas::List::take_all))]
@@ -76,7 +73,7 @@ impl PackageStringTable {
 
     /// The offset of a string that may be remembered, where no table's offset is past the limit.
     #[inline(always)]
-    fn offset_told(
+    pub(crate) fn offset_told(
         &mut self,
         repeats: &mut Repeats,
         debug_str: &[u8],
@@ -97,30 +94,5 @@ impl PackageStringTable {
         let (offset, length) = self.placed(debug_str, named, limit, false)?;
         let _remembered = repeats.enter(length, named, offset);
         Some(offset)
-    }
-
-    /// The offset of the string that an entry names, where that can be read.
-    #[inline(always)]
-    pub(crate) fn entry_told(
-        &mut self,
-        repeats: &mut Repeats,
-        range: StringOffsets<'_>,
-        index: u64,
-    ) -> Option<u64>
-        requires { AreKnown range.strings.now self.old repeats.old }
-        ensures meaning { IfSome result (λ offset. remapped_entry range.order range.encoding
-            range.strings.now range.offsets.now index self.old ≡ Ok (offset, self.new)) }
-        ensures fits { IfSome result (λ offset. offset ≤ offset_limit range.encoding.format) }
-        ensures kept { take (length self.old) self.new ≡ self.old }
-        ensures none { IsNone result → self.new ≡ self.old }
-        ensures known { AreKnown range.strings.now self.new repeats.new }
-    {
-        let named = range.entry(index)?;
-        self.offset_told(
-            repeats,
-            range.strings,
-            named,
-            offset_limit(range.encoding.format),
-        )
     }
 }

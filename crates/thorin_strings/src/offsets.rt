@@ -7,9 +7,8 @@ ghost use Rattle.dwp_bytes.specs.declared.encoding.Format.TheVariants.{Dwarf32};
 ghost use Rattle.dwp_bytes.specs.Encoding.{offset_size};
 ghost use Rattle.thorin_errors.specs.Answers.{Gives};
 ghost use Rattle.dwp_bytes.specs.StringOffsets.{header_size};
-ghost use Rattle.thorin_strings.specs.StringOffsets.{offset_limit, header_of, remapped_entry};
-ghost use Rattle.thorin_strings.specs.StringOffsets.{remapped};
-ghost use Rattle.thorin_strings.specs.Known.{offset_read, AreKnown};
+ghost use Rattle.thorin_strings.specs.StringOffsets.{offset_limit, header_of, remapped};
+ghost use Rattle.thorin_strings.specs.Known.{offset_read, fitting_read, AreKnown};
 
 use crate::repeats::Repeats;
 use crate::table::PackageStringTable;
@@ -223,6 +222,7 @@ impl PackageStringTable {
         ensures kept { take (length self.old) self.new ≡ self.old }
         ensures known { AreKnown range.now.strings.now self.new repeats.new }
     {
+        let strings = range.strings;
         let of_form = StringOffsets {
             order,
             encoding,
@@ -230,45 +230,41 @@ impl PackageStringTable {
         };
         let entry_size = encoding.format.offset_size() as u64;
         let count = encoding.string_offsets_count(section_size);
+        let limit = offset_limit(encoding.format);
         let mut out = header(self.alloc, order, encoding, count * entry_size)?;
         out.reserve(range.offsets.len())?;
         for index in 0..count {
-            // (nearly every entry is told here, without room for an error)
-            let offset = match self.entry_told(repeats, of_form, index) {
+            let Some(named) = of_form.entry(index) else {
+                return Err(Error::OffsetAtIndex(ReadError::UnexpectedEof, index));
+            };
+            // (nearly every one is told without room for an error)
+            let offset = match self.offset_told(repeats, strings, named, limit) {
                 Some(offset) => offset,
-                None => {
-                    // (of a copy: so the compiler knows that no call changes the other)
-                    let copy = of_form;
-                    self.remapped_entry(repeats, &copy, index)?
-                }
+                None => self.fitting_offset(repeats, strings, named, encoding.format)?,
             };
             push_offset(&mut out, order, encoding.format, offset)?;
         }
         Ok(out)
     }
 
-    /// The offset of the string that an entry names, which is added where it is new.
+    /// The offset of a string, which is read where it isn't remembered, and is to fit the format.
     #[inline(never)]
-    pub(crate) fn remapped_entry(
+    pub(crate) fn fitting_offset(
         &mut self,
         repeats: &mut Repeats,
-        range: &StringOffsets<'_>,
-        index: u64,
+        debug_str: &[u8],
+        named: u64,
+        format: Format,
     ) -> Result<u64, Error>
-        requires { AreKnown range.now.strings.now self.old repeats.old }
+        requires { AreKnown debug_str.now self.old repeats.old }
         ensures meaning { Gives (λ offset. (offset, self.new)) result
-            (remapped_entry range.now.order range.now.encoding range.now.strings.now
-            range.now.offsets.now index self.old) }
-        ensures fits { IfOk result (λ offset. offset ≤ offset_limit range.now.encoding.format) }
+            (fitting_read format debug_str.now named self.old) }
+        ensures fits { IfOk result (λ offset. offset ≤ offset_limit format) }
         ensures kept { take (length self.old) self.new ≡ self.old }
-        ensures known { AreKnown range.now.strings.now self.new repeats.new }
+        ensures known { AreKnown debug_str.now self.new repeats.new }
     {
-        let named = match range.entry(index) {
-            Some(named) => named,
-            None => return Err(Error::OffsetAtIndex(ReadError::UnexpectedEof, index)),
-        };
-        let offset = self.offset_read(repeats, range.strings, named)?;
-        if offset_limit(range.encoding.format) < offset {
+        let offset = self.offset_read(repeats, debug_str, named)?;
+        if offset_limit(format) < offset {
             return Err(Error::NumberTooLarge("string offset", offset));
         }
         Ok(offset)

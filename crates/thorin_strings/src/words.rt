@@ -2,13 +2,13 @@
 //! the strings of nearly all are told by their hashes, one after the other.
 
 ghost use Rattle.std.specs.Prelude.{◌≡◌, ◌≢◌, ◌≤◌, ◌<◌, ◌+◌, ◌^◌, ◌++◌, ◌*◌, ℕ, List, Ok};
-ghost use Rattle.std.specs.Prelude.{OnOk, IfOk, IfSome, IsNone, length, take};
+ghost use Rattle.std.specs.Prelude.{OnOk, IfSome, IsNone, length, take};
 ghost use Rattle.dwp_base.specs.declared.endian.Endianness.TheVariants.{Little};
 ghost use Rattle.dwp_base.specs.Numbers.{number_bytes};
 ghost use Rattle.dwp_bytes.specs.declared.encoding.Format.TheVariants.{Dwarf32};
 ghost use Rattle.thorin_errors.specs.Answers.{Gives};
 ghost use Rattle.dwp_bytes.specs.StringOffsets.{header_size};
-ghost use Rattle.thorin_strings.specs.StringOffsets.{entry_at, remapped_entry, remapped};
+ghost use Rattle.thorin_strings.specs.StringOffsets.{entry_at, remapped};
 ghost use Rattle.thorin_strings.specs.Known.{AreKnown, offset_read};
 ghost use Rattle.thorin_strings.specs.Written.{AreWritten};
 
@@ -16,7 +16,7 @@ use crate::offsets::{dwarf32, header};
 use crate::repeats::Repeats;
 use crate::table::PackageStringTable;
 use dwp_base::Endianness;
-use dwp_bytes::{Encoding, StringOffsets};
+use dwp_bytes::{Encoding, Format, StringOffsets};
 use std::alloc::AllocError;
 use thorin_errors::Error;
 
@@ -145,32 +145,6 @@ impl PackageStringTable {
         index
     }
 
-    /// The offset of the string that an entry names, which is added where it is new.
-    #[inline(always)]
-    fn other_word(
-        &mut self,
-        repeats: &mut Repeats,
-        range: &StringOffsets<'_>,
-        index: usize,
-        named: u64,
-    ) -> Result<u64, Error>
-        requires little { range.now.order ≡ Little }
-        requires form { range.now.encoding.format ≡ Dwarf32 }
-        requires named { entry_at Little range.now.encoding range.now.offsets.now index ≡ Ok named }
-        requires known { AreKnown range.now.strings.now self.old repeats.old }
-        ensures meaning { Gives (λ offset. (offset, self.new)) result
-            (remapped_entry Little range.now.encoding range.now.strings.now range.now.offsets.now
-            index self.old) }
-        ensures fits { IfOk result (λ offset. offset < 2 ^ 32) }
-        ensures kept { take (length self.old) self.new ≡ self.old }
-        ensures known { AreKnown range.now.strings.now self.new repeats.new }
-    {
-        match self.other_offset(repeats, range.strings, named, u32::MAX as u64) {
-            Some(offset) => Ok(offset),
-            None => self.remapped_entry(repeats, range, index as u64),
-        }
-    }
-
     /// `remapped` of a whole range, with offsets of four bytes, the lowest first.
     #[inline(always)]
     #[tactic(auto, unfolding(crate::specs::StringOffsets::remapped), using(std::proofs::lemmas::List::take_all))]
@@ -210,7 +184,10 @@ impl PackageStringTable {
                 again = index.saturating_add(APART);
             }
             let named = word_at(offsets, encoding, index);
-            let offset = self.other_word(repeats, range, index, named)?;
+            let offset = match self.other_offset(repeats, range.strings, named, u32::MAX as u64) {
+                Some(offset) => offset,
+                None => self.fitting_offset(repeats, range.strings, named, Format::Dwarf32)?,
+            };
             write_word(&mut out, first + index * 4, offset);
             index += 1;
         }

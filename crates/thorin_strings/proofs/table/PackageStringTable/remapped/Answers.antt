@@ -1,7 +1,8 @@
 use Rattle.thorin_strings.proofs.Terms
 use Terms.{AreKnown, Ok, [], append-nil, arith, elements, err_from_is_err_and, length, refl}
 use Terms.{remapped_entries, remapped_entry, sym, take, take_all, ◌≡◌}
-use Rattle.thorin_strings.proofs.RemapLemmas.{kept_more, remapped_refuses, rewritten_more}
+use Rattle.thorin_strings.proofs.RemapLemmas.{entry_absent, entry_is, entry_was, kept_more}
+use Rattle.thorin_strings.proofs.RemapLemmas.{read_fitting, remapped_refuses, rewritten_more}
 use Rattle.thorin_strings.proofs.table.PackageStringTable.remapped.Goals as goal
 
 pub loop-index-init : goal.loop-index-init
@@ -12,26 +13,45 @@ loop-index-init c = record {
   known = c.requires.known;
 }
 
-pub returns-in_err-offset-in-None-clause-meaning : goal.returns-in_err-offset-in-None-clause-meaning
-returns-in_err-offset-in-None-clause-meaning c =
-    let residual = c.from_residual-in_err-offset-in-None in
+pub returns-in-None-clause-meaning : goal.returns-in-None-clause-meaning
+returns-in-None-clause-meaning c = λ other.
+    let absent = entry_absent c.args.order c.args.encoding c.args.range.now.strings.now
+    c.args.range.now.offsets.now c.loop-index.index c.loop-index.self cc in
+    remapped_refuses _ _ _ _ _ _ _ _ _ c.loop-index.invariant.so_far.1 absent
+    _ _ _ _ c.string_offsets_count-count.ensures c.offset_size-entry_size.ensures
+    (omega arith) (omega arith) c.in_ok-out.ensures (omega arith)
+
+pub returns-in_err-offset-in-None-offset_told-clause-meaning :
+    goal.returns-in_err-offset-in-None-offset_told-clause-meaning
+returns-in_err-offset-in-None-offset_told-clause-meaning c =
+    let residual = c.from_residual-in_err-offset-in-None-offset_told in
     let was = err_from_is_err_and residual.result residual.ensures.1 in
+    let range = c.args.range.now in
+    let entry = entry_is c.args.order c.args.encoding range.strings.now range.offsets.now
+    c.loop-index.index c.in-Some.named c.loop-index.self
+    (entry_was c.args.order c.args.encoding range.offsets.now c.loop-index.index c.in-Some.named
+    cc) in
     rw (was.1, was.2) (λ other. remapped_refuses _ _ _ _ _ _ _ _ _ c.loop-index.invariant.so_far.1
-    (rw c.in-None.ensures.none at (c.in_err-offset-in-None.ensures.meaning other))
+    (entry ∙ rw c.in-None-offset_told.ensures.none at
+    (c.in_err-offset-in-None-offset_told.ensures.meaning other))
     _ _ _ _ c.string_offsets_count-count.ensures c.offset_size-entry_size.ensures
     (omega arith) (omega arith) c.in_ok-out.ensures (omega arith))
 
 pub loop-index-preserved : goal.loop-index-preserved
 loop-index-preserved c =
     let old = c.loop-index.self in
-    let new = c.match-entry_told.self in
-    let strings = c.args.range.now.strings.now in
-    let now : (remapped_entry c.args.order c.args.encoding strings c.args.range.now.offsets.now
-    c.loop-index.index old ≡ Ok (c.match-entry_told.offset, new))
-    × (take (length old) new ≡ old) × AreKnown strings new c.match-entry_told.repeats = (
-      grind (arith, c.match-entry_told.branch),
-      grind (arith, c.match-entry_told.branch, c.entry_told.ensures.kept),
-      grind (arith, c.match-entry_told.branch, c.entry_told.ensures.known),
+    let new = c.match-offset_told.self in
+    let range = c.args.range.now in
+    let entry = entry_was c.args.order c.args.encoding range.offsets.now c.loop-index.index
+    c.in-Some.named cc in
+    let is = entry_is c.args.order c.args.encoding range.strings.now range.offsets.now
+    c.loop-index.index c.in-Some.named old entry in
+    let now : (remapped_entry c.args.order c.args.encoding range.strings.now range.offsets.now
+    c.loop-index.index old ≡ Ok (c.match-offset_told.offset, new))
+    × (take (length old) new ≡ old) × AreKnown range.strings.now new c.match-offset_told.repeats = (
+      grind (arith, c.match-offset_told.branch, is, read_fitting),
+      grind (arith, c.match-offset_told.branch, c.offset_told.ensures.kept),
+      grind (arith, c.match-offset_told.branch, c.offset_told.ensures.known),
     ) in
     record {
       kept = kept_more _ _ _ c.loop-index.invariant.kept now.1;
@@ -46,8 +66,9 @@ returns-in_err-out-clause-kept c = grind (arith, elements)
 pub returns-in_err-reserve-clause-kept : goal.returns-in_err-reserve-clause-kept
 returns-in_err-reserve-clause-kept c = grind (arith, elements)
 
-pub returns-in_err-offset-in-None-clause-kept : goal.returns-in_err-offset-in-None-clause-kept
-returns-in_err-offset-in-None-clause-kept c = grind (arith, elements)
+pub returns-in_err-offset-in-None-offset_told-clause-kept :
+    goal.returns-in_err-offset-in-None-offset_told-clause-kept
+returns-in_err-offset-in-None-offset_told-clause-kept c = grind (arith, elements)
 
 pub returns-in_err-push_offset-clause-kept : goal.returns-in_err-push_offset-clause-kept
 returns-in_err-push_offset-clause-kept c = grind (arith, elements)

@@ -1,11 +1,11 @@
 use Rattle.thorin_strings.proofs.Terms
-use Terms.{AreWritten, Little, [], ap, append-nil, arith, elements, err_from_is_err_and}
-use Terms.{header_size}
-use Terms.{length, length-append, length-drop, length-take, offset_size, refl, remapped_entries}
+use Terms.{AreKnown, AreWritten, Little, Ok, [], ap, append-nil, arith, elements}
+use Terms.{err_from_is_err_and, header_size, length, length-append, length-drop, length-take}
+use Terms.{offset_size, refl, remapped_entries, remapped_entry}
 use Terms.{rules, sym, take, take_all, with_items, with_items_is, ◌*◌, ◌+◌, ◌<◌, ◌∙◌, ◌≡◌, ◌≤◌}
 use Rattle.thorin_strings.proofs.NamedEntries.{header_long}
-use Rattle.thorin_strings.proofs.RemapLemmas.{are_known_later, kept_more, one_written}
-use Rattle.thorin_strings.proofs.RemapLemmas.{remapped_refuses}
+use Rattle.thorin_strings.proofs.RemapLemmas.{are_known_later, entry_is, kept_more, one_written}
+use Rattle.thorin_strings.proofs.RemapLemmas.{read_fitting, remapped_refuses}
 use Rattle.thorin_strings.proofs.table.PackageStringTable.remapped_words.Goals.{After-len-first}
 use Rattle.thorin_strings.proofs.table.PackageStringTable.remapped_words.Goals.{After-write_told-index}
 use Rattle.thorin_strings.proofs.table.PackageStringTable.remapped_words.Goals as goal
@@ -35,8 +35,8 @@ loop-index-init c =
       known = c.requires.known;
     }
 
-pub other_word-requires-clause-known : goal.other_word-requires-clause-known
-other_word-requires-clause-known c = search (rules, are_known_later)
+pub other_offset-requires : goal.other_offset-requires
+other_offset-requires c = search (rules, are_known_later)
 
 -- so many entries are written before the next, and that is in the range
 written : (c : goal.After-write_told-index) → AreWritten c.args.range.now.encoding
@@ -51,14 +51,20 @@ written c =
       omega (arith, c.write_told-index.ensures.here, c.loop-index.invariant.first),
     )
 
-pub returns-in_err-offset-clause-meaning : goal.returns-in_err-offset-clause-meaning
-returns-in_err-offset-clause-meaning c =
-    let residual = c.from_residual-in_err-offset in
+pub returns-in_err-offset-in-None-clause-meaning : goal.returns-in_err-offset-in-None-clause-meaning
+returns-in_err-offset-in-None-clause-meaning c =
+    let residual = c.from_residual-in_err-offset-in-None in
     let was = err_from_is_err_and residual.result residual.ensures.1 in
-    let so = written (goal.at.returns-in_err-offset-clause-meaning c).After-write_told-index in
+    let at = goal.at.returns-in_err-offset-in-None-clause-meaning c in
+    let so = written at.After-write_told-index in
     let same = c.dwarf32-encoding.ensures in
+    let range = c.args.range.now in
+    let entry = entry_is Little range.encoding range.strings.now range.offsets.now
+    c.write_told-index.result c.word_at-named.result c.write_told-index.new.self
+    (rw same at c.word_at-named.ensures) in
     rw (was.1, was.2) (λ other. remapped_refuses _ _ _ _ _ _ _ _ _ so.0.entries
-    (c.in_err-offset.ensures.meaning other) _ _ 4 _
+    (entry ∙ rw (c.in-None.ensures.none, ← c.requires.form) at
+    (c.in_err-offset-in-None.ensures.meaning other)) _ _ 4 _
     (rw same at c.string_offsets_count-count.ensures) (sym (ap offset_size c.requires.form))
     (omega arith) (omega (arith, ap header_size same)) (rw same at c.in_ok-out.ensures) so.1)
 
@@ -72,18 +78,33 @@ loop-index-preserved c =
     ∙ with_items_is old c.write_told-index.new.out long in
     let long_now : length c.write_word.new.out ≡ old.len =
     c.write_word.ensures.long ∙ ap length value ∙ long in
+    let same = c.dwarf32-encoding.ensures in
+    let range = c.args.range.now in
+    let before = c.write_told-index.new.self in
+    let new = c.match-other_offset.self in
+    let is = entry_is Little range.encoding range.strings.now range.offsets.now
+    c.write_told-index.result c.word_at-named.result before
+    (rw same at c.word_at-named.ensures) in
+    let now : (remapped_entry Little range.encoding range.strings.now range.offsets.now
+    c.write_told-index.result before ≡ Ok (c.match-other_offset.offset, new))
+    × (take (length before) new ≡ before)
+    × AreKnown range.strings.now new c.match-other_offset.repeats = (
+      grind (arith, c.match-other_offset.branch, c.requires.form, is, read_fitting),
+      grind (arith, c.match-other_offset.branch, c.other_offset.ensures.kept),
+      grind (arith, c.match-other_offset.branch, c.other_offset.ensures.known),
+    ) in
     rw (with_items_is (with_items old c.write_told-index.new.out) c.write_word.new.out long_now)
     (record {
       within = omega (arith, so.1);
       first = c.loop-index.invariant.first;
       kept = kept_more _ _ _ (kept_more _ _ _ c.loop-index.invariant.kept
-          c.write_told-index.ensures.kept) c.other_word.ensures.kept;
+          c.write_told-index.ensures.kept) now.1;
       so_far = one_written _ c.requires.form _ _ _ c.write_told-index.result
-          c.in_ok-offset.offset _ _ _ _ c.write_told-index.new.out _
-          (omega (arith, c.loop-index.invariant.first)) c.in_ok-offset.ensures.meaning
+          c.match-other_offset.offset _ _ _ _ c.write_told-index.new.out _
+          (omega (arith, c.loop-index.invariant.first)) now.0
           (rw value at c.write_word.ensures.written) so.0;
       long = long_now ∙ old.ok.0 ∙ c.loop-index.invariant.long;
-      known = c.other_word.ensures.known;
+      known = now.2;
     })
 
 pub returns-in_err-out-clause-kept : goal.returns-in_err-out-clause-kept
@@ -92,5 +113,5 @@ returns-in_err-out-clause-kept c = grind (arith, elements)
 pub returns-in_err-append_by_pieces-clause-kept : goal.returns-in_err-append_by_pieces-clause-kept
 returns-in_err-append_by_pieces-clause-kept c = grind (arith, elements)
 
-pub returns-in_err-offset-clause-kept : goal.returns-in_err-offset-clause-kept
-returns-in_err-offset-clause-kept c = grind (arith, elements)
+pub returns-in_err-offset-in-None-clause-kept : goal.returns-in_err-offset-in-None-clause-kept
+returns-in_err-offset-in-None-clause-kept c = grind (arith, elements)
