@@ -75,17 +75,6 @@ fn look(cells: &[u32], pairs: &[(u64, u64)], offset: u64) -> Option<u64>
     (pair.0 == offset).then_some(pair.1)
 }
 
-/// Leads the cell of an offset to a pair; false where there is none or it is taken.
-fn lead_cell(cells: &mut [u32], offset: u64, number: usize) -> bool {
-    match cells.get_mut(offset as usize / CELL) {
-        Some(cell) if *cell == 0 && number < u32::MAX as usize => {
-            *cell = number as u32;
-            true
-        }
-        _ => false,
-    }
-}
-
 impl Repeats {
     /// Nothing remembered, which takes no memory.
     pub fn new(alloc: Global) -> Self
@@ -153,10 +142,13 @@ impl Repeats {
     {
         let number = self.pairs.len() + 1;
         if !is_long {
-            if lead_cell(&mut self.cells, offset, number) {
-                self.pairs.push((offset, known))?;
-            }
-            return Ok(());
+            return match self.cells.get_mut(offset as usize / CELL) {
+                Some(cell) if *cell == 0 && number < u32::MAX as usize => {
+                    *cell = number as u32;
+                    self.pairs.push((offset, known))
+                }
+                _ => Ok(()),
+            };
         }
         if self.links.is_empty() {
             self.links = Vec::from_elem(self.alloc, FREE, TREES)?;
