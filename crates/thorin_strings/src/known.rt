@@ -38,7 +38,7 @@ impl PackageStringTable {
         if limit < self.data().len() as u64 {
             return None;
         }
-        let Ok(offset) = self.place(&rest[..end]) else {
+        let Ok(offset) = self.strings.place(&rest[..end]) else {
             return None;
         };
         Some((offset as u64, end))

@@ -1,14 +1,13 @@
 //! The table of distinct strings of a package (DWARF 5, 7.26).
 
-ghost use Rattle.std.specs.Prelude.{◌≡◌, ◌↔◌, ◌<◌, ◌≤◌, ◌^◌, [], length, take, OnOk, OnErr, IfOk};
-ghost use Rattle.std.specs.Prelude.{IfErr, IsSome, IsNone, IfSome, IsTrue, Contains, slice_index};
-ghost use Rattle.dwp_bytes.specs.StringOffsets.{string_from};
+ghost use Rattle.std.specs.Prelude.{◌≡◌, ◌↔◌, [], length, take, OnOk, IfOk, IfErr, IsSome, IfSome};
+ghost use Rattle.std.specs.Prelude.{IsTrue, Contains};
 ghost use Rattle.dwp_strings.specs.Strings.{data_of, offset_of, with_string, IsZeroFree, IsTable};
-ghost use Rattle.dwp_strings.specs.Strings.{IsWithinDigits, IsPlaced};
+ghost use Rattle.dwp_strings.specs.Strings.{IsWithinDigits};
 ghost use Rattle.dwp_strings.specs.Marks.{mark_of};
 
 use dwp_strings::{StringTable, TableMark};
-use std::alloc::{AllocError, Global};
+use std::alloc::Global;
 use std::marker::Model;
 use thorin_errors::Error;
 
@@ -21,7 +20,7 @@ pub struct PackageStringOffset(pub usize);
 #[derive(Drop)]
 pub struct PackageStringTable {
     pub(crate) alloc: Global,
-    strings: StringTable,
+    pub(crate) strings: StringTable,
 }
 
 impl Model for PackageStringTable {
@@ -77,31 +76,6 @@ impl PackageStringTable {
         }
     }
 
-    /// The offset of a string, which goes last where it is new.
-    #[inline(always)]
-    pub(crate) fn place(&mut self, string: &[u8]) -> Result<usize, AllocError>
-        requires { IsZeroFree string.now }
-        ensures placed { IfOk result (λ offset. IsPlaced self.old self.new string.now offset) }
-        ensures kept { take (length self.old) self.new ≡ self.old }
-        ensures err { OnErr result (self.new ≡ self.old) }
-    {
-        self.strings.place(string)
-    }
-
-    /// The offset of a string, as `StringTable::place_guessed` tells it.
-    #[inline(always)]
-    pub(crate) fn place_guessed(&mut self, bytes: &[u8], end: usize) -> Option<usize>
-        requires within { end < length bytes.now }
-        requires long { 32 ≤ length bytes.now }
-        requires ended { slice_index bytes.now end ≡ 0 }
-        ensures placed { IfSome result (IsPlaced self.old self.new (string_from bytes.now 0)) }
-        ensures fits { IfSome result (λ offset. offset < 2 ^ 32) }
-        ensures kept { take (length self.old) self.new ≡ self.old }
-        ensures none { IsNone result → self.new ≡ self.old }
-    {
-        self.strings.place_guessed(bytes, end)
-    }
-
     /// The offset of a string, which is appended where the table lacks it.
     ///
     /// # Errors
@@ -113,7 +87,7 @@ impl PackageStringTable {
         ensures kept { take (length self.old) self.new ≡ self.old }
         ensures err { IfErr result (λ e. (e ≡ Error.Memory) × (self.new ≡ self.old)) }
     {
-        match self.place(string) {
+        match self.strings.place(string) {
             Ok(offset) => Ok(PackageStringOffset(offset)),
             Err(_) => Err(Error::Memory),
         }

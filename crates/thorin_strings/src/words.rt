@@ -91,7 +91,7 @@ impl PackageStringTable {
         if rest[end] != 0 {
             return None;
         }
-        let offset = self.place_guessed(rest, end)?;
+        let offset = self.strings.place_guessed(rest, end)?;
         Some(offset as u64)
     }
 

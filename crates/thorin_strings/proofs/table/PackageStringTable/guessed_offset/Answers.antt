@@ -4,6 +4,5 @@ use Rattle.thorin_strings.proofs.table.PackageStringTable.guessed_offset.Goals a
 
 pub returns-clause-meaning : goal.returns-clause-meaning
 returns-clause-meaning c =
-    read_used _ _ _ _ _ _ (read_front c.args.debug_str.now _ c.args.named _ (omega arith)
-    refl (omega arith) c.if-rest-end-ne0.false)
-    c.in_ok-offset.ensures.placed
+    rw (← c.self.view_is) (read_used _ _ _ _ _ _ (read_front c.args.debug_str.now _ c.args.named _
+    (omega arith) refl (omega arith) c.if-rest-end-ne0.false) c.in_ok-offset.ensures.placed)

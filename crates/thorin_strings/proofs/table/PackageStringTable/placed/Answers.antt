@@ -23,7 +23,7 @@ returns-clause-meaning c =
       | then-is_near+in_ok-end w ↦ rw w.end-is w.in_ok-end.ensures.some
       | else-is_near+in_ok-end-2 w ↦ rw w.end-is w.in_ok-end-2.ensures.some
     ]) in
-    read_used _ _ _ _ _ _ read.0 c.in-Ok.ensures.placed
+    rw (← c.self.view_is) (read_used _ _ _ _ _ _ read.0 c.in-Ok.ensures.placed)
 
 pub returns-clause-fits : goal.returns-clause-fits
-returns-clause-fits c = grind (arith, offset_within, c.in-Ok.ensures.placed)
+returns-clause-fits c = grind (arith, offset_within, c.in-Ok.ensures.placed, c.self.view_is)
