@@ -188,7 +188,8 @@ impl PackageStringTable {
             return Err(Error::BadStringOffsets(0));
         }
         let is_whole = section_size <= range.offsets.len() as u64;
-        let is_plain = is_whole && !repeats.has_cells();
+        // (without cells short strings aren't remembered)
+        let is_plain = is_whole && repeats.cells.is_empty();
         match (order, encoding.format) {
             (Endianness::Little, Format::Dwarf32) if is_plain => {
                 self.remapped_words(repeats, range, section_size)

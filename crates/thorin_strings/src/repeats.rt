@@ -31,7 +31,7 @@ pub struct Repeats {
     alloc: Global,
     pairs: Vec<(u64, u64)>,
     links: Vec<usize>,
-    cells: Vec<u32>,
+    pub(crate) cells: Vec<u32>,
 }
 
 impl Model for Repeats {
@@ -98,12 +98,6 @@ impl Repeats {
             repeats.cells = cells;
         }
         repeats
-    }
-
-    /// Whether short strings are remembered too.
-    #[inline(always)]
-    pub(crate) fn has_cells(&self) -> bool {
-        !self.cells.is_empty()
     }
 
     /// The offset in the table of the string at an offset, where that is remembered.
