@@ -87,10 +87,7 @@ impl PackageStringTable {
         ensures kept { take (length self.old) self.new ≡ self.old }
         ensures err { IfErr result (λ e. (e ≡ Error.Memory) × (self.new ≡ self.old)) }
     {
-        match self.strings.place(string) {
-            Ok(offset) => Ok(PackageStringOffset(offset)),
-            Err(_) => Err(Error::Memory),
-        }
+        Ok(PackageStringOffset(self.strings.place(string)?))
     }
 
     /// How much the table holds now: hand it to `truncate` to come back to this.
