@@ -136,13 +136,12 @@ impl Repeats {
     {
         let number = self.pairs.len() + 1;
         if !is_long {
-            return match self.cells.get_mut(offset as usize / CELL) {
-                Some(cell) if *cell == 0 && number < u32::MAX as usize => {
-                    *cell = number as u32;
-                    self.pairs.push((offset, known))
-                }
-                _ => Ok(()),
-            };
+            match self.cells.get_mut(offset as usize / CELL) {
+                Some(cell) if *cell == 0 && number < u32::MAX as usize => *cell = number as u32,
+                _ => return Ok(()),
+            }
+            self.pairs.push((offset, known))?;
+            return Ok(());
         }
         if self.links.is_empty() {
             self.links = Vec::from_elem(self.alloc, FREE, TREES)?;
