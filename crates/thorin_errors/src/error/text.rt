@@ -73,7 +73,10 @@ impl Error {
                 write!(f, "Duplicate split compilation unit (0x{unit:08x})")
             }
             Error::MissingReferencedUnit(unit) => {
-                write!(f, "Unit 0x{unit:08x} referenced by executable was not found")
+                write!(
+                    f,
+                    "Unit 0x{unit:08x} referenced by executable was not found"
+                )
             }
             _ => self.write_index_text(f),
         }
@@ -103,7 +106,10 @@ impl Error {
                 write!(f, "Failed to parse `{section}` index section")
             }
             Error::UnitNotInIndex(unit) => {
-                write!(f, "Unit 0x{unit:08x} from input package is not in its index")
+                write!(
+                    f,
+                    "Unit 0x{unit:08x} from input package is not in its index"
+                )
             }
             Error::RowNotInIndex(_, row) => write!(
                 f,
