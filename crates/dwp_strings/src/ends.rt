@@ -1,6 +1,6 @@
 //! Where strings end, looked for 64 bytes at a time: most end within a few such steps.
 
-ghost use Rattle.std.specs.Prelude.{ℕ, ◌*◌, ◌≤◌, length, take, IfSome, IsNone};
+ghost use Rattle.std.specs.Prelude.{ℕ, ◌+◌, ◌*◌, ◌<◌, ◌≤◌, length, take, IfSome, IsNone};
 ghost use Rattle.dwp_strings.specs.Ends.{IsFirstZero, IsNear};
 ghost use Rattle.dwp_strings.specs.Strings.{IsZeroFree};
 
@@ -29,9 +29,9 @@ pub fn short_end(bytes: &[u8], rounds: usize) -> Option<usize>
             return None;
         }
         let next = u8x64::from_slice(&bytes[at..]);
-        let zeros = next.simd_eq(u8x64::splat(0)).to_bitmask();
-        if zeros != 0 {
-            return Some(at + zeros.trailing_zeros() as usize);
+        let some = next.simd_eq(u8x64::splat(0)).to_bitmask().trailing_zeros() as usize;
+        if some < LANES {
+            return Some(at + some);
         }
     }
     None

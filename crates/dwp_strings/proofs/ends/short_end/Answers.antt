@@ -1,13 +1,14 @@
 use Rattle.dwp_strings.proofs.Terms.{arith, cases_lt, elements, refl, ⊎_elim, ◌*◌, ◌+◌, ◌-◌}
-use Rattle.dwp_strings.proofs.LaneLemmas.{lanes_all, lanes_some, lanes_zero}
+use Rattle.dwp_strings.proofs.LaneLemmas.{lanes_some, lanes_zero}
 use Rattle.dwp_strings.proofs.ends.short_end.Goals as goal
 
-pub returns-then-zeros-ne0-clause-some : goal.returns-then-zeros-ne0-clause-some
-returns-then-zeros-ne0-clause-some c =
+pub returns-then-some-lt-LANES-clause-some : goal.returns-then-some-lt-LANES-clause-some
+returns-then-some-lt-LANES-clause-some c =
     let at = c.loop-round.round * 64 in
     record {
       within = omega arith;
-      ended = lanes_zero c.args.bytes.now at 64 (omega arith) (omega arith) _ (omega arith) refl;
+      ended = lanes_zero c.args.bytes.now at 64 (omega arith) (omega arith) _
+          c.if-some-lt-LANES.true refl;
       before = λ k less. ⊎_elim (λ low. c.loop-round.invariant.some k low) (λ high.
           let some = lanes_some c.args.bytes.now at 64 (omega arith) (omega arith) (k - at)
           (omega arith) (omega arith) in
@@ -20,13 +21,13 @@ loop-round-preserved c =
     record {
       within = omega arith;
       some = λ k less. ⊎_elim (λ low. c.loop-round.invariant.some k low) (λ high.
-          let some = lanes_all c.args.bytes.now at 64 (omega arith) (omega arith) (k - at)
-          (omega arith) c.if-zeros-ne0.false in
+          let some = lanes_some c.args.bytes.now at 64 (omega arith) (omega arith) (k - at)
+          (omega arith) (omega arith) in
           grind arith) (cases_lt k at);
     }
 
-pub returns-then-zeros-ne0-clause-near : goal.returns-then-zeros-ne0-clause-near
-returns-then-zeros-ne0-clause-near c = record {
+pub returns-then-some-lt-LANES-clause-near : goal.returns-then-some-lt-LANES-clause-near
+returns-then-some-lt-LANES-clause-near c = record {
   steps = c.loop-round.round + 1;
   few = omega arith;
   within = omega arith;
