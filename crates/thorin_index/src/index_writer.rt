@@ -1,7 +1,7 @@
 //! Writing an index (DWARF 5, 7.3.5.3; the GNU page DebugFissionDWP): what is tested of its
 //! entries, its hash table, its bytes.
 
-ghost use Rattle.std.specs.Prelude.{◌≡◌, ◌<◌, ◌≤◌, ◌^◌, ◌++◌, length, map, All, IfOk, OnOk};
+ghost use Rattle.std.specs.Prelude.{◌≡◌, ◌<◌, ◌≤◌, ◌^◌, ◌++◌, length, map, filter, All, IfOk, OnOk};
 ghost use Rattle.std.specs.Prelude.{Ok, vec_len};
 ghost use Rattle.dwp_table.specs.Table.{HasSlots, IsHashTable};
 ghost use Rattle.thorin_errors.specs.Answers.{Gives};
@@ -11,8 +11,7 @@ ghost use Rattle.thorin_index.specs.EntryTests.{contributions_test, count_test, 
 ghost use Rattle.thorin_index.specs.EntryTests.{encoding_test, number_test, test_of, tests_under};
 ghost use Rattle.thorin_index.specs.IndexText.{FitsRow, IsIndexOf, column_numbers, entry_ids};
 ghost use Rattle.thorin_index.specs.IndexText.{index_bytes, is_used, measure_of, numbers_bytes};
-ghost use Rattle.thorin_index.specs.IndexText.{rows_bytes, signatures_bytes, used_sections};
-ghost use Rattle.thorin_index.specs.IndexText.{version_bytes};
+ghost use Rattle.thorin_index.specs.IndexText.{rows_bytes, signatures_bytes, version_bytes};
 
 use crate::entry::IndexEntry;
 use crate::rows::IndexRows;
@@ -60,7 +59,7 @@ pub fn write_rows(alloc: Global, endianness: Endianness, rows: &IndexRows) -> Re
     }
     let encoding = rows.encoding(0);
     test_entries(encoding, rows)?;
-    let columns = used_sections(alloc, rows)?;
+    let columns = used_among(alloc, &CONTRIBUTION_KINDS, rows)?;
     let slots = rows.slots(alloc)?;
     let version = encoding.dwarf_package_index_version();
     Ok(index_text(alloc, endianness, version, &columns, rows, &slots)?)
@@ -219,13 +218,17 @@ fn index_text(
     Ok(out)
 }
 
-/// The sections that some row has a contribution to.
-fn used_sections(alloc: Global, rows: &IndexRows) -> Result<Vec<SectionKind>, AllocError>
-    ensures used { IfOk result (λ v. v.items ≡ used_sections rows.now) }
-    ensures few { IfOk result (λ v. vec_len v ≤ 10) }
+/// Those of the sections that some row has a contribution to.
+fn used_among(
+    alloc: Global,
+    kinds: &[SectionKind],
+    rows: &IndexRows,
+) -> Result<Vec<SectionKind>, AllocError>
+    ensures used { IfOk result (λ v. v.items ≡ filter (is_used rows.now) kinds.now) }
+    ensures few { IfOk result (λ v. vec_len v ≤ length kinds.now) }
 {
     let mut columns = Vec::new(alloc);
-    for kind in &CONTRIBUTION_KINDS {
+    for kind in kinds {
         if is_used(rows, *kind) {
             columns.push(*kind)?;
         }

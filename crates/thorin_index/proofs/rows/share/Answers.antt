@@ -1,13 +1,13 @@
 use Rattle.std.proofs.lemmas.Option.{slice_get-get_or, slice_get_read}
 use Rattle.thorin_index.proofs.Terms.{Some, [], ap, arith, get_or_push, length_push, refl, sym}
-use Rattle.thorin_index.proofs.Terms.{◌++◌, ◌-◌, ◌∙◌, ◌∷◌, ◌≡◌}
+use Rattle.thorin_index.proofs.Terms.{◌++◌, ◌-◌, ◌∙◌, ◌∷◌}
 use Rattle.thorin_index.proofs.rows.share.Goals as goal
 
-pub returns-then-eq-clause-there : goal.returns-then-eq-clause-there
-returns-then-eq-clause-there c =
-    let same : c.index.result.now ≡ c.args.entry.now = grind (arith, c.if-eq.ensures) in
+pub returns-then-same_entry-clause-there : goal.returns-then-same_entry-clause-there
+returns-then-same_entry-clause-there c =
     slice_get-get_or c.args.entries.now.items (c.len-count.result - 1) c.index.result.now
-    (omega (arith, c.len-count.ensures, c.if-count-gt0.true)) ∙ ap Some (sym c.index.ensures ∙ same)
+    (omega (arith, c.len-count.ensures, c.if-count-gt0.true))
+    ∙ ap Some (sym c.index.ensures ∙ c.if-same_entry.ensures refl)
 
 pub returns-clause-there : goal.returns-clause-there
 returns-clause-there c =
