@@ -10,7 +10,7 @@ use Terms.{number_bytes, offset_at, offset_limit, offset_read, offset_size, refl
 use Terms.{remapped_entries, remapped_entry, string_at, string_read, suc, take, take-take}
 use Terms.{take_rest, there_later, there_once_used, zero, ℕ, ◌*◌, ◌++◌, ◌+◌, ◌-◌, ◌<◌, ◌^◌, ◌∙◌}
 use Terms.{◌∷◌, ◌≡◌, ◌≤◌}
-use Rattle.std.proofs.Common.{ltb, not}
+use Rattle.std.proofs.Common.{ltb, not, ◌/◌}
 use Rattle.std.proofs.lemmas.Bool.Decides.{nat_tests}
 use Rattle.dwp_bytes.specs.StringOffsets.{entry_in}
 use Rattle.dwp_bytes.specs.declared.encoding.Format.{Format}

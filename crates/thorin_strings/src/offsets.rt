@@ -8,6 +8,8 @@ ghost use Rattle.dwp_bytes.specs.Encoding.{offset_size};
 ghost use Rattle.thorin_errors.specs.Answers.{Gives};
 ghost use Rattle.dwp_bytes.specs.StringOffsets.{header_size};
 ghost use Rattle.thorin_strings.specs.StringOffsets.{offset_limit, header_of, remapped};
+ghost use Rattle.thorin_strings.specs.StringOffsets.{string_read};
+ghost use Rattle.dwp_strings.specs.Strings.{IsZeroFree};
 ghost use Rattle.thorin_strings.specs.Known.{offset_read, fitting_read, AreKnown};
 
 use crate::repeats::Repeats;
@@ -79,6 +81,17 @@ pub(crate) fn header(
     bytes.extend_from_slice(&endian.bytes_of_u16(5))?;
     bytes.extend_from_slice(&endian.bytes_of_u16(0))?;
     Ok(bytes)
+}
+
+/// The string at an offset.
+fn string_read(debug_str: &[u8], offset: u64) -> Result<&[u8], Error>
+    ensures meaning { Gives (λ string. string.now) result (string_read debug_str.now offset) }
+    ensures zero_free { IfOk result (λ string. IsZeroFree string.now) }
+{
+    match string_at(debug_str, offset) {
+        Ok(string) => Ok(string),
+        Err(e) => Err(Error::StrAtOffset(e, offset as usize)),
+    }
 }
 
 /// An encoding, of which the compiler knows the format then.
@@ -235,8 +248,9 @@ impl PackageStringTable {
         let mut out = header(self.alloc, order, encoding, count * entry_size)?;
         out.reserve(range.offsets.len())?;
         for index in 0..count {
-            let Some(named) = of_form.entry(index) else {
-                return Err(Error::OffsetAtIndex(ReadError::UnexpectedEof, index));
+            let named = match of_form.entry(index) {
+                Some(named) => named,
+                None => return Err(Error::OffsetAtIndex(ReadError::UnexpectedEof, index)),
             };
             // (nearly every one is told without room for an error)
             let offset = match self.offset_told(repeats, strings, named, limit) {
@@ -288,10 +302,7 @@ impl PackageStringTable {
         if let Some(known) = repeats.find(named) {
             return Ok(known);
         }
-        let string = match string_at(debug_str, named) {
-            Ok(string) => string,
-            Err(e) => return Err(Error::StrAtOffset(e, named as usize)),
-        };
+        let string = string_read(debug_str, named)?;
         let offset = self.get_or_insert(string)?.0 as u64;
         let _remembered = repeats.enter(string.len(), named, offset);
         Ok(offset)

@@ -75,6 +75,22 @@ fn look(cells: &[u32], pairs: &[(u64, u64)], offset: u64) -> Option<u64>
     (pair.0 == offset).then_some(pair.1)
 }
 
+/// Makes the first links of the trees, where there are none.
+fn plant(alloc: Global, links: &mut Vec<usize>) -> Result<(), AllocError> {
+    if links.is_empty() {
+        *links = Vec::from_elem(alloc, FREE, TREES)?;
+    }
+    Ok(())
+}
+
+/// Leads a link to a pair, and adds the two links of that pair.
+fn lead(links: &mut Vec<usize>, at: usize, number: usize) {
+    if let Some(link) = links.get_mut(at) {
+        *link = number;
+    }
+    let _added = links.extend_from_slice(&[FREE, FREE]);
+}
+
 impl Repeats {
     /// Nothing remembered, which takes no memory.
     pub fn new(alloc: Global) -> Self
@@ -143,18 +159,14 @@ impl Repeats {
             self.pairs.push((offset, known))?;
             return Ok(());
         }
-        if self.links.is_empty() {
-            self.links = Vec::from_elem(self.alloc, FREE, TREES)?;
-        }
+        plant(self.alloc, &mut self.links)?;
         let Err(at) = walk(&self.links, &self.pairs, offset) else {
             return Ok(());
         };
         self.links.reserve(2)?;
         self.pairs.push((offset, known))?;
-        if let Some(link) = self.links.get_mut(at) {
-            *link = number;
-        }
-        self.links.extend_from_slice(&[FREE, FREE])
+        lead(&mut self.links, at, number);
+        Ok(())
     }
 
     /// Forgets all.

@@ -12,4 +12,5 @@ loop-piece-preserved c =
 pub returns : goal.returns
 returns c =
     let none = nil_from_length _ c.in-None.ensures.steps.1.0 in
-    rw (none, append-nil) at c.loop-piece.invariant.2
+    let so_far = rw (none, append-nil) at c.loop-piece.invariant.2 in
+    first_of (cc, grind arith)
