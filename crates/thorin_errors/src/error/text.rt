@@ -1,16 +1,68 @@
 //! The texts of errors.
 
-ghost use Rattle.thorin_errors.specs.Text.{error_text};
+ghost use Rattle.std.specs.Prelude.{◌++◌, Some};
+ghost use Rattle.std.specs.Fmt.{DisplaysOnOk};
+ghost use Rattle.thorin_errors.specs.Text.{error_text, hex8};
 
 use super::Error;
 use std::fmt;
+
+/// Writes a text and a number, in at least eight hexadecimal digits, behind it.
+#[tactic(auto, using(crate::proofs::Hex::hex8_written))]
+fn write_number<W: fmt::Write>(f: &mut fmt::Formatter<W>, before: &str, number: u64) -> fmt::Result
+    ensures { DisplaysOnOk W.write_str_gives f.old result
+        (Some (before.now ++ hex8 number)) f.new }
+{
+    write!(f, "{before}{number:08x}")
+}
+
+/// Writes such a number between two texts.
+#[tactic(auto, using(crate::proofs::Hex::hex8_written))]
+fn write_unit<W: fmt::Write>(
+    f: &mut fmt::Formatter<W>,
+    before: &str,
+    unit: u64,
+    after: &str,
+) -> fmt::Result
+    ensures { DisplaysOnOk W.write_str_gives f.old result
+        (Some (before.now ++ (hex8 unit ++ after.now))) f.new }
+{
+    write!(f, "{before}{unit:08x}{after}")
+}
+
+/// Writes a section's name between two texts.
+fn write_section<W: fmt::Write>(
+    f: &mut fmt::Formatter<W>,
+    before: &str,
+    section: &str,
+    after: &str,
+) -> fmt::Result
+    ensures { DisplaysOnOk W.write_str_gives f.old result
+        (Some (before.now ++ (section.now ++ after.now))) f.new }
+{
+    write!(f, "{before}{section}{after}")
+}
+
+/// Writes a section's name between two texts, and a place in it behind them.
+#[tactic(auto, using(crate::proofs::Hex::hex8_written))]
+fn write_place<W: fmt::Write>(
+    f: &mut fmt::Formatter<W>,
+    before: &str,
+    section: &str,
+    between: &str,
+    place: usize,
+) -> fmt::Result
+    ensures { DisplaysOnOk W.write_str_gives f.old result
+        (Some (before.now ++ (section.now ++ (between.now ++ hex8 place)))) f.new }
+{
+    write!(f, "{before}{section}{between}{place:08x}")
+}
 
 impl fmt::Display for Error {
     ghost use Rattle.thorin_errors.specs.Errors.{error_of};
 
     ghost output = { λ e. error_text (error_of e) };
 
-    #[tactic(auto, using(crate::proofs::Hex::hex8_written))]
     fn fmt<W: fmt::Write>(&self, f: &mut fmt::Formatter<W>) -> fmt::Result {
         match self {
             Error::ReadInput(_) => f.write_str("Failed to read input file"),
@@ -19,19 +71,28 @@ impl fmt::Display for Error {
             Error::InvalidInputKind => f.write_str("Input is not an archive or elf object"),
             Error::DecompressData(_) => f.write_str("Failed to decompress compressed section"),
             Error::NamelessSection(_, place) => {
-                write!(f, "Section without name at offset 0x{place:08x}")
+                write_number(f, "Section without name at offset 0x", *place as u64)
             }
-            Error::RelocationWithInvalidSymbol(section, place) => write!(
+            Error::RelocationWithInvalidSymbol(section, place) => write_place(
                 f,
-                "Relocation with invalid symbol for section `{section}` at offset 0x{place:08x}"
+                "Relocation with invalid symbol for section `",
+                section,
+                "` at offset 0x",
+                *place,
             ),
-            Error::MultipleRelocations(section, place) => write!(
+            Error::MultipleRelocations(section, place) => write_place(
                 f,
-                "Multiple relocations for section `{section}` at offset 0x{place:08x}"
+                "Multiple relocations for section `",
+                section,
+                "` at offset 0x",
+                *place,
             ),
-            Error::UnsupportedRelocation(section, place) => write!(
+            Error::UnsupportedRelocation(section, place) => write_place(
                 f,
-                "Unsupported relocation for section {section} at offset 0x{place:08x}"
+                "Unsupported relocation for section ",
+                section,
+                " at offset 0x",
+                *place,
             ),
             _ => self.write_unit_text(f),
         }
@@ -44,14 +105,13 @@ impl Error {
     ghost use Rattle.thorin_errors.specs.Text.{unit_text, index_text, section_text};
 
     /// The texts of errors of units.
-    #[tactic(auto, using(crate::proofs::Hex::hex8_written))]
     fn write_unit_text<W: fmt::Write>(&self, f: &mut fmt::Formatter<W>) -> fmt::Result
         ensures { DisplaysOnOk W.write_str_gives f.old result
             (unit_text (error_of self.now)) f.new }
     {
         match self {
             Error::MissingDwoName(unit) => {
-                write!(f, "Missing path attribute to DWARF object (0x{unit:08x})")
+                write_unit(f, "Missing path attribute to DWARF object (0x", *unit, ")")
             }
             Error::NoCompilationUnits => f.write_str("Input object has no compilation units"),
             Error::NoDie => f.write_str(
@@ -64,18 +124,20 @@ impl Error {
             Error::ParseUnitHeader(_) => f.write_str("Failed to parse unit header"),
             Error::ParseUnit(_) => f.write_str("Failed to parse unit"),
             Error::EmptyUnit(unit) => {
-                write!(f, "Unit 0x{unit:08x} in input DWARF object with no data")
+                write_unit(f, "Unit 0x", *unit, " in input DWARF object with no data")
             }
             Error::NotSplitUnit => f.write_str(
                 "Regular compilation unit in object (missing dwo identifier)",
             ),
             Error::DuplicateUnit(unit) => {
-                write!(f, "Duplicate split compilation unit (0x{unit:08x})")
+                write_unit(f, "Duplicate split compilation unit (0x", *unit, ")")
             }
             Error::MissingReferencedUnit(unit) => {
-                write!(
+                write_unit(
                     f,
-                    "Unit 0x{unit:08x} referenced by executable was not found"
+                    "Unit 0x",
+                    *unit,
+                    " referenced by executable was not found",
                 )
             }
             _ => self.write_index_text(f),
@@ -83,7 +145,6 @@ impl Error {
     }
 
     /// The texts of errors of indexes and string offsets.
-    #[tactic(auto, using(crate::proofs::Hex::hex8_written))]
     fn write_index_text<W: fmt::Write>(&self, f: &mut fmt::Formatter<W>) -> fmt::Result
         ensures { DisplaysOnOk W.write_str_gives f.old result
             (index_text (error_of self.now)) f.new }
@@ -98,17 +159,21 @@ impl Error {
                 f,
                 "Read offset at index {index} of `.debug_str_offsets.dwo` section"
             ),
-            Error::StrAtOffset(_, offset) => write!(
+            Error::StrAtOffset(_, offset) => write_unit(
                 f,
-                "Read string at offset 0x{offset:08x} of `.debug_str.dwo` section"
+                "Read string at offset 0x",
+                *offset as u64,
+                " of `.debug_str.dwo` section",
             ),
             Error::ParseIndex(_, section) => {
-                write!(f, "Failed to parse `{section}` index section")
+                write_section(f, "Failed to parse `", section, "` index section")
             }
             Error::UnitNotInIndex(unit) => {
-                write!(
+                write_unit(
                     f,
-                    "Unit 0x{unit:08x} from input package is not in its index"
+                    "Unit 0x",
+                    *unit,
+                    " from input package is not in its index",
                 )
             }
             Error::RowNotInIndex(_, row) => write!(
@@ -117,10 +182,10 @@ impl Error {
             ),
             Error::SectionNotInRow => f.write_str("Section not found in unit's row in index"),
             Error::BadStringOffsets(place) => {
-                write!(f, "Bad string offsets at offset 0x{place:08x}")
+                write_number(f, "Bad string offsets at offset 0x", *place)
             }
             Error::OverlappingStringOffsets(place) => {
-                write!(f, "Overlapping string offsets at offset 0x{place:08x}")
+                write_number(f, "Overlapping string offsets at offset 0x", *place)
             }
             _ => self.write_section_text(f),
         }
@@ -135,7 +200,7 @@ impl Error {
     {
         match self {
             Error::MissingRequiredSection(section) => {
-                write!(f, "Input object missing required section `{section}`")
+                write_section(f, "Input object missing required section `", section, "`")
             }
             Error::MultipleDebugInfoSection => f.write_str("Multiple `.debug_info.dwo` sections"),
             Error::MultipleDebugTypesSection => f.write_str(
@@ -155,7 +220,7 @@ impl Error {
                 "Bad contribution of unit 0x{unit:08x} to section {section}"
             ),
             Error::SectionOutsideFormat(section) => {
-                write!(f, "Section {section} is not part of the package format")
+                write_section(f, "Section ", section, " is not part of the package format")
             }
             Error::RepeatedSection(section) => write!(f, "Repeated section {section}"),
             _ => Ok(()),
