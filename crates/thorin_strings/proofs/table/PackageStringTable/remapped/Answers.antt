@@ -1,6 +1,6 @@
 use Rattle.thorin_strings.proofs.Terms
 use Terms.{AreKnown, Ok, [], append-nil, arith, elements, err_from_is_err_and, length, refl}
-use Terms.{remapped_entries, remapped_entry, sym, take, take_all, ◌≡◌}
+use Terms.{remapped_entries, remapped_entry, sym, take, take_all, ◌∙◌, ◌≡◌}
 use Rattle.thorin_strings.proofs.RemapLemmas.{entry_absent, entry_is, entry_was, kept_more}
 use Rattle.thorin_strings.proofs.RemapLemmas.{read_fitting, remapped_refuses, rewritten_more}
 use Rattle.thorin_strings.proofs.table.PackageStringTable.remapped.Goals as goal
