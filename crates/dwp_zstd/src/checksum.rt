@@ -120,7 +120,7 @@ fn with_lanes(h: u64, bytes: &[u8]) -> u64
 }
 
 /// The bytes behind the last lane.
-#[tactic(auto, unfolding(crate::specs::Checksum::with_rest, crate::specs::Checksum::with_four, crate::specs::Checksum::with_byte, crate::specs::Checksum::with_bytes, crate::specs::Checksum::prime5, crate::specs::Checksum::plus, crate::specs::Checksum::times, crate::specs::Checksum::turn, crate::specs::Checksum::prime1, crate::specs::Checksum::prime2, crate::specs::Checksum::prime3))]
+#[tactic(auto, unfolding(crate::specs::Checksum::with_rest, crate::specs::Checksum::with_four, crate::specs::Checksum::with_byte, crate::specs::Checksum::with_bytes, crate::specs::Checksum::prime5, crate::specs::Checksum::plus, crate::specs::Checksum::times, crate::specs::Checksum::turn, crate::specs::Checksum::prime1, crate::specs::Checksum::prime2, crate::specs::Checksum::prime3), using(crate::proofs::Loops::walked))]
 fn with_rest(h: u64, bytes: &[u8]) -> u64
     ensures { result ≡ with_rest h bytes.now }
 {
