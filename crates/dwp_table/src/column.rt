@@ -52,32 +52,14 @@ pub fn column_of(version: u16, kind: SectionKind) -> Option<u32>
 }
 
 /// The section whose column has that number in an index of that version, 5 or else 2.
-#[inline(always)]
 pub fn kind_of_column(version: u16, number: u32) -> Option<SectionKind>
     ensures { result ≡ kind_of_column version number }
 {
-    if version == 5 {
-        match number {
-            1 => Some(SectionKind::Info),
-            3 => Some(SectionKind::Abbrev),
-            4 => Some(SectionKind::Line),
-            5 => Some(SectionKind::Loclists),
-            6 => Some(SectionKind::StrOffsets),
-            7 => Some(SectionKind::Macro),
-            8 => Some(SectionKind::Rnglists),
-            _ => None,
-        }
-    } else {
-        match number {
-            1 => Some(SectionKind::Info),
-            2 => Some(SectionKind::Types),
-            3 => Some(SectionKind::Abbrev),
-            4 => Some(SectionKind::Line),
-            5 => Some(SectionKind::Loc),
-            6 => Some(SectionKind::StrOffsets),
-            7 => Some(SectionKind::Macinfo),
-            8 => Some(SectionKind::Macro),
-            _ => None,
-        }
-    }
+    CONTRIBUTION_KINDS
+        .iter()
+        .copied()
+        .find(|kind| match column_of(version, *kind) {
+            None => false,
+            Some(column) => column == number,
+        })
 }
