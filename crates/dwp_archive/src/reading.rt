@@ -1,13 +1,12 @@
 //! The members of an archive, entry by entry (ar(5)).
 
-ghost use Rattle.std.specs.Prelude.{◌≡◌, ◌==◌, ◌+◌, ◌++◌, ◌≤◌, [], length, map, IfOk, OnOk};
+ghost use Rattle.std.specs.Prelude.{IfOk, length, map, OnOk, [], ◌++◌, ◌+◌, ◌==◌, ◌≡◌, ◌≤◌};
 ghost use Rattle.std.specs.List.{list_all};
 ghost use Rattle.dwp_base.specs.Reading.{Answers};
-ghost use Rattle.dwp_archive.specs.Answers.{Gives};
-ghost use Rattle.dwp_archive.specs.Entries.{long_at, own_at, members_at, entry_at};
+ghost use Rattle.dwp_archive.specs.{Answers.Gives, Members.members_from, Members.members_of};
+ghost use Rattle.dwp_archive.specs.Entries.{entry_at, long_at, members_at, own_at};
 ghost use Rattle.dwp_archive.specs.Headers.{decimal, is_padded, size_at};
-ghost use Rattle.dwp_archive.specs.Members.{members_from, members_of};
-ghost use Rattle.dwp_archive.specs.View.{member, listed, entry};
+ghost use Rattle.dwp_archive.specs.View.{entry, listed, member};
 
 use crate::error::ArchiveError;
 use crate::member::{Member, NameForm, own_name, short_name};
@@ -24,6 +23,7 @@ fn is_blank(bytes: &[u8]) -> bool
 }
 
 /// The number that digits write, with blanks behind them.
+#[tactic(auto, using(crate::proofs::Decimals::decimal_end))]
 fn decimal(field: &[u8]) -> Option<u64>
     requires { length field.now ≤ 16 }
     ensures { result ≡ decimal field.now }
@@ -69,8 +69,7 @@ fn size_at(bytes: &[u8]) -> Result<usize, ArchiveError>
     Ok(size as usize)
 }
 
-/// What an entry is: the table of names from there on, the member if it is one, and the bytes
-/// behind.
+/// What an entry is: the table of names from there on, its member, if any, and the bytes behind.
 #[derive(Clone, Copy)]
 struct Entry<'a> {
     names: &'a [u8],
@@ -171,9 +170,7 @@ fn entry_at<'a>(names: &'a [u8], bytes: &'a [u8]) -> Result<Entry<'a>, ArchiveEr
 }
 
 /// The members of an archive, in order, as bytes of it. Tables of symbols and of names are none.
-///
-/// # Errors
-/// The first error, and `Memory`.
+/// Errors: the first error, and `Memory`.
 #[tactic(auto, unfolding(crate::specs::Members::members_of, crate::specs::Members::entries_of))]
 pub fn members(alloc: Global, bytes: &[u8]) -> Result<Vec<Member<'_>>, ArchiveError>
     ensures { Gives (λ members. map member members.items) result (members_of bytes.now) }

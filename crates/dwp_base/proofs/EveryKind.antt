@@ -1,33 +1,16 @@
 -- What holds of each kind of section in the list of them holds of every kind.
-use Rattle.std.proofs.Common.{◌≡◌, ℕ, zero, suc, Bool, true, false, not, List, [], ◌∷◌, map, get_or}
-use Rattle.std.proofs.Common.{refl, sym, ap, ◌∙◌, subst, arith, Some, option_map, slice_get}
-use Rattle.std.proofs.Common.{eqb-true}
-use Rattle.std.specs.List.{list_all}
-use Rattle.std.specs.Str.{bytes_eq}
+use Rattle.std.proofs.Common.{Bool, false, List, map, not, suc, true, zero, [], ℕ, ◌∙◌, ◌∷◌, ◌≡◌}
+use Rattle.std.proofs.Common.{ap, arith, eqb-true, get_or, option_map, refl, slice_get, Some, subst}
+use Rattle.std.proofs.lemmas.Option.{get_or_from_slice_get, slice_get-map, slice_get_within}
+use Rattle.dwp_base.specs.Sections.{all_kinds, compressed_name_of, is_named, kind_named, same_kind}
+use Rattle.dwp_base.specs.Sections.{name_of, rank_of}
+use Rattle.std.proofs.{Common.sym, lemmas.List.Sums.AllPass-from_list_all, lemmas.Option.same_Some}
+use Rattle.std.specs.{List.list_all, Str.bytes_eq}
 use Rattle.std.proofs.lemmas.List.FromFn.{get_or-range_with_len}
-use Rattle.std.proofs.lemmas.List.Sums.{AllPass-from_list_all}
-use Rattle.std.proofs.lemmas.Option.{same_Some, slice_get-map, slice_get_within}
-use Rattle.std.proofs.lemmas.Option.{get_or_from_slice_get}
-use Rattle.dwp_base.specs.Sections.{name_of, compressed_name_of, is_named, all_kinds, rank_of}
-use Rattle.dwp_base.specs.Sections.{same_kind, kind_named}
-use Rattle.dwp_base.specs.declared.section.SectionKind.{SectionKind}
-use Rattle.dwp_base.specs.declared.section.SectionKind.TheVariants as kinds
-use Rattle.dwp_base.proofs.Bools.{is-false}
+use Rattle.dwp_base.{proofs.Bools.is-false, specs.declared.section.SectionKind.SectionKind}
 
 pub at-rank : (kind : SectionKind) → slice_get all_kinds (rank_of kind) ≡ Some kind
-at-rank kinds.Info = refl
-at-rank kinds.Types = refl
-at-rank kinds.Abbrev = refl
-at-rank kinds.Line = refl
-at-rank kinds.Loc = refl
-at-rank kinds.Loclists = refl
-at-rank kinds.Rnglists = refl
-at-rank kinds.StrOffsets = refl
-at-rank kinds.Macinfo = refl
-at-rank kinds.Macro = refl
-at-rank kinds.Str = refl
-at-rank kinds.CuIndex = refl
-at-rank kinds.TuIndex = refl
+at-rank kind = grind arith
 
 -- a test that each of a list passes is passed by what stands at a place of it
 passes-at : {X : Type 0} (test : X → Bool) (xs : List X) (i : ℕ) (x : X)
@@ -40,12 +23,6 @@ passes-at test xs i x all there =
 pub every : (test : SectionKind → Bool) → list_all test all_kinds ≡ true → (kind : SectionKind)
     → test kind ≡ true
 every test all kind = passes-at test all_kinds (rank_of kind) kind all (at-rank kind)
-
--- the same for two kinds
-pub every-two : (test : SectionKind → SectionKind → Bool)
-    → list_all (λ a. list_all (test a) all_kinds) all_kinds ≡ true → (a b : SectionKind)
-    → test a b ≡ true
-every-two test all a b = every (test a) (every (λ k. list_all (test k) all_kinds) all a) b
 
 -- what holds at each of the first places of a list
 abbrev pub HoldsAll : {X : Type 0} → (X → Type 0) → List X → Type 0

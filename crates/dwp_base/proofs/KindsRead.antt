@@ -1,16 +1,13 @@
 -- Values that are read for each kind, one kind after another.
-use Rattle.std.proofs.Common.{◌≡◌, ℕ, zero, suc, ◌+◌, ◌<◌, ◌≤◌, List, [], ◌∷◌, map, length, refl}
-use Rattle.std.proofs.Common.{sym, ap, subst, ◌∙◌, ⊎_elim, arith}
-use Rattle.std.specs.Prelude.{Some, Result, Ok, Err, option_map, slice_get, slice_set}
-use Rattle.std.proofs.lemmas.Bool.{cases_lt}
-use Rattle.std.proofs.lemmas.List.{length-set, get_or-set_same, get_or-set_other, length-map}
-use Rattle.std.proofs.lemmas.Option.{same_Some, slice_get_within, slice_get_read, slice_get-map}
-use Rattle.std.proofs.lemmas.Option.{get_or_from_slice_get}
-use Rattle.dwp_base.specs.ByKind.{values_of, value_of, ReadsEach}
-use Rattle.dwp_base.specs.Reading.{Answers, read_each}
-use Rattle.dwp_base.specs.Sections.{rank_of, all_kinds}
-use Rattle.dwp_base.specs.declared.section.SectionKind.{SectionKind}
-use Rattle.dwp_base.specs.declared.by_kind.ByKind.{ByKind}
+use Rattle.std.proofs.Common.{ap, List, map, suc, zero, [], ℕ, ⊎_elim, ◌+◌, ◌<◌, ◌∙◌, ◌∷◌, ◌≡◌, ◌≤◌}
+use Rattle.std.proofs.Common.{arith, length, refl, subst, sym}
+use Rattle.std.proofs.lemmas.Option.{get_or_from_slice_get, slice_get_within}
+use Rattle.std.specs.Prelude.{Err, Ok, option_map, Result, slice_get, slice_set, Some}
+use Rattle.std.proofs.{lemmas.Bool.cases_lt, lemmas.Option.same_Some, lemmas.Option.slice_get-map}
+use Rattle.std.proofs.{lemmas.Grind.elements, lemmas.List.length-map, lemmas.List.length-set}
+use Rattle.dwp_base.specs.ByKind.{ReadsEach, value_of, values_of}
+use Rattle.dwp_base.specs.{declared.by_kind.ByKind.ByKind, declared.section.SectionKind.SectionKind}
+use Rattle.dwp_base.specs.{Reading.Answers, Reading.read_each, Sections.all_kinds, Sections.rank_of}
 use Rattle.dwp_base.proofs.EveryKind.{at-rank, rank-at}
 use Rattle.dwp_base.proofs.Steps.{bind-err, each-read, read-at}
 
@@ -22,16 +19,11 @@ ReadBelow reads values count = (place : ℕ) (kind : SectionKind) → place < co
 
 set-here : {T : Type 0} (values : List T) (i : ℕ) (value : T) → i < length values
     → slice_get (slice_set values i value) i ≡ Some value
-set-here values i value within =
-    slice_get_read (slice_set values i value) (length values) i value
-    (sym (length-set values i value)) within (sym (get_or-set_same values i value value within))
+set-here values i value within = grind (arith, elements)
 
 set-elsewhere : {T : Type 0} (values : List T) (i j : ℕ) (value old : T) → (j ≡ i → ⊥)
     → slice_get values j ≡ Some old → slice_get (slice_set values i value) j ≡ Some old
-set-elsewhere values i j value old other at =
-    slice_get_read (slice_set values i value) (length values) j old
-    (sym (length-set values i value)) (slice_get_within values j old at)
-    (sym (get_or-set_other values i j value old other ∙ get_or_from_slice_get values j old old at))
+set-elsewhere values i j value old other at = grind (arith, elements)
 
 -- one more is read
 pub read-more : {T E : Type 0} (reads : SectionKind → Result T E → Type 0) (values new : List T)
@@ -89,10 +81,6 @@ map-at f [] i y at = absurd cc
 map-at f (x ∷ xs) zero y at = (x, refl, same_Some _ _ at)
 map-at f (x ∷ xs) (suc i) y at = map-at f xs i y at
 
-at-map : {X Y : Type 0} (f : X → Y) (xs : List X) (i : ℕ) (x : X) → slice_get xs i ≡ Some x
-    → slice_get (map f xs) i ≡ Some (f x)
-at-map f xs i x at = slice_get-map f xs i ∙ ap (option_map f) at
-
 stops : {X Y E : Type 0} (f : X → Result Y E) (xs : List X) (place : ℕ) (x : X) (e : E)
     → slice_get xs place ≡ Some x → f x ≡ Err e
     → ((before : ℕ) (other : X) → before < place → slice_get xs before ≡ Some other
@@ -120,7 +108,8 @@ answers-each view f reads means (Ok by_kind) read =
     (length-map (values_of by_kind) view ∙ read.0) (λ i y at.
     let kind = map-at g all_kinds i y at in
     ap (slice_get (map view (values_of by_kind))) (sym (rank-at i kind.0 kind.1))
-    ∙ at-map view (values_of by_kind) (rank_of kind.0) _ (read.1 kind.0).1 ∙ ap Some kind.2)))
+    ∙ slice_get-map view (values_of by_kind) (rank_of kind.0)
+    ∙ ap (option_map view) (read.1 kind.0).1 ∙ ap Some kind.2)))
 answers-each view f reads means (Err e) read =
     stops f all_kinds read.0 read.1 e read.2 (means read.1 _ read.3) (λ before other lt at.
     let earlier = read.4 before other lt at in (view earlier.0, means other _ earlier.1))

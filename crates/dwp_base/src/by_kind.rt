@@ -47,10 +47,8 @@ impl<T: Copy> ByKind<T> {
     }
 
     /// What a function reads for each kind, one after another. `default` only fills the places
-    /// until then: it is in no answer.
-    ///
-    /// # Errors
-    /// The first that it answers, in the order of the kinds.
+    /// until then: it is in no answer. Errors: the first that it answers, in the order of the
+    /// kinds.
     #[inline(always)]
     pub fn read<E, F: Fn(SectionKind) -> Result<T, E>>(default: T, f: F) -> Result<ByKind<T>, E>
         requires { F.IsAlwaysCallable f }

@@ -102,9 +102,7 @@ impl Encoding {
 }
 
 /// The string at an offset of a string section, without the zero byte that ends it (DWARF 5, 7.26).
-///
-/// # Errors
-/// `OffsetOutOfRange` past the section's end, `NoTerminator` where no zero byte follows.
+/// Errors: `OffsetOutOfRange` past the section's end, `NoTerminator` where no zero byte follows.
 #[tactic(auto, unfolding(crate::specs::StringOffsets::string_at))]
 pub fn string_at(section: &[u8], offset: u64) -> Result<&[u8], ReadError>
     ensures meaning { Answers (λ string. string.now) result (string_at section.now offset) }
@@ -148,30 +146,23 @@ impl<'a> StringOffsets<'a> {
 
     /// The i-th offset; None past the last whole one.
     #[inline(always)]
-    #[tactic(auto, unfolding(crate::specs::StringOffsets::entry_in))]
+    #[tactic(auto, unfolding(crate::specs::StringOffsets::entry_in), using(std::proofs::lemmas::Grind::common_steps))]
     pub fn entry(&self, i: u64) -> Option<u64>
         ensures { result ≡ entry_in self.now.order self.now.encoding self.now.offsets.now i }
     {
-        let StringOffsets {
-            offsets,
-            order,
-            encoding,
-            ..
-        } = *self;
         if self.count() <= i {
             return None;
         }
-        let header = encoding.string_offsets_header_size();
-        Some(match encoding.format {
-            Format::Dwarf32 => u64::from(order.read_u32(&offsets[header + i as usize * 4..])),
-            Format::Dwarf64 => order.read_u64(&offsets[header + i as usize * 8..]),
+        let start = self.encoding.string_offsets_header_size();
+        Some(match self.encoding.format {
+            Format::Dwarf32 => {
+                u64::from(self.order.read_u32(&self.offsets[start + i as usize * 4..]))
+            }
+            Format::Dwarf64 => self.order.read_u64(&self.offsets[start + i as usize * 8..]),
         })
     }
 
-    /// The i-th string; None past the last whole offset.
-    ///
-    /// # Errors
-    /// Those of `string_at`.
+    /// The i-th string; None past the last whole offset. Errors: those of `string_at`.
     #[tactic(auto, unfolding(crate::specs::StringOffsets::string_in))]
     pub fn string(&self, i: u64) -> Result<Option<&'a [u8]>, ReadError>
         ensures { Answers option_copied result (string_in self.now.order self.now.encoding

@@ -30,41 +30,31 @@ pub trait Reader: Copy {
     fn to_slice(&self) -> &[u8]
         ensures { result.now ≡ (input self.now).bytes };
 
-    /// The next `n` bytes as a reader; this one keeps the rest.
-    ///
-    /// # Errors
-    /// `UnexpectedEof` where fewer are left.
+    /// The next `n` bytes as a reader; this one keeps the rest. Errors: `UnexpectedEof` where fewer
+    /// are left.
     fn split(&mut self, n: usize) -> Result<Self, ReadError>
         ensures { Reads input result (input self.old) (input self.new) (split_at n) };
 
-    /// An address of that many bytes, relocated.
-    ///
-    /// # Errors
-    /// `AddressSize` unless it has 1, 2, 4 or 8 bytes, `UnexpectedEof` where fewer are left.
+    /// An address of that many bytes, relocated. Errors: `AddressSize` unless it has 1, 2, 4 or 8
+    /// bytes, `UnexpectedEof` where fewer are left.
     fn read_address(&mut self, address_size: u8) -> Result<u64, ReadError>
         ensures { Reads (λ x. x) result (input self.old) (input self.new) (sized_at address_size) };
 
-    /// A length of the format's size, relocated.
-    ///
-    /// # Errors
-    /// `UnexpectedEof` where fewer bytes are left.
+    /// A length of the format's size, relocated. Errors: `UnexpectedEof` where fewer bytes are
+    /// left.
     fn read_length(&mut self, format: Format) -> Result<u64, ReadError>
         ensures { Reads (λ x. x) result (input self.old) (input self.new) (offset_at format) };
 
-    /// An offset of the format's size, relocated.
-    ///
-    /// # Errors
-    /// `UnexpectedEof` where fewer bytes are left.
+    /// An offset of the format's size, relocated. Errors: `UnexpectedEof` where fewer bytes are
+    /// left.
     fn read_offset(&mut self, format: Format) -> Result<u64, ReadError>
         ensures { Reads (λ x. x) result (input self.old) (input self.new) (offset_at format) }
     {
         self.read_length(format)
     }
 
-    /// An offset of that many bytes, relocated.
-    ///
-    /// # Errors
-    /// `AddressSize` unless it has 1, 2, 4 or 8 bytes, `UnexpectedEof` where fewer are left.
+    /// An offset of that many bytes, relocated. Errors: `AddressSize` unless it has 1, 2, 4 or 8
+    /// bytes, `UnexpectedEof` where fewer are left.
     fn read_sized_offset(&mut self, size: u8) -> Result<u64, ReadError>
         ensures { Reads (λ x. x) result (input self.old) (input self.new) (sized_at size) }
     {
@@ -85,10 +75,7 @@ pub trait Reader: Copy {
         self.to_slice().is_empty()
     }
 
-    /// Passes over the next `n` bytes.
-    ///
-    /// # Errors
-    /// `UnexpectedEof` where fewer are left.
+    /// Passes over the next `n` bytes. Errors: `UnexpectedEof` where fewer are left.
     #[tactic(auto, unfolding(crate::specs::Input::split_at, crate::specs::Input::skip_at))]
     fn skip(&mut self, n: usize) -> Result<(), ReadError>
         ensures { Reads (λ x. x) result (input self.old) (input self.new) (skip_at n) }
@@ -97,10 +84,7 @@ pub trait Reader: Copy {
         Ok(())
     }
 
-    /// Drops all but the first `n` bytes.
-    ///
-    /// # Errors
-    /// `UnexpectedEof` where fewer are left.
+    /// Drops all but the first `n` bytes. Errors: `UnexpectedEof` where fewer are left.
     #[tactic(auto, unfolding(crate::specs::Input::split_at, crate::specs::Input::truncate_at))]
     fn truncate(&mut self, n: usize) -> Result<(), ReadError>
         ensures { Reads (λ x. x) result (input self.old) (input self.new) (truncate_at n) }
@@ -109,10 +93,7 @@ pub trait Reader: Copy {
         Ok(())
     }
 
-    /// The next byte.
-    ///
-    /// # Errors
-    /// `UnexpectedEof` where none is left.
+    /// The next byte. Errors: `UnexpectedEof` where none is left.
     #[tactic(auto, unfolding(crate::specs::Input::split_at, crate::specs::Input::byte_at))]
     fn read_u8(&mut self) -> Result<u8, ReadError>
         ensures { Reads (λ x. x) result (input self.old) (input self.new) byte_at }
@@ -121,10 +102,7 @@ pub trait Reader: Copy {
         Ok(piece.to_slice()[0])
     }
 
-    /// The number in the next two bytes.
-    ///
-    /// # Errors
-    /// `UnexpectedEof` where fewer are left.
+    /// The number in the next two bytes. Errors: `UnexpectedEof` where fewer are left.
     #[tactic(auto, unfolding(crate::specs::Input::split_at, crate::specs::Input::number_at))]
     fn read_u16(&mut self) -> Result<u16, ReadError>
         ensures { Reads (λ x. x) result (input self.old) (input self.new) (number_at 2) }
@@ -134,10 +112,7 @@ pub trait Reader: Copy {
         Ok(order.read_u16(piece.to_slice()))
     }
 
-    /// The number in the next three bytes.
-    ///
-    /// # Errors
-    /// `UnexpectedEof` where fewer are left.
+    /// The number in the next three bytes. Errors: `UnexpectedEof` where fewer are left.
     #[tactic(auto, unfolding(crate::specs::Input::split_at, crate::specs::Input::number_at))]
     fn read_u24(&mut self) -> Result<u32, ReadError>
         ensures { Reads (λ x. x) result (input self.old) (input self.new) (number_at 3) }
@@ -150,10 +125,7 @@ pub trait Reader: Copy {
         })
     }
 
-    /// The number in the next four bytes.
-    ///
-    /// # Errors
-    /// `UnexpectedEof` where fewer are left.
+    /// The number in the next four bytes. Errors: `UnexpectedEof` where fewer are left.
     #[tactic(auto, unfolding(crate::specs::Input::split_at, crate::specs::Input::number_at))]
     fn read_u32(&mut self) -> Result<u32, ReadError>
         ensures { Reads (λ x. x) result (input self.old) (input self.new) (number_at 4) }
@@ -163,10 +135,7 @@ pub trait Reader: Copy {
         Ok(order.read_u32(piece.to_slice()))
     }
 
-    /// The number in the next eight bytes.
-    ///
-    /// # Errors
-    /// `UnexpectedEof` where fewer are left.
+    /// The number in the next eight bytes. Errors: `UnexpectedEof` where fewer are left.
     #[tactic(auto, unfolding(crate::specs::Input::split_at, crate::specs::Input::number_at))]
     fn read_u64(&mut self) -> Result<u64, ReadError>
         ensures { Reads (λ x. x) result (input self.old) (input self.new) (number_at 8) }
@@ -176,10 +145,8 @@ pub trait Reader: Copy {
         Ok(order.read_u64(piece.to_slice()))
     }
 
-    /// Fills the buffer with the next bytes.
-    ///
-    /// # Errors
-    /// `UnexpectedEof` where fewer are left; the buffer is then as it was.
+    /// Fills the buffer with the next bytes. Errors: `UnexpectedEof` where fewer are left; the
+    /// buffer is then as it was.
     #[tactic(auto, unfolding(crate::specs::Input::split_at, crate::specs::Input::bytes_at))]
     fn read_slice(&mut self, buffer: &mut [u8]) -> Result<(), ReadError>
         ensures read { Reads (λ _. buffer.new) result (input self.old) (input self.new)
@@ -201,35 +168,24 @@ pub trait Reader: Copy {
         }
     }
 
-    /// How far ahead the first such byte stands.
-    ///
-    /// # Errors
-    /// `NoTerminator` where there is none.
+    /// How far ahead the first such byte stands. Errors: `NoTerminator` where there is none.
     fn find(&self, byte: u8) -> Result<usize, ReadError>
         ensures { Answers (λ x. x) result (found_at byte (input self.now).bytes) }
     {
         memchr(byte, self.to_slice()).ok_or(ReadError::NoTerminator)
     }
 
-    /// The bytes that are left, as a text.
-    ///
-    /// # Errors
-    /// `BadUtf8` where they are none.
+    /// The bytes that are left, as a text. Errors: `BadUtf8` where they are none.
     fn to_string(&self) -> Result<&str, ReadError>
         ensures { MatchResult result (λ s. s.now ≡ (input self.now).bytes) (λ e.
             (e ≡ ReadError.BadUtf8) × ¬ (IsUtf8 (input self.now).bytes)) }
     {
-        match str::from_utf8(self.to_slice()) {
-            Ok(text) => Ok(text),
-            Err(_) => Err(ReadError::BadUtf8),
-        }
+        str::from_utf8(self.to_slice()).map_err(|_| ReadError::BadUtf8)
     }
 
-    /// An unsigned number of variable length.
-    ///
-    /// # Errors
-    /// `BigLeb` past 10 bytes or 64 bits, `UnexpectedEof` where the bytes end before the number.
-    #[tactic(auto, using(crate::proofs::Lebs::small))]
+    /// An unsigned number of variable length. Errors: `BigLeb` past 10 bytes or 64 bits,
+    /// `UnexpectedEof` where the bytes end before the number.
+    #[tactic(auto, using(crate::proofs::Lebs::small, crate::proofs::Lebs::seven_more))]
     fn read_uleb128(&mut self) -> Result<u64, ReadError>
         ensures { Reads (λ x. x) result (input self.old) (input self.new) uleb_at }
     {
@@ -253,11 +209,9 @@ pub trait Reader: Copy {
         Ok(value + u64::from(last) * scale)
     }
 
-    /// A signed number of variable length.
-    ///
-    /// # Errors
-    /// `BigLeb` past 10 bytes or 64 bits, `UnexpectedEof` where the bytes end before the number.
-    #[tactic(auto, using(crate::proofs::Lebs::small))]
+    /// A signed number of variable length. Errors: `BigLeb` past 10 bytes or 64 bits,
+    /// `UnexpectedEof` where the bytes end before the number.
+    #[tactic(auto, using(crate::proofs::Lebs::small, crate::proofs::Lebs::seven_more))]
     fn read_sleb128(&mut self) -> Result<i64, ReadError>
         ensures { Reads (λ x. x) result (input self.old) (input self.new) sleb_at }
     {

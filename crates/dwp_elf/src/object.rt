@@ -1,18 +1,16 @@
 //! Objects that are made section by section, and written as ELF files.
 
-ghost use Rattle.std.specs.Prelude.{[], Err, IfErr, IfOk, length, None, Ok, OkIff, OnErr, OnOk};
-ghost use Rattle.std.specs.Prelude.{position, Some, ◌+◌, ◌++◌, ◌<◌, ◌≡◌};
-ghost use Rattle.std.specs.Io.KnownBytes.{Appends};
-ghost use Rattle.std.specs.declared.io.ErrorKind.{ErrorKind};
+ghost use Rattle.std.specs.Prelude.{Err, IfErr, IfOk, length, None, Ok, [], ◌++◌, ◌+◌, ◌<◌, ◌≡◌};
+ghost use Rattle.std.specs.Prelude.{OkIff, OnErr, OnOk, position, Some};
+ghost use Rattle.std.specs.{declared.io.ErrorKind.ErrorKind, Io.KnownBytes.Appends};
 ghost use Rattle.dwp_base.specs.Sections.{same_kind};
 ghost use Rattle.dwp_elf_read.specs.Elf.{elf_of};
 ghost use Rattle.dwp_elf_read.specs.declared.error.WriteError.TheVariants.{Memory, NumberTooLarge};
 ghost use Rattle.dwp_elf.specs.Contents.{appended, content_of, contents_of, KindsDiffer, truncated};
-ghost use Rattle.dwp_elf.specs.FileText.{file_text, Object};
+ghost use Rattle.dwp_elf.specs.{FileText.file_text, FileText.Object, Written.written_elf};
 ghost use Rattle.dwp_elf.specs.Growing.{contribution_put, IsGrown, lengths, with_bytes};
 ghost use Rattle.dwp_elf.specs.Numbers.{Fits, IsLayout};
 ghost use Rattle.dwp_elf.specs.Refusals.{Blames, Errors, RefusesFile, RefusesWriter, Writes};
-ghost use Rattle.dwp_elf.specs.Written.{written_elf};
 
 use crate::headers::{entry_size, file_header};
 use crate::output::{
@@ -159,10 +157,7 @@ impl WritableObject {
         }
     }
 
-    /// The length of each section's content, in their order.
-    ///
-    /// # Errors
-    /// Want of memory.
+    /// The length of each section's content, in their order. Errors: want of memory.
     pub fn lengths(&self) -> Result<Vec<usize>, AllocError>
         ensures { IfOk result (λ sizes. sizes.items ≡ lengths self.now.contents) }
     {
@@ -173,10 +168,8 @@ impl WritableObject {
     }
 
     /// Adds bytes at the end of a section's content, and tells where they are in it. The first
-    /// bytes of a kind make its section; no bytes make none.
-    ///
-    /// # Errors
-    /// `Memory` alone, and then nothing has changed.
+    /// bytes of a kind make its section; no bytes make none. Errors: `Memory` alone, and then
+    /// nothing has changed.
     pub fn append(
         &mut self,
         kind: SectionKind,
@@ -204,10 +197,7 @@ impl WritableObject {
     }
 
     /// As `append`, but it takes the bytes themselves: where they are the first of their kind,
-    /// nothing is copied.
-    ///
-    /// # Errors
-    /// Those of `append`.
+    /// nothing is copied. Errors: those of `append`.
     pub fn append_moved(
         &mut self,
         kind: SectionKind,
@@ -256,11 +246,8 @@ impl WritableObject {
         }
     }
 
-    /// How many bytes the file has. It takes no memory.
-    ///
-    /// # Errors
-    /// `NumberTooLarge` where one of the file's offsets and sizes, or the length of an ELF 64 file,
-    /// passes the limit of its class.
+    /// How many bytes the file has. It takes no memory. Errors: `NumberTooLarge` where one of the
+    /// file's offsets and sizes, or the length of an ELF 64 file, passes the limit of its class.
     pub fn file_size(&self) -> Result<u64, WriteError>
         ensures size { OkIff result (Fits self.now) (length (file_text self.now)) }
         ensures refused { IfErr result (λ e. e ≡ NumberTooLarge) }
@@ -268,9 +255,7 @@ impl WritableObject {
         Ok(self.layout()?.size)
     }
 
-    /// The file as bytes. Read back, it has the contents in order under their names.
-    ///
-    /// # Errors
+    /// The file as bytes. Read back, it has the contents in order under their names. Errors:
     /// `NumberTooLarge` where `file_size` refuses, else `Memory` where memory runs out.
     pub fn write(&self) -> Result<Vec<u8>, WriteError>
         ensures text { IfOk result (λ file. file.items ≡ file_text self.now) }
@@ -289,11 +274,9 @@ impl WritableObject {
     }
 
     /// Hands the file to a writer. A section's content is offered in one piece, and no call is
-    /// repeated after it failed. It takes no memory.
-    ///
-    /// # Errors
-    /// `NumberTooLarge` where `file_size` refuses: nothing is written then. `Io` exactly where a
-    /// write failed or took no bytes: the writer then has a beginning of the file.
+    /// repeated after it failed. It takes no memory. Errors: `NumberTooLarge` where `file_size`
+    /// refuses: nothing is written then. `Io` exactly where a write failed or took no bytes: the
+    /// writer then has a beginning of the file.
     pub fn write_to<O: Output>(&self, out: &mut O) -> Result<(), WriteError>
         ensures fits { OnOk result (Fits self.now) }
         ensures text { OnOk result
@@ -312,8 +295,7 @@ impl WritableObject {
         self.write_parts(&layout, out).map_err(WriteError::Io)
     }
 
-    /// The layout of the file.
-    #[tactic(auto, using(crate::proofs::KindCounts::few_sections))]
+    #[tactic(auto, using(crate::proofs::ReadingBack::layouts))]
     fn layout(&self) -> Result<Layout, WriteError>
         ensures ok { IfOk result (IsLayout self.now.class self.now.contents) }
         ensures fits { OnOk result (Fits self.now) }
@@ -332,26 +314,16 @@ impl WritableObject {
             (file_text self.now) }
         ensures error { Errors result (O.failed out.old) (O.failed out.new) }
     {
+        let class = self.class;
+        let order = self.endianness;
         let count = self.sections.len() as u16 + 2;
-        let header = file_header(
-            self.class,
-            self.endianness,
-            self.machine,
-            layout.headers,
-            count,
-        );
+        let header = file_header(class, order, self.machine, layout.headers, count);
         write_whole(out, header.as_slice())?;
         write_contents(out, &self.sections)?;
         write_name_table(out, &self.sections)?;
         // (the header of section 0 is all zeros)
-        let zeros = layout.zeros as usize + usize::from(entry_size(self.class));
+        let zeros = layout.zeros as usize + usize::from(entry_size(class));
         write_whole(out, &ZEROS[..zeros])?;
-        write_section_headers(
-            out,
-            self.class,
-            self.endianness,
-            layout.names_size,
-            &self.sections,
-        )
+        write_section_headers(out, class, order, layout.names_size, &self.sections)
     }
 }

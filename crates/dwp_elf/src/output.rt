@@ -1,12 +1,11 @@
 //! The layout of a file, and how its parts are written to a writer.
 
-ghost use Rattle.std.specs.Prelude.{◌≡◌, ◌+◌, ◌*◌, ◌^◌, ◌<◌, ◌≤◌, length, IfSome, MatchOption};
+ghost use Rattle.std.specs.Prelude.{IfSome, length, MatchOption, ◌*◌, ◌+◌, ◌<◌, ◌^◌, ◌≡◌, ◌≤◌};
 ghost use Rattle.dwp_base.specs.Sections.{kind_count};
-ghost use Rattle.dwp_elf.specs.Contents.{contents_of};
+ghost use Rattle.dwp_elf.specs.{Contents.contents_of, Numbers.IsLayout, Numbers.PassesLimit};
 ghost use Rattle.dwp_elf_read.specs.Layout.{header_size, word_size};
-ghost use Rattle.dwp_elf.specs.FileText.{content_bytes, name_table, headers_from};
-ghost use Rattle.dwp_elf.specs.Numbers.{PassesLimit, IsLayout};
-ghost use Rattle.dwp_elf.specs.Refusals.{Writes, Errors};
+ghost use Rattle.dwp_elf.specs.FileText.{content_bytes, headers_from, name_table};
+ghost use Rattle.dwp_elf.specs.Refusals.{Errors, Writes};
 
 use crate::headers::{entry_size, header_size, section_header};
 use crate::writer::Output;
@@ -28,9 +27,8 @@ const NAMES: &[u8; 10] = b".shstrtab\0";
 /// How many bytes the contents have, None past 64 bits, and how many the content of `.shstrtab`.
 fn sizes_of(sections: &[(SectionKind, Vec<u8>)]) -> Option<(u64, u64)>
     requires { length sections.now ≤ kind_count }
-    ensures contents { MatchOption result
-        (2 ^ 64 ≤ length (content_bytes (contents_of sections.now)))
-        (λ sizes. sizes.0 ≡ length (content_bytes (contents_of sections.now))) }
+    ensures contents { MatchOption result (2 ^ 64 ≤ length (content_bytes (contents_of
+        sections.now))) (λ sizes. sizes.0 ≡ length (content_bytes (contents_of sections.now))) }
     ensures names { IfSome result (λ sizes.
         sizes.1 ≡ length (name_table (contents_of sections.now))) }
     ensures small { IfSome result (λ sizes. sizes.1 ≤ 400) }
@@ -44,8 +42,7 @@ fn sizes_of(sections: &[(SectionKind, Vec<u8>)]) -> Option<(u64, u64)>
     Some((contents, names))
 }
 
-/// Where the section headers of a file begin, and the sizes of its name table, of the zeros before
-/// the headers, and of the whole file.
+/// Where the parts of a file stand, and how long they are.
 #[derive(Clone, Copy)]
 pub struct Layout {
     /// How many bytes the content of `.shstrtab` has.
@@ -141,9 +138,8 @@ pub fn write_section_headers<O: Output>(
     requires places_fit { header_size class + length (content_bytes (contents_of sections.now))
         < 2 ^ (8 * word_size class) }
     requires names_fit { names_size < 2 ^ (8 * word_size class) }
-    ensures text { Writes result (O.contents out.old) (O.contents out.new)
-        (headers_from class endianness names_size 1 (header_size class)
-        (contents_of sections.now)) }
+    ensures text { Writes result (O.contents out.old) (O.contents out.new) (headers_from class
+        endianness names_size 1 (header_size class) (contents_of sections.now)) }
     ensures error { Errors result (O.failed out.old) (O.failed out.new) }
 {
     let mut name = 1;

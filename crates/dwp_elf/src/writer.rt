@@ -1,9 +1,7 @@
 //! What a file is handed to, and whether a write of it failed.
 
-ghost use Rattle.std.specs.Prelude.{◌≡◌, ℕ, ◌<◌, List, length, Option, Some, IfOk, IfErr, ⊤};
-ghost use Rattle.std.specs.Io.{WritesAtMost};
-ghost use Rattle.std.specs.Io.KnownBytes.{WriteAppends};
-ghost use Rattle.std.specs.IoError.{error_kind};
+ghost use Rattle.std.specs.Prelude.{IfErr, IfOk, length, List, Option, Some, ℕ, ⊤, ◌<◌, ◌≡◌};
+ghost use Rattle.std.specs.{Io.KnownBytes.WriteAppends, Io.WritesAtMost, IoError.error_kind};
 ghost use Rattle.std.specs.declared.io.ErrorKind.{ErrorKind};
 
 use std::io;
@@ -17,10 +15,8 @@ pub trait Output {
     /// A write failed with an error of that kind, which is WriteZero where it took no bytes.
     ghost failed: { Self → ErrorKind → Type 0 };
 
-    /// Takes some of the bytes, from the first on, and answers how many.
-    ///
-    /// # Errors
-    /// That of the write that failed.
+    /// Takes some of the bytes, from the first on, and answers how many. Errors: that of the write
+    /// that failed.
     fn put(&mut self, bytes: &[u8]) -> io::Result<usize>
         ensures bound { WritesAtMost result bytes.now }
         ensures bytes { WriteAppends (contents self.old) (contents self.new) result bytes.now }

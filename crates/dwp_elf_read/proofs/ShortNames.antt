@@ -1,22 +1,35 @@
--- Whether a text of a string table is one that is given, by as much of it as that is long.
-use Rattle.std.proofs.Common.{◌≡◌, ℕ, ◌<◌, ◌==◌, nat_lt, Bool, false, List, ◌∙◌, true, not, is_some}
-use Rattle.std.proofs.Common.{Option, None, Some, length, take, drop, position, refl, ap, sym, find}
-use Rattle.std.proofs.Common.{get_or, arith}
-use Rattle.std.proofs.lemmas.Bool.{eqb-true, lt-ltb, ltb-false, false_from_ne_true}
-use Rattle.std.proofs.lemmas.List.Quantifiers.{position-Some}
-use Rattle.std.specs.List.{position_or_len}
-use Rattle.std.specs.Option.{option_and_then}
-use Rattle.std.specs.Str.{is_utf8, bytes_eq}
+-- Texts in a string table: what `memchr` and `from_utf8` say of them, and whether one is a text
+-- that is given, by as much of it as that is long.
+use Rattle.std.proofs.Common.{Bool, false, get_or, List, None, Some, true, ℕ, ◌<◌, ◌==◌, ◌∙◌, ◌≡◌}
+use Rattle.std.proofs.Common.{is_some, MatchResult, nat_lt, Option, option_map, position, Result}
+use Rattle.std.proofs.Common.{ap, arith, drop, Err, find, length, not, Ok, refl, sym, take}
+use Rattle.std.proofs.lemmas.Bool.{eqb-true, false_from_ne_true, lt-ltb, ltb-false}
+use Rattle.std.proofs.{lemmas.List.Quantifiers.position-Some, lemmas.Slice.Eq.bytes_eq-Decides}
+use Rattle.std.specs.{List.position_or_len, Option.option_and_then, Result.result_ok}
+use Rattle.std.specs.Str.{bytes_eq, is_utf8, IsUtf8}
 use Rattle.std.proofs.lemmas.List.{drop_all, get_or-take, length-take-le}
 use Rattle.std.proofs.lemmas.List.Sums.{fails_before_first, position_or_len_is}
-use Rattle.std.proofs.lemmas.Slice.Eq.{bytes_eq-Decides}
 use Rattle.dwp_base.specs.Sections.{all_kinds, compressed_name_of, kind_named, name_of}
 use Rattle.dwp_base.specs.declared.section.SectionKind.{SectionKind}
-use Rattle.memchr.specs.Find.{IsFirstByte, is_byte}
-use Rattle.dwp_elf_read.proofs.Names.{position_first}
-use Rattle.dwp_elf_read.specs.Elf.{text_of, text_at, name_is, has_name}
-use Rattle.dwp_base.proofs.Bools.{by-bool}
-use Rattle.dwp_base.proofs.EveryKind.{every}
+use Rattle.memchr.specs.Find.{is_byte, IsFirstByte}
+use Rattle.dwp_elf_read.specs.Elf.{has_name, name_is, text_at, text_of}
+use Rattle.dwp_base.proofs.{Bools.by-bool, EveryKind.every, Finds.position_is}
+use Rattle.std.proofs.lemmas.Str.{is_utf8-from_IsUtf8, IsUtf8-from_is_utf8}
+
+-- what `from_utf8` answers, its error left out
+pub text_of_result : {T E : Type 0} (view : T → List ℕ) (F : E → Type 0) (bytes : List ℕ)
+    (r : Result T E) → MatchResult r (λ s. (view s ≡ bytes) × IsUtf8 bytes) (λ e. (¬ IsUtf8 bytes)
+    × F e) → option_map view (result_ok r) ≡ text_of bytes
+unfolding text_of
+text_of_result view F bytes (Ok s) h = rw (h.0, is_utf8-from_IsUtf8 bytes h.1) refl
+text_of_result view F bytes (Err e) h =
+    rw (false_from_ne_true (is_utf8 bytes) (λ e. h.0 (IsUtf8-from_is_utf8 bytes e))) refl
+
+pub text_at_first : (table rest : List ℕ) (place : ℕ) (r : Option ℕ) → rest ≡ drop place table
+    → IsFirstByte (is_byte 0) rest r → text_at table place ≡ option_and_then (λ n.
+    text_of (take n rest)) r
+unfolding text_at
+text_at_first table rest place r here h = rw (← here, position_is 0 rest r h) refl
 
 abbrev zero_byte : ℕ → Bool
 zero_byte b = b == 0
@@ -72,12 +85,8 @@ unlike_text bytes text (Some n) is other =
     by-bool _ (is_utf8 (take n bytes))
     (λ yes. rw yes (false_from_ne_true (bytes_eq (take n bytes) text) (λ same.
     let own : take n bytes ≡ text = (bytes_eq-Decides (take n bytes) text).0 same in
-    let size : n ≡ length text = omega (
-      arith,
-      length-take-le n bytes (omega (arith, found.0)),
-      ap
-          length own,
-    ) in
+    let taken = length-take-le n bytes (omega (arith, found.0)) in
+    let size : n ≡ length text = omega (arith, taken, ap length own) in
     other (rw (← size) own))))
     (λ no. rw no refl)
 
@@ -136,17 +145,10 @@ whole_text bytes text (Some n) is =
     → zero_byte (get_or text k 0) ≡ false) (is_utf8 (take n bytes))
     (λ yes. rw yes (λ named k below.
     let own : take n bytes ≡ text = (bytes_eq-Decides (take n bytes) text).0 named in
-    let size : length text ≡ n = omega (
-      arith,
-      length-take-le n bytes (omega (arith, found.0)),
-      ap
-          length own,
-    ) in
-    ap zero_byte (ap (λ it. get_or it k 0) (sym own) ∙ get_or-take n bytes k 0 (omega (
-      arith,
-      below,
-      size,
-    ))) ∙ found.2 k (omega (arith, below, size))))
+    let taken = length-take-le n bytes (omega (arith, found.0)) in
+    let size : length text ≡ n = omega (arith, taken, ap length own) in
+    let at : k < n = omega (arith, below, size) in
+    ap zero_byte (ap (λ it. get_or it k 0) (sym own) ∙ get_or-take n bytes k 0 at) ∙ found.2 k at))
     (λ no. rw no (λ named. absurd cc))
 
 pub with_zero : (table text : List ℕ) (place k : ℕ) → k < length text
@@ -163,7 +165,7 @@ pub without_zero : (table text own : List ℕ) (place : ℕ) (found : Option ℕ
     → (position zero_byte text ≡ None → stands ≡ name_is text (text_at table place))
     → none ≡ name_is text (text_at table place)
 without_zero table text own place None stands true same first is given exact =
-    sym given ∙ exact (ap (position zero_byte) (sym same) ∙ position_first own None first)
+    sym given ∙ exact (ap (position zero_byte) (sym same) ∙ position_is 0 own None first)
 without_zero table text own place None stands false same first is given exact = absurd cc
 without_zero table text own place (Some i) stands true same first is given exact = absurd cc
 without_zero table text own place (Some i) stands false same first is given exact =

@@ -32,12 +32,9 @@ impl<'a> ElfFile<'a> {
     ghost use Rattle.dwp_elf_read.specs.View.{elf, nth, section, file, sections_left};
     ghost use Rattle.dwp_elf_read.specs.View.{placed_sections, bytes_of, file_bytes};
 
-    /// The file that the bytes are.
-    ///
-    /// # Errors
-    /// The first error, in this order: `TooShort` below 16 bytes, `NotElf`, `TooShort` below a
-    /// header of the class, `ByteOrder`, `Version`, `SectionEntrySize`, `SectionTable` and
-    /// `NameTable`.
+    /// The file that the bytes are. Errors: the first error, in this order: `TooShort` below 16
+    /// bytes, `NotElf`, `TooShort` below a header of the class, `ByteOrder`, `Version`,
+    /// `SectionEntrySize`, `SectionTable` and `NameTable`.
     #[tactic(auto, unfolding(crate::specs::Elf::elf_of, crate::specs::Layout::file_header_of, crate::specs::View::elf, crate::specs::View::sections_after, crate::specs::View::bytes_of))]
     pub fn parse(bytes: &'a [u8]) -> Result<ElfFile<'a>, ReadError>
         ensures meaning { Answers elf result (elf_of bytes.now) }
@@ -100,7 +97,6 @@ impl<'a> ElfFile<'a> {
         self.count
     }
 
-    /// The section of a number.
     #[tactic(auto, unfolding(crate::specs::View::section, crate::specs::View::file, crate::specs::View::file_bytes))]
     pub(crate) fn section_at(&self, i: usize) -> Section<'a>
         requires { i < self.now.count }
@@ -160,9 +156,7 @@ impl<'a> ElfFile<'a> {
     }
 
     /// The value of symbol `i` of the symbol table with the number `table`. That of symbol 0 is 0.
-    ///
-    /// # Errors
-    /// `SymbolTable` where the section isn't a symbol table whose content lies in the file,
+    /// Errors: `SymbolTable` where the section isn't a symbol table whose content lies in the file,
     /// `SymbolIndex` where the table has no such symbol.
     #[tactic(auto, unfolding(crate::specs::Symbol::symbol_value_of, crate::specs::Symbol::symbols_of, crate::specs::Symbol::value_in, crate::specs::View::elf))]
     pub fn symbol_value(&self, table: u32, i: u32) -> Result<u64, ReadError>
@@ -171,15 +165,11 @@ impl<'a> ElfFile<'a> {
         if i == 0 {
             return Ok(0);
         }
-        let Some(table) = self.section(table as usize) else {
-            return Err(ReadError::SymbolTable);
-        };
+        let table = self.section(table as usize).ok_or(ReadError::SymbolTable)?;
         if table.kind() != SHT_SYMTAB {
             return Err(ReadError::SymbolTable);
         }
-        let Ok(content) = table.data() else {
-            return Err(ReadError::SymbolTable);
-        };
+        let content = table.data().map_err(|_| ReadError::SymbolTable)?;
         let (size, place) = match self.image.class {
             Class::Elf32 => (16, 4),
             Class::Elf64 => (24, 8),

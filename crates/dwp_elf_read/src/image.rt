@@ -1,14 +1,12 @@
 //! The numbers in the bytes of a file, its headers and those of its sections (ELF gABI, "Data
 //! Representation", "ELF Header" and "Section Header").
 
-ghost use Rattle.std.specs.Prelude.{◌≡◌, ◌+◌, ◌*◌, ◌^◌, ◌<◌, ◌≤◌, length, slice_range, option_map};
-ghost use Rattle.std.specs.Prelude.{IfOk, IfSome, OnOk};
-ghost use Rattle.std.specs.Option.{option_copied};
+ghost use Rattle.std.specs.Prelude.{length, option_map, slice_range, ◌*◌, ◌+◌, ◌<◌, ◌^◌, ◌≡◌, ◌≤◌};
+ghost use Rattle.dwp_elf_read.specs.Layout.{entry_size, number_at, section_header_of, word_size};
+ghost use Rattle.dwp_elf_read.specs.Elf.{section_content, section_count, section_header_at};
+ghost use Rattle.std.specs.{Option.option_copied, Prelude.IfOk, Prelude.IfSome, Prelude.OnOk};
 ghost use Rattle.dwp_base.specs.Reading.{Answers};
-ghost use Rattle.dwp_elf_read.specs.Layout.{word_size, entry_size, number_at};
-ghost use Rattle.dwp_elf_read.specs.Layout.{is_inside, section_header_of};
-ghost use Rattle.dwp_elf_read.specs.Elf.{section_header_at, section_content};
-ghost use Rattle.dwp_elf_read.specs.Elf.{section_count, name_table};
+ghost use Rattle.dwp_elf_read.specs.{Elf.name_table, Layout.is_inside};
 
 use crate::error::ReadError;
 use dwp_base::{Class, Endianness};
@@ -27,7 +25,6 @@ pub(crate) const SHT_NOBITS: u32 = 8;
 /// What is read of a file's header.
 #[derive(Clone, Copy)]
 pub(crate) struct FileHeader {
-    /// The machine that the file is for.
     pub machine: u16,
     /// Where the section headers begin; 0 where there are none.
     pub table: u64,
@@ -44,9 +41,7 @@ pub(crate) struct FileHeader {
 pub(crate) struct SectionHeader {
     /// Where the name stands in the name table.
     pub name: u32,
-    /// The section's type.
     pub kind: u32,
-    /// The section's flags.
     pub flags: u64,
     /// Where the section lies in the memory of a process; 0 where it doesn't.
     pub address: u64,
@@ -71,7 +66,6 @@ pub(crate) fn word_size_of(class: Class) -> usize
     }
 }
 
-/// The bytes of a section header.
 #[inline(always)]
 pub(crate) fn entry_size_of(class: Class) -> usize
     ensures { result ≡ entry_size class }
@@ -88,7 +82,8 @@ impl<'a> Image<'a> {
         ensures { result ≡ record {
           class = self.now.class;
           order = self.now.order;
-          bytes = bytes.entry;
+          bytes =
+              bytes.entry;
         } }
     {
         Image {
@@ -166,8 +161,7 @@ impl<'a> Image<'a> {
         ensures { result
             ≡ section_header_at self.now.class self.now.order self.now.bytes.now table i }
     {
-        let place = table + i * entry_size_of(self.class);
-        let bytes = self.bytes.split_at(place).1;
+        let bytes = self.bytes.split_at(table + i * entry_size_of(self.class)).1;
         // (what nearly all files have is known to the compiler: each number is one load)
         match (self.class, self.order) {
             (Class::Elf64, Endianness::Little) => Image {
@@ -185,16 +179,13 @@ impl<'a> Image<'a> {
     pub fn range(&self, header: &SectionHeader) -> Option<(u64, u64)>
         ensures content { option_map (λ range. slice_range self.now.bytes.now range.0
             (range.0 + range.1)) result ≡ section_content self.now.bytes.now header.now }
-        ensures inside { IfSome result (λ range.
-            range.0 + range.1 ≤ length self.now.bytes.now) }
+        ensures inside { IfSome result (λ range. range.0 + range.1 ≤ length self.now.bytes.now) }
     {
         if header.kind == SHT_NOBITS {
             return Some((0, 0));
         }
-        if !self.contains(header.offset, header.size) {
-            return None;
-        }
-        Some((header.offset, header.size))
+        self.contains(header.offset, header.size)
+            .then_some((header.offset, header.size))
     }
 
     /// The content of a section, if it lies in the file.

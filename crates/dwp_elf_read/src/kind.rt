@@ -20,11 +20,8 @@ pub enum FileKind {
 }
 
 impl FileKind {
-    /// The kind of the file that the bytes are, or begin.
-    ///
-    /// # Errors
-    /// `TooShort` below 16 bytes, and `NotElf` where the bytes are neither an archive nor an ELF
-    /// file.
+    /// The kind of the file that the bytes are, or begin. Errors: `TooShort` below 16 bytes, and
+    /// `NotElf` where the bytes are neither an archive nor an ELF file.
     #[tactic(auto, unfolding(crate::specs::Identification::kind_of))]
     pub fn parse(bytes: &[u8]) -> Result<FileKind, ReadError>
         ensures { Answers (λ kind. kind) result (kind_of bytes.now) }

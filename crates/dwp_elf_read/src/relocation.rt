@@ -31,15 +31,11 @@ pub struct RawRelocation {
     pub implicit_addend: bool,
 }
 
-/// The bytes of an entry.
 fn size_of_entry(class: Class, explicit: bool) -> usize
     ensures { result ≡ relocation_size class explicit }
 {
-    if explicit {
-        3 * word_size_of(class)
-    } else {
-        2 * word_size_of(class)
-    }
+    let word = word_size_of(class);
+    if explicit { 3 * word } else { 2 * word }
 }
 
 /// The entry at a place of a table.
@@ -52,11 +48,8 @@ fn entry_at(table: &Image, explicit: bool, link: u32, place: usize) -> RawReloca
     let word = word_size_of(table.class);
     let offset = table.word_at(place);
     let info = table.word_at(place + word);
-    let last = if explicit {
-        table.word_at(place + 2 * word)
-    } else {
-        0
-    };
+    let end = place + 2 * word;
+    let last = if explicit { table.word_at(end) } else { 0 };
     let (kind, symbol, addend) = match table.class {
         Class::Elf32 => (
             info % 0x100,
@@ -106,9 +99,7 @@ impl<'a> Table<'a> {
     {
         let explicit = table.kind() == SHT_RELA;
         let size = size_of_entry(file.image.class, explicit);
-        let Ok(content) = table.data() else {
-            return Err(ReadError::RelocationTable);
-        };
+        let content = table.data().map_err(|_| ReadError::RelocationTable)?;
         if content.len() % size != 0 {
             return Err(ReadError::RelocationTable);
         }
@@ -121,7 +112,6 @@ impl<'a> Table<'a> {
         })
     }
 
-    /// The next entry.
     #[tactic(auto, using(crate::proofs::Places::entries_more, crate::proofs::Places::entries_done))]
     fn next_entry(&mut self) -> Option<RawRelocation>
         ensures { YieldsFirstBy (λ entry. Ok entry) entries_left self.old result self.new }
@@ -147,18 +137,17 @@ impl<'a> Section<'a> {
         ensures { relocations_left result
             ≡ relocations_of (file self.now) (section self.now).number }
     {
-        let table = Table {
-            entries: self.file.image.with_bytes(&[]),
-            explicit: false,
-            link: 0,
-            next: 0,
-            count: 0,
-        };
         Relocations {
             file: self.file,
             target: self.number,
             section: 0,
-            table,
+            table: Table {
+                entries: self.file.image.with_bytes(&[]),
+                explicit: false,
+                link: 0,
+                next: 0,
+                count: 0,
+            },
         }
     }
 }

@@ -133,11 +133,8 @@ impl<'a> Section<'a> {
         self.flags() & SHF_COMPRESSED != 0
     }
 
-    /// The section's name.
-    ///
-    /// # Errors
-    /// `NameRange` where the file has no name table, the name lies outside of it, has no end or
-    /// isn't UTF-8.
+    /// The section's name. Errors: `NameRange` where the file has no name table, the name lies
+    /// outside of it, has no end or isn't UTF-8.
     pub fn name(&self) -> Result<&'a str, ReadError>
         ensures { Answers (λ name. name.now) result (ok_or (section self.now).name NameRange) }
     {
@@ -195,10 +192,8 @@ impl<'a> Section<'a> {
             .find(|kind| self.is_of(*kind))
     }
 
-    /// The section's content; empty for a section without bytes in the file.
-    ///
-    /// # Errors
-    /// `SectionRange` where it lies outside the file.
+    /// The section's content; empty for a section without bytes in the file. Errors: `SectionRange`
+    /// where it lies outside the file.
     pub fn data(&self) -> Result<&'a [u8], ReadError>
         ensures { Answers (λ bytes. bytes.now) result
             (ok_or (section self.now).content SectionRange) }
@@ -215,8 +210,7 @@ impl<'a> Section<'a> {
     pub fn file_range(&self) -> Option<(u64, u64)>
         ensures content { option_map (λ range. slice_range (file_bytes self.now) range.0
             (range.0 + range.1)) result ≡ (section self.now).content }
-        ensures inside { IfSome result (λ range.
-            range.0 + range.1 ≤ length (file_bytes self.now)) }
+        ensures inside { IfSome result (λ range. range.0 + range.1 ≤ length (file_bytes self.now)) }
     {
         self.file.image.range(&self.header)
     }

@@ -1,10 +1,8 @@
 use Rattle.dwp_elf.proofs.Terms
 use Terms.{List, ap, arith, common_steps, contents_of, refl, sym, truncated, ℕ, ◌∙◌, ◌≡◌}
-use Rattle.dwp_elf.specs.Object.{object_of}
-use Rattle.dwp_elf.specs.declared.object.WritableObject.TheInside.{Inside}
-use Rattle.dwp_elf.proofs.Changes.{cut_more, cut_all, length-contents_of, truncated-contents_of}
-use Rattle.dwp_elf.proofs.Growth.{truncated-begins}
-use Rattle.dwp_elf.proofs.KindCounts.{KindsDiffer-truncated}
+use Rattle.dwp_elf.specs.{declared.object.WritableObject.TheInside.Inside, Object.object_of}
+use Rattle.dwp_elf.proofs.Changes.{cut_all, cut_more, length-contents_of, truncated-contents_of}
+use Rattle.dwp_elf.proofs.{Growth.truncated-begins, KindCounts.KindsDiffer-truncated}
 use Rattle.dwp_elf.proofs.object.WritableObject.truncate.Goals as goal
 
 -- all but the contents is as it was
@@ -25,20 +23,17 @@ invariant_of-self c =
     grind (arith, common_steps, length-contents_of, cut_all, truncated-contents_of) in
     rw is (KindsDiffer-truncated _ _ c.self.invariant)
 
-pub returns-clause-taken_back : goal.returns-clause-taken_back
-returns-clause-taken_back c before grown same =
+pub returns : goal.returns
+returns c =
     let is : contents_of c.loop-number.self-inside.sections.items ≡ truncated
     (contents_of c.self.inside.sections.items) c.args.sizes.now =
     grind (arith, common_steps, length-contents_of, cut_all, truncated-contents_of) in
-    let inside = rw (sym c.self.view_is) at grown in
-    let cut = truncated-begins before.contents _ inside.contents in
-    cut_object c.self.inside c.loop-number.self-inside _ c.loop-number.invariant.others is
-    ∙ rw (same, cut, inside.class, inside.machine, inside.order) refl
-
-pub returns-clause-cut : goal.returns-clause-cut
-returns-clause-cut c =
-    let is : contents_of c.loop-number.self-inside.sections.items ≡ truncated
-    (contents_of c.self.inside.sections.items) c.args.sizes.now =
-    grind (arith, common_steps, length-contents_of, cut_all, truncated-contents_of) in
-    rw (sym c.self.view_is) (cut_object c.self.inside c.loop-number.self-inside _
-    c.loop-number.invariant.others is)
+    let whole = cut_object c.self.inside c.loop-number.self-inside _
+    c.loop-number.invariant.others is in
+    record {
+      cut = rw (sym c.self.view_is) whole;
+      taken_back = λ before grown same.
+          let inside = rw (sym c.self.view_is) at grown in
+          let begins = truncated-begins before.contents _ inside.contents in
+          whole ∙ rw (same, begins, inside.class, inside.machine, inside.order) refl;
+    }
