@@ -1,23 +1,18 @@
 -- Sections that are compared.
-use Rattle.std.proofs.Common.{◌≡◌, ℕ, ◌+◌, ◌<◌, ◌≤◌, true, false, List, ◌++◌, length, take, drop}
-use Rattle.std.proofs.Common.{get_or, Some, Option, Ok, Err, sym, ap, ◌∙◌, refl, [], ◌∷◌, Result}
-use Rattle.std.proofs.Common.{append_assoc, append-nil, slice_get, option_map, codes}
-use Rattle.std.proofs.Common.{take-append-drop, ap₂}
+use Rattle.std.proofs.Common.{false, length, List, true, [], ℕ, ◌++◌, ◌+◌, ◌<◌, ◌∙◌, ◌∷◌, ◌≡◌, ◌≤◌}
+use Rattle.std.proofs.Common.{append-nil, append_assoc, Ok, option_map, slice_get, take-append-drop}
+use Rattle.std.proofs.Common.{codes, drop, Err, get_or, Option, refl, Result, Some, sym, take}
+use Rattle.std.proofs.lemmas.Option.{get_or_from_slice_get, slice_get_read, slice_get_within}
+use Rattle.dwp_decompress.specs.Result.{plain_contents, result_section, result_sections}
+use Rattle.dwp_base.specs.Reading.{◌>>=◌}
+use Rattle.std.proofs.{Common.ap, Common.ap₂, lemmas.Option.slice_get-map}
 use Rattle.std.specs.Global.{Vec}
 use Rattle.std.proofs.lemmas.List.{drop_all, drop_more, map-append}
-use Rattle.std.proofs.lemmas.Option.{slice_get-map, slice_get_read, slice_get_within}
-use Rattle.std.proofs.lemmas.Option.{get_or_from_slice_get}
 use Rattle.dwp_elf_read.specs.Elf.{SectionMeaning}
-use Rattle.dwp_decompress.specs.declared.asked.Asked.{Asked}
-use Rattle.dwp_decompress.specs.Names.{plain_name, added_name_of, added_names}
-use Rattle.dwp_decompress.specs.Compressed.{is_older}
-use Rattle.dwp_decompress.specs.Result.{result_section, result_sections, plain_contents}
-use Rattle.dwp_decompress.specs.Result.{contents_of}
-use Rattle.dwp_base.specs.Reading.{◌>>=◌}
-use Rattle.dwp_base.specs.declared.class.Class.{Class}
-use Rattle.dwp_base.specs.declared.endian.Endianness.{Endianness}
-use Rattle.dwp_decompress.specs.declared.error.DecompressError.{DecompressError}
-use Rattle.dwp_decompress.specs.Headers.{content_of}
+use Rattle.dwp_decompress.specs.{declared.error.DecompressError.DecompressError, Result.contents_of}
+use Rattle.dwp_decompress.specs.{declared.asked.Asked.Asked, Names.added_name_of, Names.added_names}
+use Rattle.dwp_decompress.specs.{Compressed.is_older, Headers.content_of, Names.plain_name}
+use Rattle.dwp_base.specs.{declared.class.Class.Class, declared.endian.Endianness.Endianness}
 
 -- ---- sections taken one after the other
 pub drop_step : {X : Type 0} (xs : List X) (i : ℕ) (x : X) → slice_get xs i ≡ Some x
@@ -47,8 +42,7 @@ module _ (asked : Asked) (class : Class) (order : Endianness) (sections : List S
   pub contents_step : (section : SectionMeaning) (content : Option (List ℕ))
       → slice_get sections i ≡ Some section → content_of asked class order section ≡ Ok content
       → behind front (contents_of asked class order (drop i sections)) ≡ behind
-      (front ++ content ∷ [])
-      (contents_of asked class order (drop (i + 1) sections))
+      (front ++ content ∷ []) (contents_of asked class order (drop (i + 1) sections))
   unfolding contents_of
   contents_step section content at is = rw (drop_step sections i section at, is)
       (one_more front content (contents_of asked class order (drop (i + 1) sections)))
@@ -65,13 +59,14 @@ module _ (asked : Asked) (class : Class) (order : Endianness) (sections : List S
   contents_end h = rw (drop_all i sections h, append-nil front) refl
 
 -- names that are added
-pub names_step : (asked : Asked) (sections : List SectionMeaning) (i : ℕ) (front : List ℕ)
+pub names_step : (asked : Asked) (sections : List SectionMeaning) (i : ℕ) (front more : List ℕ)
     (section : SectionMeaning) → slice_get sections i ≡ Some section
-    → front ++ added_names asked (drop i sections)
-    ≡ (front ++ added_name_of asked section) ++ added_names asked (drop (i + 1) sections)
+    → more ≡ front ++ added_name_of asked section
+    → more ++ added_names asked (drop (i + 1) sections)
+    ≡ front ++ added_names asked (drop i sections)
 unfolding added_names
-names_step asked sections i front section at = rw (drop_step sections i section at) (sym
-    (append_assoc front (added_name_of asked section) (added_names asked (drop (i + 1) sections))))
+names_step asked sections i front more section at is = rw (drop_step sections i section at, is)
+    (append_assoc front (added_name_of asked section) (added_names asked (drop (i + 1) sections)))
 
 pub names_end : (asked : Asked) (sections : List SectionMeaning) (i : ℕ) (front : List ℕ)
     → length sections ≤ i → front ++ added_names asked (drop i sections) ≡ front
@@ -80,8 +75,7 @@ names_end asked sections i front h = rw (drop_all i sections h, append-nil front
 
 -- one content more
 pub plain_more : (contents old : List (Option (Vec ℕ))) (content : Option (Vec ℕ))
-    → contents ≡ old ++ content ∷ []
-    → plain_contents contents
+    → contents ≡ old ++ content ∷ [] → plain_contents contents
     ≡ plain_contents old ++ option_map (λ (plain : Vec ℕ). plain.items) content ∷ []
 plain_more contents old content e =
     rw e (map-append (option_map (λ (plain : Vec ℕ). plain.items)) old (content ∷ []))

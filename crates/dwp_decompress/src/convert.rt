@@ -1,17 +1,14 @@
 //! From a file with compressed sections to one with plain ones.
 
-ghost use Rattle.std.specs.Prelude.{◌≡◌, option_map, Ok, Err, ◌≢◌, IsTrue, IfOk, IfErr};
+ghost use Rattle.std.specs.Prelude.{Err, IfErr, IfOk, IsTrue, Ok, option_map, ◌≡◌, ◌≢◌};
 ghost use Rattle.std.specs.Prelude.{length as length_of_list};
-ghost use Rattle.dwp_elf_read.specs.Elf.{elf_of};
-ghost use Rattle.dwp_elf_read.specs.View.{elf};
-ghost use Rattle.dwp_decompress.specs.Agreement.{expected_file};
-ghost use Rattle.dwp_decompress.specs.Answers.{GivesFile};
-ghost use Rattle.dwp_decompress.specs.Compressed.{HasCompressed};
-ghost use Rattle.dwp_decompress.specs.Result.{plain_file, decompressed_of, plain_length_of};
-ghost use Rattle.dwp_decompress.specs.Headers.{told_sizes};
-ghost use Rattle.dwp_decompress.specs.Sizes.{length_of, sum_tells_more, tells_too_much};
 ghost use Rattle.dwp_decompress.specs.declared.error.DecompressError.TheVariants.{Unrepresentable};
 ghost use Rattle.dwp_decompress.specs.declared.error.DecompressError.TheVariants.{Memory};
+ghost use Rattle.dwp_elf_read.specs.{Elf.elf_of, View.elf};
+ghost use Rattle.dwp_decompress.specs.{Agreement.expected_file, Compressed.HasCompressed};
+ghost use Rattle.dwp_decompress.specs.{Answers.GivesFile, Headers.told_sizes};
+ghost use Rattle.dwp_decompress.specs.Result.{decompressed_of, plain_file, plain_length_of};
+ghost use Rattle.dwp_decompress.specs.Sizes.{length_of, sum_tells_more, tells_too_much};
 
 use crate::agree::Expected;
 use crate::asked::{Asked, has_compressed};
@@ -22,8 +19,7 @@ use crate::stream::contents;
 use dwp_elf_read::ElfFile;
 use std::alloc::Global;
 
-/// The file with these contents, which is to have so many bytes. It is read again, and refused
-/// where it means anything else.
+/// The file with these contents. It is read again, and refused where it means anything else.
 fn written(
     alloc: Global,
     length: u64,
@@ -83,17 +79,15 @@ fn with_plain(
 /// A section is compressed if its flags have `SHF_COMPRESSED`, or its name begins with `.zdebug_`.
 /// It gets its plain content, the name `.debug_X` for `.zdebug_X`, and loses the flag. All else
 /// stays as the ELF reader tells it, but that the table of names grows by the new names. The file
-/// has as many bytes as `plain_length` says.
-///
-/// # Errors
-/// `Read` where the file can't be read, or a compressed section lies outside of it; then, for the
-/// first section that has an error, `Header`, `UnknownType`, or `Zlib` or `Zstd` where its stream
-/// cannot write as many bytes as are told; then `Zlib` or `Zstd` for the first other stream that is
-/// damaged; `Unrepresentable` where the result's numbers don't fit the class, or the table of names
-/// is itself compressed, where all sections and their names have more than 16 times the bytes of
-/// the file, or where more is told than zlib could write (`plain_length`); and `Memory`. The result
-/// is read again and compared before it is given: where it were to mean anything else, the answer
-/// would be `Unrepresentable` too.
+/// has as many bytes as `plain_length` says. Errors: `Read` where the file can't be read, or a
+/// compressed section lies outside of it; then, for the first section that has an error, `Header`,
+/// `UnknownType`, or `Zlib` or `Zstd` where its stream cannot write as many bytes as are told; then
+/// `Zlib` or `Zstd` for the first other stream that is damaged; `Unrepresentable` where the
+/// result's numbers don't fit the class, or the table of names is itself compressed, where all
+/// sections and their names have more than 16 times the bytes of the file, or where more is told
+/// than zlib could write (`plain_length`); and `Memory`. The result is read again and compared
+/// before it is given: where it were to mean anything else, the answer would be `Unrepresentable`
+/// too.
 #[tactic(auto, unfolding(crate::specs::Result::decompressed_of, crate::specs::Result::plain_length_of), using(crate::proofs::Limit::nothing_more))]
 pub fn decompressed(
     alloc: Global,

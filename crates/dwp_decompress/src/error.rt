@@ -8,43 +8,34 @@ use dwp_elf_read::ReadError;
 use dwp_inflate::InflateError;
 use dwp_zstd::ZstdError;
 use std::alloc::{AllocError, AllocFailed};
-use std::fmt;
+use thiserror::Error;
 
 /// Why a file can't be decompressed.
-#[derive(Clone, Copy, Debug, PartialEq, Eq, Hash)]
+#[derive(Clone, Copy, Debug, PartialEq, Eq, Hash, Error)]
 pub enum DecompressError {
     /// The file isn't ELF, or a compressed section lies outside of it.
+    #[error("File can't be read")]
     Read(ReadError),
     /// A compressed section is shorter than its header, or lacks the older header's `ZLIB`.
+    #[error("Bad header of a compressed section")]
     Header,
     /// A section is compressed in a way that isn't known.
+    #[error("Unknown type of compression")]
     UnknownType(u32),
     /// A section's stream of zlib's is damaged, or isn't of the size that was said.
+    #[error("Section compressed by zlib can't be read")]
     Zlib(InflateError),
     /// A section's stream of zstd's is damaged, or isn't of the size that was said.
+    #[error("Section compressed by zstd can't be read")]
     Zstd(ZstdError),
     /// No file of the class has this content: it is too large, or the section with the sections'
     /// names is itself compressed.
+    #[error("Decompressed file can't be written")]
     Unrepresentable,
     /// Memory ran out.
+    #[error("Out of memory")]
     Memory,
 }
-
-impl fmt::Display for DecompressError {
-    fn fmt<W: fmt::Write>(&self, f: &mut fmt::Formatter<W>) -> fmt::Result {
-        f.write_str(match self {
-            DecompressError::Read(_) => "File can't be read",
-            DecompressError::Header => "Bad header of a compressed section",
-            DecompressError::UnknownType(_) => "Unknown type of compression",
-            DecompressError::Zlib(_) => "Section compressed by zlib can't be read",
-            DecompressError::Zstd(_) => "Section compressed by zstd can't be read",
-            DecompressError::Unrepresentable => "Decompressed file can't be written",
-            DecompressError::Memory => "Out of memory",
-        })
-    }
-}
-
-impl std::error::Error for DecompressError {}
 
 impl From<AllocError> for DecompressError {
     ghost from_gives = { λ _ error. error ≡ Memory };

@@ -1,20 +1,16 @@
 //! How many bytes a file has once its sections are plain, which names its table gets, and how many
 //! bytes its compressed sections have before.
 
-ghost use Rattle.std.specs.Prelude.{◌≡◌, ◌+◌, ◌++◌, ℕ, Ok, Err, false, length, slice_get, nat_lt};
-ghost use Rattle.std.specs.Prelude.{IfSome, IfOk, OnOk, IfErr, IsTrue};
-ghost use Rattle.dwp_elf_read.specs.Elf.{elf_of};
 ghost use Rattle.dwp_elf_read.specs.View as view;
-ghost use Rattle.dwp_elf_read.specs.View.{elf};
-ghost use Rattle.dwp_decompress.specs.Answers.{GivesFile};
-ghost use Rattle.dwp_decompress.specs.Compressed.{HasCompressed};
-ghost use Rattle.dwp_decompress.specs.Headers.{told_sizes};
+ghost use Rattle.std.specs.Prelude.{Err, false, length, nat_lt, Ok, slice_get, ℕ, ◌++◌, ◌+◌, ◌≡◌};
+ghost use Rattle.std.specs.Prelude.{IfErr, IfOk, IfSome, IsTrue, OnOk};
+ghost use Rattle.dwp_decompress.specs.Sizes.{length_of, length_with, overlaps, size_of, tells_more};
+ghost use Rattle.dwp_decompress.specs.Sizes.{compressed_size, sum_tells_more, tells_too_much};
+ghost use Rattle.dwp_elf_read.specs.{Elf.elf_of, View.elf};
+ghost use Rattle.dwp_decompress.specs.{Compressed.HasCompressed, Result.plain_length_of};
+ghost use Rattle.dwp_decompress.specs.{Answers.GivesFile, Headers.told_sizes, Sizes.size_in};
 ghost use Rattle.dwp_decompress.specs.Names.{added_name_of, added_names, names_number};
-ghost use Rattle.dwp_decompress.specs.Result.{plain_length_of};
 ghost use Rattle.dwp_decompress.specs.declared.error.DecompressError.TheVariants.{Unrepresentable};
-ghost use Rattle.dwp_decompress.specs.Sizes.{size_of, length_with, length_of, size_in};
-ghost use Rattle.dwp_decompress.specs.Sizes.{compressed_size, overlaps, tells_more, sum_tells_more};
-ghost use Rattle.dwp_decompress.specs.Sizes.{tells_too_much};
 
 use crate::asked::{Asked, has_compressed, is_compressed, is_older};
 use crate::error::DecompressError;
@@ -27,8 +23,7 @@ use std::alloc::{AllocError, Global};
 /// is read, and compared with what is written.
 const MOST_TIMES: u64 = 16;
 
-/// How many bytes a byte of a file, or of its compressed sections, may bring: as many as zlib
-/// writes at most.
+/// How many bytes a byte of a file, or of its compressed sections, may bring: the most of zlib.
 const MOST_WRITTEN: u64 = 1032;
 
 /// The number of the section that has the names.
@@ -48,7 +43,7 @@ pub fn names_number(bytes: &[u8], file: &ElfFile<'_>) -> Option<usize>
 }
 
 /// Adds the plain name of a section, if that is asked for, compressed, and has an older name.
-#[tactic(auto, unfolding(crate::specs::Names::added_name_of, crate::specs::Names::plain_name))]
+#[tactic(auto, unfolding(crate::specs::Names::added_name_of, crate::specs::Names::plain_name), using(crate::proofs::Sums::older_long))]
 fn add_name_of(asked: Asked, section: &Section<'_>, added: &mut Vec<u8>) -> Result<(), AllocError>
     ensures { OnOk result (added.new.items
         ≡ added.old.items ++ added_name_of asked (view.section section.now)) }
@@ -64,6 +59,7 @@ fn add_name_of(asked: Asked, section: &Section<'_>, added: &mut Vec<u8>) -> Resu
 }
 
 /// The names that the table gets.
+#[tactic(auto, using(crate::proofs::Sections::names_step, crate::proofs::Sections::names_end, dwp_base::proofs::Finds::slice_get_none))]
 pub fn added_names(alloc: Global, asked: Asked, file: &ElfFile<'_>) -> Result<Vec<u8>, AllocError>
     ensures { IfOk result (λ added. added.items ≡ added_names asked (elf file.now).sections) }
 {
@@ -91,8 +87,7 @@ fn reads_more(file: &ElfFile<'_>, table: u64, most: u64) -> bool {
     false
 }
 
-/// How many bytes the plain contents of all sections are said to have together, of a file of that
-/// class and byte order.
+/// How many bytes the plain contents of all sections are said to have together.
 fn told_sizes(
     asked: Asked,
     class: Class,
@@ -120,19 +115,16 @@ fn told_sizes(
 fn added_size(asked: Asked, section: &Section<'_>) -> usize
     ensures { result ≡ length (added_name_of asked (view.section section.now)) }
 {
-    if !is_compressed(asked, section) {
-        return 0;
-    }
     match section.name() {
-        Ok(name) if is_older(name) => name.len(),
+        Ok(name) if is_older(name) && is_compressed(asked, section) => name.len(),
         _ => 0,
     }
 }
 
 /// How many it gets for all of them.
+#[tactic(auto, using(crate::proofs::Sums::added_step, crate::proofs::Sums::added_end))]
 fn added_sizes(asked: Asked, file: &ElfFile<'_>) -> Option<u64>
-    ensures { IfSome result (λ size. size
-        ≡ length (added_names asked (elf file.now).sections)) }
+    ensures { IfSome result (λ size. size ≡ length (added_names asked (elf file.now).sections)) }
 {
     let mut added = 0u64;
     for i in 0..file.section_count() {
@@ -155,19 +147,15 @@ pub fn size_of(file: &ElfFile<'_>, number: usize) -> u64
 fn tells_more(asked: Asked, bytes: &[u8], file: &ElfFile<'_>, told: u64) -> bool
     ensures { result ≡ tells_more asked bytes.now (elf file.now) told }
 {
-    if told <= (bytes.len() as u64).saturating_mul(MOST_WRITTEN) {
-        return false;
-    }
-    !have_more(asked, file, (told - 1) / MOST_WRITTEN)
+    told > (bytes.len() as u64).saturating_mul(MOST_WRITTEN)
+        && !have_more(asked, file, (told - 1) / MOST_WRITTEN)
 }
 
 /// How many bytes the file has once there are so many plain ones.
 #[tactic(auto, unfolding(crate::specs::Sizes::length_with))]
 fn length_with(asked: Asked, bytes: &[u8], file: &ElfFile<'_>, told: u64) -> Option<u64>
-    ensures size { IfSome result (λ size. size
-        ≡ length_with asked bytes.now (elf file.now) told) }
-    ensures limit { IfSome result (λ _. tells_more asked bytes.now (elf file.now) told
-        ≡ false) }
+    ensures size { IfSome result (λ size. size ≡ length_with asked bytes.now (elf file.now) told) }
+    ensures limit { IfSome result (λ _. tells_more asked bytes.now (elf file.now) told ≡ false) }
 {
     let table = size_of(file, names_number(bytes, file)?);
     let most = (bytes.len() as u64).saturating_mul(MOST_TIMES);
@@ -201,13 +189,11 @@ pub(crate) fn length(asked: Asked, bytes: &[u8], file: &ElfFile<'_>) -> Result<u
 }
 
 /// How many bytes `decompressed` gives, by what the headers say: no stream is read, and no memory
-/// is taken. `None` where no section that is asked for is compressed.
-///
-/// # Errors
-/// `Read`, `Header`, `UnknownType`, `Zlib` or `Zstd` where a stream cannot write as many bytes as
-/// are told, and `Unrepresentable`, as of `decompressed`: so where more than 1,032 bytes are told
-/// for each byte of the file, or of its compressed sections if these have more. Streams of zstd
-/// could write 32 times as many.
+/// is taken. `None` where no section that is asked for is compressed. Errors: `Read`, `Header`,
+/// `UnknownType`, `Zlib` or `Zstd` where a stream cannot write as many bytes as are told, and
+/// `Unrepresentable`, as of `decompressed`: so where more than 1,032 bytes are told for each byte
+/// of the file, or of its compressed sections if these have more. Streams of zstd could write 32
+/// times as many.
 #[tactic(auto, unfolding(crate::specs::Result::plain_length_of), using(crate::proofs::Limit::nothing_more))]
 pub fn plain_length(bytes: &[u8], asked: Asked) -> Result<Option<u64>, DecompressError>
     ensures length { GivesFile (λ size. size) result (plain_length_of asked bytes.now) }

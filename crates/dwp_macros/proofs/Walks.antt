@@ -1,14 +1,11 @@
 -- Sections taken one after the other, from the last.
-use Rattle.std.proofs.Common.{◌≡◌, ℕ, ◌+◌, ◌≤◌, Bool, false, ◌||◌, ◌&&◌, List, [], ◌∷◌, length}
-use Rattle.std.proofs.Common.{drop}
-use Rattle.std.proofs.lemmas.Bool.{and_right}
-use Rattle.std.proofs.Common.{Some, refl, ap, ◌∙◌, slice_get, if◌then◌else◌}
+use Rattle.std.proofs.Common.{Bool, List, [], if◌then◌else◌, ℕ, ◌&&◌, ◌+◌, ◌||◌, ◌∙◌, ◌∷◌, ◌≡◌, ◌≤◌}
+use Rattle.std.proofs.Common.{ap, drop, false, length, refl, slice_get, Some}
+use Rattle.std.proofs.{lemmas.Bool.and_right, lemmas.List.drop_all, lemmas.List.drop_more}
 use Rattle.std.specs.List.{list_any}
-use Rattle.std.proofs.lemmas.List.{drop_all, drop_more}
-use Rattle.std.proofs.lemmas.Option.{slice_get_within, get_or_from_slice_get}
+use Rattle.std.proofs.lemmas.Option.{get_or_from_slice_get, slice_get_within}
 use Rattle.dwp_elf_read.specs.Elf.{SectionMeaning}
-use Rattle.dwp_macros.specs.Kept.{has_macros, go, emptied, kept_section, kept_sections}
-use Rattle.dwp_macros.specs.Kept.{lose}
+use Rattle.dwp_macros.specs.Kept.{emptied, go, has_macros, kept_section, kept_sections, lose}
 use Rattle.dwp_macros.specs.declared.kept.KeptMacros.{KeptMacros}
 use Rattle.dwp_macros.specs.declared.kept.KeptMacros.TheVariants.{All}
 
@@ -26,8 +23,7 @@ pub any_step : {X : Type 0} (p : X → Bool) (xs : List X) (i j : ℕ) (x : X) (
 any_step p xs i j x here behind n e h b = rw (h, b, drop_step xs i j x n e) refl
 
 module _ (kept : KeptMacros) (xs : List SectionMeaning) (i j : ℕ)
-    (x : SectionMeaning) (behind : Bool)
-    (next : j ≡ i + 1) (at : slice_get xs i ≡ Some x)
+    (x : SectionMeaning) (behind : Bool) (next : j ≡ i + 1) (at : slice_get xs i ≡ Some x)
     (more : behind ≡ list_any has_macros (drop j xs)) where
   pub lose_step : (some here goes : Bool) → some ≡ lose kept (drop j xs)
       → here ≡ has_macros x → goes ≡ go kept behind
@@ -36,8 +32,7 @@ module _ (kept : KeptMacros) (xs : List SectionMeaning) (i j : ℕ)
   lose_step some here goes s h g = rw (s, h, g, more, drop_step xs i j x next at) refl
 
   pub kept_step : (ys : List SectionMeaning) (y : SectionMeaning) → slice_get ys i ≡ Some y
-      → (goes : Bool) → goes ≡ go kept behind
-      → y ≡ (if has_macros x && goes then emptied x else x)
+      → (goes : Bool) → goes ≡ go kept behind → y ≡ (if has_macros x && goes then emptied x else x)
       → drop j ys ≡ kept_sections kept (drop j xs) → drop i ys ≡ kept_sections kept (drop i xs)
   unfolding kept_sections kept_section
   kept_step ys y is goes g e rest =

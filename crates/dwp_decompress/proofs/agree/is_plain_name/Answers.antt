@@ -11,5 +11,4 @@ returns-then-is_older c t =
 
 pub returns-else-is_older : goal.returns-else-is_older
 returns-else-is_older c t =
-    kept c.args.old.now c.args.new.now (sym c.is_older.ensures ∙ c.if-is_older.false)
-    (search rules)
+    kept c.args.old.now c.args.new.now (sym c.is_older.ensures ∙ c.if-is_older.false) (search rules)

@@ -1,18 +1,7 @@
-use Rattle.std.proofs.Common.{◌≡◌, ◌+◌, ◌-◌, sym, ap, ◌∙◌, arith, option_map}
+use Rattle.std.proofs.Common.{ap, arith, option_map, sym, ◌+◌, ◌-◌, ◌∙◌, ◌≡◌}
 use Rattle.dwp_elf_read.specs.View.{elf, section}
-use Rattle.dwp_macros.specs.Kept.{has_macros}
-use Rattle.dwp_macros.proofs.Walks.{any_step, any_end, kept_step, kept_end}
+use Rattle.dwp_macros.{proofs.Walks.any_step, proofs.Walks.kept_step, specs.Kept.has_macros}
 use Rattle.dwp_macros.proofs.kept.agrees.Goals as goal
-
-pub loop-left-init : goal.loop-left-init
-loop-left-init c =
-    let count = c.section_count-left.result in
-    record {
-      inside = omega arith;
-      more = any_end has_macros (elf c.args.old.now).sections count (omega arith);
-      agree = kept_end c.args.kept (elf c.args.old.now).sections (elf c.args.new.now).sections count
-          (omega arith) (omega arith);
-    }
 
 pub loop-left-preserved : goal.loop-left-preserved
 loop-left-preserved c =
@@ -31,6 +20,5 @@ loop-left-preserved c =
       inside = omega arith;
       more = any_step has_macros xs i j x _ _ next at c.has_macros-has_more.ensures more;
       agree = kept_step c.args.kept xs i j x _ next at more ys y is _ c.go.ensures
-          (c.is_kept.ensures c.if-not-is_kept.false)
-          c.loop-left.invariant.agree;
+          (c.is_kept.ensures c.if-not-is_kept.false) c.loop-left.invariant.agree;
     }
