@@ -6,19 +6,18 @@ use Terms.{declaration_at, eq-eqb, eqb, eqb-false, eqb-true, Err, false, Goes, I
 use Terms.{leb_at, length, List, ne_eqb, next_at, None, Ok, Option, pairs_in, past_specifications}
 use Terms.{ReadError, refl, Result, Some, Specification, subst, suc, sym, take, uleb_at}
 use Terms.{UnexpectedEof, zero, ℕ, ◌↔◌, ◌∙◌, ◌∷◌, ◌≡◌, ◌≢◌}
-use Rattle.dwp_dwarf.specs.Abbreviations.{constant_at, specification_at, specifications_within}
-use Rattle.dwp_dwarf.specs.Abbreviations.{specifications_at, is_last, tag_at, children_at}
+use Rattle.dwp_dwarf.specs.Abbreviations.{constant_at, is_last, specification_at, specifications_at}
+use Rattle.dwp_dwarf.specs.Abbreviations.{declaration_within, pairs_within, specifications_within}
+use Rattle.dwp_dwarf.specs.Abbreviations.{children_at, pairs_from, tag_at}
+use Rattle.dwp_units.proofs.Readings.{bind-bind, error_gives, goes_length, value_gives, value_reads}
+use Rattle.dwp_units.proofs.Readings.{bind-cond, goes_none, reads_sleb, takes_then, told_there, was}
+use Rattle.dwp_units.proofs.Readings.{Answer, by-result, by_step, Gives, goes_some, shorter, Steps}
+use Rattle.dwp_units.proofs.Readings.{bind_alike, error_reads, more_gives, test_gives, then_gives}
+use Rattle.dwp_units.proofs.Readings.{reads_byte, reads_uleb, some_reads, test_reads, then_reads}
+use Rattle.dwp_units.proofs.Readings.{goes, Reads, size, Takes}
 use Rattle.dwp_units.specs.AbbreviationCodes.{code_at}
-use Rattle.dwp_dwarf.specs.Abbreviations.{pairs_from, pairs_within, declaration_within}
 use Rattle.dwp_dwarf.specs.Grammar.{DeclarationsLie, IsBehindOthers}
-use Rattle.dwp_units.proofs.Readings.{Steps, by_step, Answer, Gives, then_gives, value_gives}
-use Rattle.dwp_units.proofs.Readings.{error_gives, test_gives, more_gives, was, bind_alike}
-use Rattle.dwp_units.proofs.Readings.{bind-bind, bind-cond, size, goes_none, goes_some, goes_length}
-use Rattle.dwp_units.proofs.Readings.{Reads, then_reads, value_reads, error_reads, test_reads}
-use Rattle.dwp_units.proofs.Readings.{some_reads, reads_byte, reads_uleb, reads_sleb, shorter}
-use Rattle.dwp_units.proofs.Readings.{takes_then, Takes, goes, by-result, told_there}
-use Rattle.std.proofs.Common.{slice_index}
-use Rattle.std.specs.List.{AllByRecursion}
+use Rattle.std.{proofs.Common.slice_index, specs.List.AllByRecursion}
 
 -- a byte below 128 is a number
 pub one_byte : (i new : Input) (b : ℕ) → byte_at i ≡ Ok (b, new) → slice_index i.bytes 0 < 128
@@ -104,10 +103,9 @@ pairs_are : (n : ℕ) (i : Input)
     → Gives (List Specification × Input) (specifications_within n i) (λ p. pairs_within n i ≡ p.0)
 unfolding specifications_within pairs_within
 pairs_are zero i = error_gives
-pairs_are (suc n) i = then_gives (was (specification_at i)) (λ first is. test_gives
-    (is_last first.0) (λ last. value_gives (rw (is, last) refl))
-    (λ other. then_gives (pairs_are n first.1) (λ rest same.
-    value_gives (rw (is, other, same) refl))))
+pairs_are (suc n) i = then_gives (was (specification_at i))
+    (λ first is. test_gives (is_last first.0) (λ last. value_gives (rw (is, last) refl)) (λ other.
+    then_gives (pairs_are n first.1) (λ rest same. value_gives (rw (is, other, same) refl))))
 
 pub list_pairs : (i : Input)
     → Gives (List Specification × Input) (specifications_at i) (λ p. pairs_in i ≡ p.0)
@@ -126,14 +124,11 @@ list_takes : (n : ℕ) (i : Input) → size i < n → Gives (List Specification 
     (specifications_at i) (λ x. Takes 1 i x.1 (λ j k. specifications_at j ≡ Ok (x.0, k)))
 list_takes zero i less = absurd (omega arith)
 list_takes (suc n) i less = rw (specifications_cases i) (then_gives (reads_specification.reads i)
-    (λ first t. test_gives (is_last first.0)
-    (λ last. value_gives (record {
+    (λ first t. test_gives (is_last first.0) (λ last. value_gives (record {
       goes = t.goes;
       anyway = λ j rest. specifications_cases _ ∙ rw (t.anyway j rest, last) refl;
-    }))
-    (λ other. then_gives (list_takes n first.1 (omega (arith, goes_length t.goes)))
-    (λ others u. value_gives (takes_then t u
-    (λ a b c p q. specifications_cases a ∙ rw (p, other, q) refl))))))
+    })) (λ other. then_gives (list_takes n first.1 (omega (arith, goes_length t.goes))) (λ others u.
+    value_gives (takes_then t u (λ a b c p q. specifications_cases a ∙ rw (p, other, q) refl))))))
 
 reads_within : (n : ℕ) → Reads 1 (List Specification) (specifications_within n)
 unfolding specifications_within
@@ -229,9 +224,8 @@ unfolding declaration_within next_at code_at
 look_up_steps wanted = record {
   none = λ others i e. rw e refl;
   next = λ n i. simp (bind-bind, bind-cond);
-  alike = λ f g i same. bind_alike (next_at i) (chosen wanted f) (chosen wanted g)
-      (λ o e. chosen_alike wanted f g o (λ x is. same x.1 (next_shorter i x (e ∙ ap (λ p. Ok p)
-      is))));
+  alike = λ f g i same. bind_alike (next_at i) (chosen wanted f) (chosen wanted g) (λ o e.
+      chosen_alike wanted f g o (λ x is. same x.1 (next_shorter i x (e ∙ ap (λ p. Ok p) is))));
 }
 
 -- it goes by the next declaration
@@ -240,12 +234,9 @@ pub look_up : (code : ℕ) (i : Input) → declaration code i ≡ (next_at i >>=
 unfolding declaration
 look_up code i = by_step (look_up_steps code) i
 
-pub look_up-end : (code : ℕ) (i : Input) → next_at i ≡ Ok None → declaration code i ≡ Ok None
-look_up-end code i h = rw (look_up code i, h) refl
-
-pub look_up-error : (code : ℕ) (i : Input) (e : ReadError) → next_at i ≡ Err e
-    → declaration code i ≡ Err e
-look_up-error code i e h = rw (look_up code i, h) refl
+pub look_up-by : (code : ℕ) (i : Input) {r : Result (Option Next) ReadError} → next_at i ≡ r
+    → declaration code i ≡ (r >>= chosen code (declaration code))
+look_up-by code i h = rw (look_up code i, h) refl
 
 pub look_up-here : (i : Input) (x : Next) → next_at i ≡ Ok (Some x)
     → declaration x.0.0 i ≡ Ok (Some x.0.1)
@@ -273,13 +264,11 @@ none_before code i = record { others = []; lie = refl; other = tt }
 by_next : (n : ℕ) (code : ℕ) (i : Input) (r : Result (Option Next) ReadError) → next_at i ≡ r
     → size i < n → SaidBehind code i (declaration code i)
 by_next zero code i r h fits = absurd (omega arith)
-by_next (suc n) code i (Ok None) h fits = rw (look_up-end code i h) (i, none_before code i, h)
-by_next (suc n) code i (Err e) h fits = rw (look_up-error code i e h) (i, none_before code i, h)
+by_next (suc n) code i (Ok None) h fits = rw (look_up-by code i h) (i, none_before code i, h)
+by_next (suc n) code i (Err e) h fits = rw (look_up-by code i h) (i, none_before code i, h)
 by_next (suc n) code i (Ok (Some x)) h fits = by-bool (SaidBehind code i (declaration code i))
-    (eqb x.0.0 code)
-    (λ here. subst (λ (c : ℕ). SaidBehind c i (declaration c i)) (eqb-true _ _ here)
-    (rw (look_up-here i x h) (i, none_before x.0.0 i, (x.1, h))))
-    (λ apart.
+    (eqb x.0.0 code) (λ here. subst (λ (c : ℕ). SaidBehind c i (declaration c i))
+    (eqb-true _ _ here) (rw (look_up-here i x h) (i, none_before x.0.0 i, (x.1, h)))) (λ apart.
     let less = next_shorter i x h in
     let behind = by_next n code x.1 (next_at x.1) refl (omega arith) in
     let others : IsBehindOthers code i behind.0 = record {
@@ -298,8 +287,8 @@ passed_over code (d ∷ ds) i rest lie other = look_up-other code i (d, lie.0) l
 
 says : (code : ℕ) (rest : Input) (said : Found) → IsSaid code rest said
     → declaration code rest ≡ said
-says code rest (Ok None) h = look_up-end code rest h
-says code rest (Err e) h = look_up-error code rest e h
+says code rest (Ok None) h = look_up-by code rest h
+says code rest (Err e) h = look_up-by code rest h
 says code rest (Ok (Some d)) h = look_up-here rest ((code, d), h.0) h.1
 
 -- what a look-up finds is the first declaration of the code, or that there is none
@@ -319,10 +308,9 @@ unfolding declaration_within code_at
 within_anywhere zero wanted i j same = refl
 within_anywhere (suc n) wanted i j same = by-bool _ (eqb (length i.bytes) 0)
     (λ none. rw (ap (λ bytes. eqb (length bytes) 0) same ∙ none, none) refl)
-    (λ some. rw (ap (λ bytes. eqb (length bytes) 0) same ∙ some, some)
-    (told_there reads_uleb _ (λ code k l e. ap (cond (eqb code 0) (Ok None))
-    (told_there reads_declaration _ (λ d v w f. ap (cond (eqb code wanted) (Ok (Some d)))
-    (within_anywhere n wanted v w f)) k l e)) i j same))
+    (λ some. rw (ap (λ bytes. eqb (length bytes) 0) same ∙ some, some) (told_there reads_uleb _
+    (λ code k l e. ap (cond (eqb code 0) (Ok None)) (told_there reads_declaration _ (λ d v w f.
+    ap (cond (eqb code wanted) (Ok (Some d))) (within_anywhere n wanted v w f)) k l e)) i j same))
 
 -- tables of the same bytes declare the same
 pub declared_anywhere : (wanted : ℕ) (i j : Input) → i.bytes ≡ j.bytes

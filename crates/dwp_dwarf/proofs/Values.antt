@@ -6,22 +6,20 @@ use Terms.{DebugEntry, Declaration, declaration, Encoding, entry, eqb, eqb-true,
 use Terms.{Goes, IfSome, Input, layout_of, leb_at, List, map, named_form_at, None, Ok, ok_or}
 use Terms.{Option, past_value, ReadError, refl, Result, Some, Specification, suc, sym, uleb_at}
 use Terms.{UnexpectedEof, Unit, UnknownCode, UnknownForm, value_at, zero, ℕ, ◌∙◌, ◌∷◌, ◌≡◌, ◌≢◌}
-use Rattle.dwp_bytes.specs.Input.{found_at, after}
-use Rattle.dwp_dwarf.specs.Entries.{entry_at, root_of_code, root_at}
+use Rattle.dwp_units.proofs.Readings.{error_gives, number_goes, test_gives, then_gives, value_gives}
+use Rattle.dwp_units.proofs.Readings.{goes_some, goes_then, reads_sleb, reads_uleb, size, skip_goes}
+use Rattle.dwp_units.proofs.Readings.{Answer, by_step, Gives, goes, goes_none, shorter, Steps, was}
+use Rattle.dwp_units.proofs.Readings.{bind_alike, goes_after, more_gives, reads_byte, then_split}
+use Rattle.dwp_bytes.specs.Input.{after, found_at}
+use Rattle.dwp_dwarf.specs.Entries.{entry_at, root_at, root_of_code}
 use Rattle.dwp_units.specs.AbbreviationCodes.{root_code_at}
-use Rattle.dwp_dwarf.specs.Values.{LiesFirst, ValuesLie, RootValuesLie}
-use Rattle.dwp_units.proofs.Readings.{Gives, then_gives, value_gives, error_gives, test_gives, was}
-use Rattle.dwp_units.proofs.Readings.{goes_then, Answer, more_gives, then_split, bind_alike, size}
-use Rattle.dwp_units.proofs.Readings.{shorter, goes_some, goes_after, reads_byte, skip_goes}
-use Rattle.dwp_units.proofs.Readings.{number_goes, reads_uleb, reads_sleb, goes, goes_none, Steps}
-use Rattle.dwp_units.proofs.Readings.{by_step}
+use Rattle.dwp_dwarf.specs.Values.{LiesFirst, RootValuesLie, ValuesLie}
 use Rattle.dwp_dwarf.proofs.Tables.{code_goes}
-use Rattle.dwp_units.proofs.Units.{unit_takes, listed_ok, Onward}
-use Rattle.dwp_dwarf.specs.declared.value.Layout.{Layout}
-use Rattle.dwp_dwarf.specs.declared.value.Layout.TheVariants.{Block, Text, Unsigned, Signed}
-use Rattle.dwp_dwarf.specs.declared.value.BlockLength.{BlockLength}
-use Rattle.dwp_dwarf.specs.declared.value.BlockLength.TheVariants.{One, Two, Four, Leb}
-use Rattle.dwp_dwarf.specs.Forms.{block_length_at, text_at, named_within}
+use Rattle.dwp_units.proofs.Units.{listed_ok, Onward, unit_takes}
+use Rattle.dwp_dwarf.specs.{declared.value.BlockLength.BlockLength, declared.value.Layout.Layout}
+use Rattle.dwp_dwarf.specs.declared.value.Layout.TheVariants.{Block, Signed, Text, Unsigned}
+use Rattle.dwp_dwarf.specs.declared.value.BlockLength.TheVariants.{Four, Leb, One, Two}
+use Rattle.dwp_dwarf.specs.Forms.{block_length_at, named_within, text_at}
 
 -- ---- the names of forms
 
@@ -62,11 +60,9 @@ named_gives : (n form : ℕ) (i : Input)
 unfolding named_within
 named_gives zero form i = test_gives (eqb form 0x16) (λ _. error_gives)
     (λ _. value_gives (own_form form i))
-named_gives (suc n) form i = test_gives (eqb form 0x16)
-    (λ indirect. then_gives (goes reads_uleb i) (λ x p. test_gives (eqb x.0 0x21)
-    (λ _. error_gives)
-    (λ _. more_gives (named_gives n x.0 x.1) (λ y q.
-    (goes_some (goes_then p q.0), λ own. absurd (own (eqb-true _ _ indirect)))))))
+named_gives (suc n) form i = test_gives (eqb form 0x16) (λ indirect. then_gives (goes reads_uleb i)
+    (λ x p. test_gives (eqb x.0 0x21) (λ _. error_gives) (λ _. more_gives (named_gives n x.0 x.1)
+    (λ y q. (goes_some (goes_then p q.0), λ own. absurd (own (eqb-true _ _ indirect)))))))
     (λ _. value_gives (own_form form i))
 
 pub named_form_gives : (form : ℕ) (i : Input)

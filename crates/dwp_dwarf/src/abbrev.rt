@@ -1,16 +1,13 @@
 //! Abbreviations and their table (DWARF 5, 7.5.3).
 
-ghost use Rattle.std.specs.Prelude.{◌≡◌, ℕ, Ok, Some, IfOk};
+ghost use Rattle.std.specs.Prelude.{IfOk, Ok, Some, ℕ, ◌≡◌};
+ghost use Rattle.dwp_dwarf.specs.Abbreviations.{children_at, past_specifications, specification_at};
+ghost use Rattle.dwp_dwarf.specs.Abbreviations.{declaration, Declaration, declaration_at, is_last};
+ghost use Rattle.dwp_dwarf.specs.Declarations.{declaration_of, next_of, specification_of, table_of};
+ghost use Rattle.dwp_dwarf.specs.Declarations.{found_of};
 ghost use Rattle.dwp_base.specs.Reading.{Answers, Reads};
-ghost use Rattle.dwp_bytes.specs.Input.{Input};
-ghost use Rattle.dwp_bytes.specs.Leb.{uleb_at};
-ghost use Rattle.dwp_dwarf.specs.Abbreviations.{specification_at, past_specifications, tag_at};
-ghost use Rattle.dwp_dwarf.specs.Abbreviations.{children_at, declaration_at, declaration, is_last};
-ghost use Rattle.dwp_dwarf.specs.Abbreviations.{Declaration};
-ghost use Rattle.dwp_dwarf.specs.Grammar.{next_at};
-ghost use Rattle.dwp_dwarf.specs.Offsets.{from_at};
-ghost use Rattle.dwp_dwarf.specs.Declarations.{specification_of, declaration_of, table_of};
-ghost use Rattle.dwp_dwarf.specs.Declarations.{found_of, next_of};
+ghost use Rattle.dwp_bytes.specs.{Input.Input, Leb.uleb_at};
+ghost use Rattle.dwp_dwarf.specs.{Abbreviations.tag_at, Grammar.next_at, Offsets.from_at};
 
 use crate::value::IMPLICIT_CONST;
 use dwp_bytes::{ReadError, Reader};
@@ -176,6 +173,7 @@ pub(crate) fn next_declaration<R: Reader>(
 }
 
 /// The first declaration of a code in what is left of a table, which is read no further.
+#[tactic(auto, using(crate::proofs::Tables::look_up), unfolding(crate::specs::Grammar::next_at))]
 pub(crate) fn find_declaration<R: Reader>(
     rest: &mut R,
     code: u64,
@@ -203,10 +201,8 @@ impl AttributeSpecification {
 }
 
 impl<R: Reader> Abbreviations<R> {
-    /// The table at an offset of the section of abbreviations.
-    ///
-    /// # Errors
-    /// `OffsetOutOfRange` past the section's end.
+    /// The table at an offset of the section of abbreviations. Errors: `OffsetOutOfRange` past the
+    /// section's end.
     pub fn new(section: R, offset: u64) -> Result<Abbreviations<R>, ReadError>
         ensures { Answers (table_of R.input) result (from_at offset (R.input section)) }
     {
@@ -215,11 +211,8 @@ impl<R: Reader> Abbreviations<R> {
     }
 
     /// The first declaration of a code; None where the table has none. The table is read no
-    /// further, so that errors after it don't count.
-    ///
-    /// # Errors
-    /// `ZeroTag`, `BadChildren`, `BigLeb` or `UnexpectedEof` for an error before the declaration
-    /// and before the table's end.
+    /// further, so that errors after it don't count. Errors: `ZeroTag`, `BadChildren`, `BigLeb` or
+    /// `UnexpectedEof` for an error before the declaration and before the table's end.
     pub fn get(&self, code: u64) -> Result<Option<Abbreviation<R>>, ReadError>
         ensures { Answers (found_of R.input) result (declaration code (table_of R.input self.now)) }
     {

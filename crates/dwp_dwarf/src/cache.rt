@@ -1,16 +1,12 @@
 //! Abbreviations that are looked up by table and code, and remembered once much was read (DWARF 5,
 //! 7.5.3).
 
-ghost use Rattle.std.specs.Prelude.{◌≡◌, Ok, Err, true, option_map};
+ghost use Rattle.std.specs.Prelude.{Err, Ok, option_map, true, ◌≡◌};
 ghost use Rattle.dwp_base.specs.Reading.{Answers};
-ghost use Rattle.dwp_bytes.specs.Input.{Input, front};
-ghost use Rattle.dwp_bytes.specs.declared.error.ReadError.{ReadError};
-ghost use Rattle.dwp_dwarf.specs.Abbreviations.{declaration};
-ghost use Rattle.dwp_dwarf.specs.Chains.{IsDeclared};
-ghost use Rattle.dwp_dwarf.specs.Declarations.{found_of};
+ghost use Rattle.dwp_bytes.specs.{declared.error.ReadError.ReadError, Input.front, Input.Input};
+ghost use Rattle.dwp_dwarf.specs.{Abbreviations.declaration, Declarations.found_of, Split.split_at};
+ghost use Rattle.dwp_dwarf.specs.{Chains.IsDeclared, Offsets.from_at, Split.attributes_of};
 ghost use Rattle.dwp_dwarf.specs.Numbers.{numbered_at, numbered_of};
-ghost use Rattle.dwp_dwarf.specs.Offsets.{from_at};
-ghost use Rattle.dwp_dwarf.specs.Split.{attributes_of, split_at};
 
 use crate::abbrev::{Abbreviation, find_declaration, from_offset};
 use crate::chains::Chains;
@@ -81,11 +77,8 @@ impl<R: Reader> AbbreviationCache<R> {
     /// more was read than two times the section, a table is read to its end, and what it says is
     /// remembered from each of its declarations on, for all tables that go on alike from there.
     /// That takes some five nodes of 12 bytes for each byte of the section, and 20 bytes for each
-    /// place.
-    ///
-    /// # Errors
-    /// `OffsetOutOfRange` past the section's end, and those of `Abbreviations::get`. Want of memory
-    /// is never met.
+    /// place. Errors: `OffsetOutOfRange` past the section's end, and those of `Abbreviations::get`.
+    /// Want of memory is never met.
     pub fn get(&mut self, offset: u64, code: u64) -> Result<Option<Abbreviation<R>>, ReadError>
         ensures declared { (table : Input) → from_at offset (R.input self.old) ≡ Ok table
             → Answers (found_of R.input) result (declaration code table) }
@@ -114,10 +107,7 @@ impl<R: Reader> AbbreviationCache<R> {
     /// for it, but for those whose values have no bytes; the first DW_AT_dwo_name,
     /// DW_AT_GNU_dwo_name and DW_AT_comp_dir are listed anyway, for `split_in`. Such an entry then
     /// takes as many steps as it has bytes, and a few more. All tables share the lists, until these
-    /// have an attribute for two bytes of the section.
-    ///
-    /// # Errors
-    /// Those of `get`.
+    /// have an attribute for two bytes of the section. Errors: those of `get`.
     pub fn number_in(
         &mut self,
         offset: u64,
@@ -150,11 +140,9 @@ impl<R: Reader> AbbreviationCache<R> {
 
     /// The attributes that name the split object of the entry of a code in the table at that
     /// offset, whose values stand there; None where the table doesn't have the code. What is listed
-    /// of a declaration is as at `number_in`, and an entry costs as much.
-    ///
-    /// # Errors
-    /// Those of `get`; `UnknownForm`, `BigLeb`, `UnexpectedEof` or `NoTerminator` for the first of
-    /// all attributes of the entry that can't be read.
+    /// of a declaration is as at `number_in`, and an entry costs as much. Errors: those of `get`;
+    /// `UnknownForm`, `BigLeb`, `UnexpectedEof` or `NoTerminator` for the first of all attributes
+    /// of the entry that can't be read.
     pub fn split_in(
         &mut self,
         offset: u64,
@@ -191,9 +179,8 @@ impl<R: Reader> AbbreviationCache<R> {
         ensures declared { result ≡ true → (whole : Input)
             → from_at offset (R.input self.old) ≡ Ok whole → IsDeclared code whole }
         ensures same { result ≡ true → (part whole : Input)
-            → from_at offset (front end (R.input self.old)) ≡ Ok part
-            → from_at offset (R.input self.old) ≡ Ok whole
-            → declaration code part ≡ declaration code whole }
+            → from_at offset (front end (R.input self.old)) ≡ Ok part → from_at offset
+            (R.input self.old) ≡ Ok whole → declaration code part ≡ declaration code whole }
         ensures kept { self.new ≡ self.old }
     {
         let Some(left) = self.chains.left_behind(self.section, offset, code) else {

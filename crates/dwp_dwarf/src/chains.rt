@@ -1,16 +1,12 @@
 //! Tables of abbreviations that overlap (DWARF 5, 7.5.3).
 
-ghost use Rattle.std.specs.Prelude.{◌≡◌, Ok, [], IfSome};
-ghost use Rattle.std.specs.Ordering.{nat_cmp};
-ghost use Rattle.std.specs.BTreeMap.{get};
+ghost use Rattle.std.specs.Prelude.{IfSome, Ok, [], ◌≡◌};
+ghost use Rattle.dwp_dwarf.specs.Chains.{FirstAt, RemembersChains, RemembersPlace, RemembersPlaces};
+ghost use Rattle.std.specs.{BTreeMap.get, Ordering.nat_cmp};
 ghost use Rattle.dwp_base.specs.Reading.{Answers};
 ghost use Rattle.dwp_bytes.specs.Input.{Input};
-ghost use Rattle.dwp_dwarf.specs.Abbreviations.{declaration};
-ghost use Rattle.dwp_dwarf.specs.Chains.{from_end, RemembersPlace, RemembersPlaces};
-ghost use Rattle.dwp_dwarf.specs.Chains.{RemembersChains, FirstAt, EndsBefore};
-ghost use Rattle.dwp_dwarf.specs.Declarations.{found_of};
-ghost use Rattle.dwp_dwarf.specs.Offsets.{from_at};
-ghost use Rattle.dwp_dwarf.specs.Versions.{Grows};
+ghost use Rattle.dwp_dwarf.specs.{Abbreviations.declaration, Declarations.found_of, Versions.Grows};
+ghost use Rattle.dwp_dwarf.specs.{Chains.EndsBefore, Chains.from_end, Offsets.from_at};
 
 use crate::abbrev::{
     Abbreviation, SPECIFICATION_SIZE, from_offset, known_declaration, next_declaration,
@@ -118,18 +114,13 @@ impl Chains {
     /// Remembers the table at an offset of the section, and says how many bytes are left there.
     /// None where there is none, or as much was taken as may be.
     fn learn_table<R: Reader>(&mut self, section: R, offset: u64) -> Option<u64>
-        ensures left { IfSome result (λ left. (table : Input)
-            → from_at offset (R.input section) ≡ Ok table
-            → from_end left (R.input section) ≡ Ok table) }
+        ensures left { IfSome result (λ left. (table : Input) → from_at offset (R.input section)
+            ≡ Ok table → from_end left (R.input section) ≡ Ok table) }
         ensures places { RemembersPlaces (R.input section) self.old
             → RemembersPlaces (R.input section) self.new }
         ensures lists { self.new.lists ≡ self.old.lists }
     {
-        let length = section.len() as u64;
-        if length < offset {
-            return None;
-        }
-        let left = length - offset;
+        let left = (section.len() as u64).checked_sub(offset)?;
         if self.is_full(section) && !self.places.contains_key(&left) {
             return None;
         }
@@ -147,11 +138,8 @@ impl Chains {
         ensures { IfSome result (λ first. RemembersChains (R.input section) self.now
             → FirstAt (R.input section) offset code first) }
     {
-        let length = section.len() as u64;
-        if length < offset {
-            return None;
-        }
-        let place = self.place_of(length - offset)?;
+        let left = (section.len() as u64).checked_sub(offset)?;
+        let place = self.place_of(left)?;
         let first = u64::from(self.firsts.get(place.version, code)?);
         let lists = &self.lists.by_key;
         let listed = self.lists.listed.saturating_add(lists.len());

@@ -1,14 +1,13 @@
 //! Root entries and their attributes (DWARF 5, 7.5.2 to 7.5.5).
 
-ghost use Rattle.std.specs.Prelude.{◌≡◌, [], ◌∷◌, MatchOption};
-ghost use Rattle.std.specs.Iterator.{YieldsFirstBy, item_count};
+ghost use Rattle.std.specs.Prelude.{MatchOption, [], ◌∷◌, ◌≡◌};
+ghost use Rattle.dwp_dwarf.specs.Attributes.{attribute_of, attribute_seen, attributes_left};
+ghost use Rattle.std.specs.Iterator.{item_count, YieldsFirstBy};
 ghost use Rattle.dwp_base.specs.Reading.{Answers, Reads};
 ghost use Rattle.dwp_units.specs.Units.{unit_of};
-ghost use Rattle.dwp_dwarf.specs.Abbreviations.{pairs_in};
-ghost use Rattle.dwp_dwarf.specs.Declarations.{specification_of, declaration_of, table_of};
-ghost use Rattle.dwp_dwarf.specs.Entries.{attribute_at, entry, root_at, number_of, place_of};
-ghost use Rattle.dwp_dwarf.specs.Attributes.{attribute_of, attribute_seen, attributes_left};
-ghost use Rattle.dwp_dwarf.specs.Attributes.{entry_of, root_of};
+ghost use Rattle.dwp_dwarf.specs.{Abbreviations.pairs_in, Attributes.entry_of, Attributes.root_of};
+ghost use Rattle.dwp_dwarf.specs.Declarations.{declaration_of, specification_of, table_of};
+ghost use Rattle.dwp_dwarf.specs.Entries.{attribute_at, entry, number_of, place_of, root_at};
 
 use crate::abbrev::{Abbreviation, Abbreviations, AttributeSpecification, read_specification};
 use crate::value::{DATA1, DATA2, DATA4, DATA8, SEC_OFFSET, UDATA, named_form, read_value};
@@ -154,10 +153,8 @@ impl<R: Reader> Abbreviation<R> {
 }
 
 /// The root entry of a unit; None where no byte is left behind the header, or its code is 0.
-///
-/// # Errors
-/// `UnknownCode` where the table doesn't have its code, and those of `UnitHeader::root_code` and
-/// `Abbreviations::get`.
+/// Errors: `UnknownCode` where the table doesn't have its code, and those of
+/// `UnitHeader::root_code` and `Abbreviations::get`.
 #[tactic(auto, unfolding(crate::specs::Entries::root_at, crate::specs::Entries::entry_at))]
 pub fn root<R: Reader>(
     header: &UnitHeader<R>,
@@ -166,11 +163,9 @@ pub fn root<R: Reader>(
     ensures { Answers (root_of R.input) result
         (root_at (unit_of R.input header.now) (table_of R.input abbreviations.now)) }
 {
-    match header.root_code()? {
-        None => Ok(None),
-        Some((code, values)) => {
-            let abbreviation = abbreviations.get(code)?.ok_or(ReadError::UnknownCode)?;
-            Ok(Some(abbreviation.entry(header.encoding(), values)))
-        }
-    }
+    let Some((code, values)) = header.root_code()? else {
+        return Ok(None);
+    };
+    let abbreviation = abbreviations.get(code)?.ok_or(ReadError::UnknownCode)?;
+    Ok(Some(abbreviation.entry(header.encoding(), values)))
 }

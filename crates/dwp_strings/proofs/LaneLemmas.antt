@@ -1,10 +1,8 @@
 -- What a mask of at most 64 bytes says of each.
-use Rattle.std.proofs.lemmas.Nat.Bits.{bit_at-trailing_zeros}
-use Rattle.std.proofs.lemmas.Simd.{bit_mask_l, get_or-chunk, get_or-replicate, get_or-sel_l}
-use Rattle.std.proofs.lemmas.Simd.{get_or-zip2, length-chunk, length-sel_l, length-zip2, mask_l-mod}
-use Rattle.std.proofs.lemmas.Simd.{tops_compared}
-use Rattle.std.specs.Int.{bit_at, trailing_zeros}
-use Rattle.std.specs.Int.Count.{trailing_of_zero}
+use Rattle.std.proofs.lemmas.Simd.{bit_mask_l, get_or-zip2, length-chunk, length-sel_l, length-zip2}
+use Rattle.std.proofs.lemmas.Simd.{get_or-chunk, get_or-replicate, get_or-sel_l, tops_compared}
+use Rattle.std.proofs.{lemmas.Nat.Bits.bit_at-trailing_zeros, lemmas.Simd.mask_l-mod}
+use Rattle.std.specs.{Int.bit_at, Int.Count.trailing_of_zero, Int.trailing_zeros}
 use Rattle.std.specs.Simd.Lanes.{mask_l, sel_l, top, zip2}
 use Rattle.dwp_strings.proofs.Terms
 use Terms.{Bool, List, ap, ap₂, arith, cases_lt, cond, drop, elements, eqb, eqb-false, false}
@@ -59,9 +57,6 @@ module _ (bytes : List ℕ) (at n : ℕ) (few : n ≤ 64) (room : at + n ≤ len
       let passed = clear eqb next (replicate n 0) same_long (omega (arith, long)) k in
       grind (arith, nat_tests, lane, long, passed)
 
-  pub lanes_all : mask_of eqb next (replicate n 0) ≡ 0 → get_or bytes (at + k) 0 ≢ 0
-  lanes_all none = lanes_some (rw none (omega (arith, trailing_of_zero 64)))
-
   -- the byte at the lowest bit that is set
   pub lanes_zero : k ≡ trailing_zeros w64 (mask_of eqb next (replicate n 0))
       → get_or bytes (at + k) 0 ≡ 0
@@ -113,8 +108,7 @@ module _ (n : ℕ) (few : n ≤ 64) (bytes other : List ℕ) (at to : ℕ) (room
       let same = clear (λ a b. not (eqb a b)) l m (omega (arith, long_l, long_m))
       (omega (arith, long_l, few)) k (omega (arith, long_l, within)) less in
       let first = get_or-chunk at n bytes k 0 within in
-      let second = get_or-chunk to n other k 0 within in
-      grind (arith, nat_tests, first, second, same)
+      grind (arith, nat_tests, first, get_or-chunk to n other k 0 within, same)
 
   -- all of them where none do
   pub lanes_same : mask_of (λ a b. not (eqb a b)) l m ≡ 0

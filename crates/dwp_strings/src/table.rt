@@ -1,11 +1,10 @@
 //! The table of distinct strings (DWARF 5, 7.26).
 
-ghost use Rattle.std.specs.Prelude.{◌≡◌, ◌↔◌, ◌<◌, ◌≤◌, ◌^◌, [], length, take, slice_index, IfOk};
-ghost use Rattle.std.specs.Prelude.{IsSome, IsNone, IfSome, IsTrue, OnErr, Contains};
+ghost use Rattle.std.specs.Prelude.{IfOk, length, slice_index, take, [], ◌<◌, ◌^◌, ◌↔◌, ◌≡◌, ◌≤◌};
+ghost use Rattle.std.specs.Prelude.{Contains, IfSome, IsNone, IsSome, IsTrue, OnErr};
+ghost use Rattle.dwp_strings.specs.Strings.{IsPlaced, IsWithinDigits, IsZeroFree, offset_of};
 ghost use Rattle.dwp_bytes.specs.StringOffsets.{string_from};
-ghost use Rattle.dwp_strings.specs.Strings.{data_of, offset_of, IsTable, IsWithinDigits, IsPlaced};
-ghost use Rattle.dwp_strings.specs.Strings.{IsZeroFree};
-ghost use Rattle.dwp_strings.specs.Marks.{mark_of};
+ghost use Rattle.dwp_strings.specs.{Marks.mark_of, Strings.data_of, Strings.IsTable};
 
 use crate::entries::Entries;
 use crate::hash::{hash, hash_here};
@@ -128,10 +127,8 @@ impl StringTable {
         }
     }
 
-    /// The offset of a string, which goes last where it is new.
-    ///
-    /// # Errors
-    /// Want of memory, and then nothing changed.
+    /// The offset of a string, which goes last where it is new. Errors: want of memory, and then
+    /// nothing changed.
     #[inline(always)]
     pub fn place(&mut self, string: &[u8]) -> Result<usize, AllocError>
         requires { IsZeroFree string.now }
@@ -221,11 +218,9 @@ impl StringTable {
         requires { mark ≡ mark_of (take mark.strings self.old) }
         ensures { self.new ≡ take mark.strings self.old }
     {
-        if mark.bytes < self.entries.bytes.len() {
-            self.entries.bytes.truncate(mark.bytes);
-            self.entries.count = mark.strings;
-            self.entries.ordered.keep_below(mark.bytes as u64);
-        }
+        self.entries.bytes.truncate(mark.bytes);
+        self.entries.count = mark.strings;
+        self.entries.ordered.keep_below(mark.bytes as u64);
     }
 
     /// The content of `.debug_str.dwo`.

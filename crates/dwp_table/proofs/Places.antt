@@ -1,10 +1,9 @@
 -- The places of an identifier.
-use Rattle.std.proofs.Common.{◌≡◌, ℕ, ◌+◌, ◌-◌, ◌*◌, ◌/◌, ◌%◌, ◌^◌, ◌<◌, sym, ap, ◌∙◌, arith}
-use Rattle.std.specs.Prelude.{bit_and, bit_or, IsTrue}
-use Rattle.std.specs.Int.{is_power_of_two}
+use Rattle.std.proofs.Common.{ap, arith, sym, ℕ, ◌%◌, ◌*◌, ◌+◌, ◌-◌, ◌/◌, ◌<◌, ◌^◌, ◌∙◌, ◌≡◌}
+use Rattle.std.specs.{Int.is_power_of_two, Prelude.bit_and, Prelude.bit_or, Prelude.IsTrue}
 use Rattle.std.proofs.lemmas.Nat.{and_mask, pow_pos}
-use Rattle.std.proofs.Math.Nat.{mod-lt, mod-add-mod}
-use Rattle.dwp_table.specs.Probing.{step, place}
+use Rattle.std.proofs.Math.Nat.{mod-add-mod, mod-lt}
+use Rattle.dwp_table.specs.Probing.{place, step}
 use Rattle.dwp_table.proofs.Numbers.{exponent, odd-or_one, one_slot, OneToOne}
 
 pub positive : (size : ℕ) → IsTrue (is_power_of_two size) → 0 < size
@@ -14,10 +13,10 @@ pub place-lt : (size x i : ℕ) → IsTrue (is_power_of_two size) → place size
 unfolding place
 place-lt size x i power = mod-lt _ (positive size power)
 
-pub place-next : (size x i : ℕ) → IsTrue (is_power_of_two size) → place size x (i + 1) ≡ bit_and
+pub place_next : (size x i : ℕ) → IsTrue (is_power_of_two size) → place size x (i + 1) ≡ bit_and
     (place size x i + step size x) (size - 1)
 unfolding place
-place-next size x i power =
+place_next size x i power =
     let start = bit_and x (size - 1) in
     let s = step size x in
     let k = exponent size power in

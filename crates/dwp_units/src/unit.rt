@@ -204,13 +204,12 @@ fn older_header<R: Reader>(
     let abbrev_offset = at.read_offset(format)?;
     let address_size = read_address_size(&mut at)?;
     let unit_type = read_older_type(&mut at, section, format)?;
-    let encoding = Encoding {
-        version,
-        format,
-        address_size,
-    };
     Ok(UnitHeader {
-        encoding,
+        encoding: Encoding {
+            version,
+            format,
+            address_size,
+        },
         unit_type,
         abbrev_offset,
         whole,
@@ -227,13 +226,12 @@ fn newer_header<R: Reader>(mut at: R, format: Format, whole: R) -> Result<UnitHe
     let address_size = read_address_size(&mut at)?;
     let abbrev_offset = at.read_offset(format)?;
     let unit_type = read_unit_type(&mut at, code, format)?;
-    let encoding = Encoding {
-        version: 5,
-        format,
-        address_size,
-    };
     Ok(UnitHeader {
-        encoding,
+        encoding: Encoding {
+            version: 5,
+            format,
+            address_size,
+        },
         unit_type,
         abbrev_offset,
         whole,
@@ -327,10 +325,8 @@ impl<R: Reader> UnitHeader<R> {
     }
 
     /// The code of the root entry, and a reader at the values of its attributes. None where no byte
-    /// is left behind the header, or the code is 0.
-    ///
-    /// # Errors
-    /// `UnexpectedEof` or `BigLeb` for a code that can't be read.
+    /// is left behind the header, or the code is 0. Errors: `UnexpectedEof` or `BigLeb` for a code
+    /// that can't be read.
     #[tactic(auto, unfolding(crate::specs::AbbreviationCodes::root_code_at))]
     pub fn root_code(&self) -> Result<Option<(u64, R)>, ReadError>
         ensures { Answers (root_code_of R.input) result

@@ -1,9 +1,8 @@
-use Rattle.dwp_strings.proofs.Terms.{[], arith, get_or, get_or_read, length, pieces, ◌+◌, ◌/◌, ◌<◌}
-use Rattle.dwp_strings.proofs.Terms.{◌≡◌}
+use Rattle.dwp_strings.proofs.Terms.{arith, get_or, get_or_read, length, [], ◌+◌, ◌/◌, ◌<◌, ◌≡◌}
+use Rattle.dwp_strings.proofs.ChunkLemmas.{halves_begun, halves_short, length-pieces, piece_halved}
+use Rattle.dwp_strings.proofs.ChunkLemmas.{counts, halves_same, piece_read, start_within}
+use Rattle.dwp_strings.proofs.{positions.cut.Goals.After-index, Terms.pieces}
 use Rattle.dwp_strings.specs.Chunks.{IsHalved}
-use Rattle.dwp_strings.proofs.ChunkLemmas.{counts, halves_begun, halves_same, halves_short}
-use Rattle.dwp_strings.proofs.ChunkLemmas.{length-pieces, piece_halved, piece_read, start_within}
-use Rattle.dwp_strings.proofs.positions.cut.Goals.{After-index}
 use Rattle.dwp_strings.proofs.positions.cut.Goals as goal
 
 there : (c : goal.After-index) → c.args.at < length (pieces c.args.chunks.now.items)
@@ -11,8 +10,7 @@ there c = omega (arith, length-pieces c.args.chunks.now)
 
 halved : (c : goal.After-index) → IsHalved (pieces c.args.chunks.now.items)
     (pieces c.insert.new.self.items) c.args.at
-halved c =
-    piece_halved c.args.chunks.now.items c.args.at c.index_mut-chunk.result.now (grind arith)
+halved c = piece_halved c.args.chunks.now.items c.args.at c.index_mut-chunk.result.now (grind arith)
     (grind (arith, c.index_mut-chunk.ensures.value)) c.insert.new.self.items c.len-half.result
     c.truncate.new.self c.in_ok-upper.upper (omega arith) c.truncate.ensures.items
     (grind (arith, c.in_ok-upper.ensures.items)) (grind (arith, c.insert.ensures.items))
@@ -23,8 +21,7 @@ start : (c : goal.After-index) → c.index.result.now + c.len-half.result / 2
     + length (get_or (pieces c.args.chunks.now.items) c.args.at []) / 2
 start c =
     let piece = piece_read c.args.chunks.now.items c.args.at c.index_mut-chunk.result.now in
-    let first = get_or_read c.args.starts.now.items c.args.at c.index.result.now in
-    grind (arith, counts, piece, first)
+    grind (arith, counts, piece, get_or_read c.args.starts.now.items c.args.at c.index.result.now)
 
 pub overflow_add-start : goal.overflow_add-start
 overflow_add-start c =

@@ -1,13 +1,9 @@
-use Rattle.dwp_strings.proofs.Terms.{arith}
-use Rattle.dwp_strings.proofs.CompareLemmas.{compared_at, compared_short}
+use Rattle.dwp_strings.proofs.{CompareLemmas.compared_at, CompareLemmas.compared_short, Terms.arith}
 use Rattle.dwp_strings.proofs.search.compare_at.Goals as goal
 
 pub returns-then-rest-string : goal.returns-then-rest-string
 returns-then-rest-string c =
     grind (arith, compared_short c.args.bytes.now c.args.at c.args.string.now)
 
-pub returns-in-Equal : goal.returns-in-Equal
-returns-in-Equal c = grind (arith, compared_at c.args.bytes.now c.args.at c.args.string.now)
-
-pub returns-in_default : goal.returns-in_default
-returns-in_default c = grind (arith, compared_at c.args.bytes.now c.args.at c.args.string.now)
+pub returns : goal.returns
+returns c = grind (arith, compared_at c.args.bytes.now c.args.at c.args.string.now)
