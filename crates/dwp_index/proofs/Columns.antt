@@ -1,16 +1,16 @@
 -- Reading one column after the other, and where columns stand, by the numbers that say it.
-use Rattle.std.proofs.Common.{Bool, List, [], add-zero, ap, arith, cond, drop, eq-eqb, eqb, false}
-use Rattle.std.proofs.Common.{length, ltb, map, refl, suc, sym, true, zero-add, ℕ, ◌*◌, ◌++◌, ◌+◌}
-use Rattle.std.proofs.Common.{◌-◌, ◌<◌, ◌∙◌, ◌∷◌, ◌≡◌, ◌≤◌}
-use Rattle.std.proofs.lemmas.Bool.{eqb-true, false≢true, le-ltb, lt-ltb, ne_eqb}
-use Rattle.std.proofs.lemmas.List.{drop-drop, length-drop}
-use Rattle.std.specs.List.{find}
-use Rattle.std.specs.Option.{option_and_then, option_or}
-use Rattle.std.specs.Prelude.{Err, None, Ok, Option, Result, Some, is_none, is_some, not, unwrap_or}
 use Rattle.dwp_index.proofs.Terms
 use Terms.{ArePlaces, Endianness, NO_COLUMN, ReadError, SectionKind, UnexpectedEof, all_kinds}
 use Terms.{by-bool, column_place, columns_at, contribution_kinds, is-same, kind_of_column, list_any}
 use Terms.{new_column, number, numbers, position_from, same-each, same-self, same_Some, same_kind}
+use Rattle.std.proofs.Common.{ap, Bool, List, [], ℕ, ◌*◌, ◌++◌, ◌+◌, ◌-◌, ◌<◌, ◌∙◌, ◌∷◌, ◌≡◌, ◌≤◌}
+use Rattle.std.proofs.Common.{add-zero, arith, cond, drop, eq-eqb, false, length, refl, zero-add}
+use Rattle.std.proofs.Common.{eqb, ltb, map, suc, sym, true}
+use Rattle.std.proofs.lemmas.Bool.{le-ltb, lt-ltb, ne_eqb, false≢true}
+use Rattle.std.proofs.lemmas.Bool.Decides.{nat_tests}
+use Rattle.std.proofs.lemmas.List.{drop-drop, length-drop}
+use Rattle.std.specs.{List.find, Option.option_and_then, Option.option_or}
+use Rattle.std.specs.Prelude.{Err, is_none, is_some, None, not, Ok, Option, Result, Some, unwrap_or}
 use Rattle.dwp_base.specs.declared.by_kind.ByKind.{ByKind}
 use Rattle.dwp_bytes.specs.declared.error.ReadError.TheVariants.{RepeatedColumn, UnknownColumn}
 use Rattle.dwp_index.specs.Places.{IsPlace, place_held}
@@ -47,8 +47,7 @@ module _ (order : Endianness) (version : ℕ) (bytes : List ℕ) (count i : ℕ)
       pub further : (unknown repeated : Bool)
           → is_none (kind_of_column version (number order 4 (drop (4 * i) bytes))) ≡ unknown
           → list_any (λ c. eqb c (number order 4 (drop (4 * i) bytes))) (numbers order 4 i bytes)
-          ≡ repeated
-          → Behind order version bytes count i ≡ cond unknown (Err UnknownColumn)
+          ≡ repeated → Behind order version bytes count i ≡ cond unknown (Err UnknownColumn)
           (cond repeated (Err RepeatedColumn) (Behind order version bytes count (i + 1)))
       unfolding columns_at new_column
       further true repeated e f = rw (more, there, e) refl
@@ -74,18 +73,11 @@ kind_of_number version n kind e = by-bool _ (eqb version 5)
     (λ two. rw two (named_by gnu_column refl n kind (rw two at e)))
 
 -- the section of a number has that number
-is_number_of : (o : Option ℕ) (n : ℕ) → is_number o n ≡ true → o ≡ Some n
-is_number_of None n e = absurd cc
-is_number_of (Some c) n e = ap Some (eqb-true c n e)
-
 with_number : (column : SectionKind → Option ℕ) (n : ℕ) (kinds : List SectionKind)
     (kind : SectionKind) → find (λ k. is_number (column k) n) kinds ≡ Some kind
     → column kind ≡ Some n
 with_number column n [] kind e = absurd cc
-with_number column n (k ∷ ks) kind e = by-bool (column kind ≡ Some n) (is_number (column k) n)
-    (λ here. let same = same_Some k kind (rw here at e) in
-    ap column (sym same) ∙ is_number_of (column k) n here)
-    (λ other. with_number column n ks kind (rw other at e))
+with_number column n (k ∷ ks) kind e = grind (arith, nat_tests, with_number column n ks kind)
 
 number_of_kind : (version n : ℕ) (kind : SectionKind) → kind_of_column version n ≡ Some kind
     → column_of version kind ≡ Some n
@@ -113,26 +105,17 @@ says_whether count held n (Some i) is e =
 
 -- ---- one more column
 -- the place in a list with one number more
-position_push : (test : ℕ → Bool) (i : ℕ) (xs : List ℕ) (n : ℕ)
-    → position_from test i (xs ++ n ∷ [])
-    ≡ option_or (position_from test i xs) (cond (test n) (Some (i + length xs)) None)
+position_push : (test : ℕ → Bool) (i : ℕ) (xs : List ℕ) (n : ℕ) → position_from test i
+    (xs ++ n ∷ []) ≡ option_or (position_from test i xs) (cond (test n) (Some (i + length xs)) None)
 position_push test i [] n = rw add-zero refl
-position_push test i (x ∷ xs) n =
-    let count : i + 1 + length xs ≡ i + length (x ∷ xs) = omega arith in
-    by-bool _ (test x) (λ here. rw here refl)
-    (λ other. rw (other, position_push test (i + 1) xs n, count) refl)
-
-or_none : (o : Option ℕ) → option_or o None ≡ o
-or_none None = refl
-or_none (Some i) = refl
+position_push test i (x ∷ xs) n = grind (arith, position_push test (i + 1) xs n)
 
 abbrev place_of : Option ℕ → List ℕ → Option ℕ
 place_of number columns = option_and_then (λ c. position_from (λ n. eqb n c) 0 columns) number
 
 -- the number of a section's column has no place just where the section has none
-number_place : (version n : ℕ) (columns : List ℕ) (kind : SectionKind)
-    → kind_of_column version n ≡ Some kind
-    → column_place version columns kind ≡ position_from (λ x. eqb x n) 0 columns
+number_place : (version n : ℕ) (columns : List ℕ) (kind : SectionKind) → kind_of_column version n
+    ≡ Some kind → column_place version columns kind ≡ position_from (λ x. eqb x n) 0 columns
 unfolding column_place
 number_place version n columns kind e = rw (number_of_kind version n kind e) refl
 
@@ -146,11 +129,10 @@ same_place : (version n : ℕ) (columns : List ℕ) (kind : SectionKind)
 unfolding column_place
 same_place version n columns kind = go (column_of version kind)
   where
-    go : (o : Option ℕ) → (o ≡ Some n → ⊥)
-        → place_of o (columns ++ n ∷ []) ≡ place_of o columns
+    go : (o : Option ℕ) → (o ≡ Some n → ⊥) → place_of o (columns ++ n ∷ []) ≡ place_of o columns
     go None other = refl
     go (Some c) other = position_push (λ x. eqb x c) 0 columns n
-        ∙ rw (ne_eqb n c (λ e. other (ap Some (sym e)))) (or_none _)
+        ∙ rw (ne_eqb n c (λ e. other (ap Some (sym e)))) (grind arith)
 
 -- where columns stand once there is one more, of a section that had none
 pub one_more : (old new : ByKind ℕ) (version count n : ℕ) (columns more : List ℕ)
@@ -162,17 +144,14 @@ one_more old new version count n columns more kind longer long small are named n
     let absent : position_from (λ x. eqb x n) 0 columns ≡ None =
     sym (number_place version n columns kind named) ∙ says_none count (place_held old kind)
     (place_held old kind) (column_place version columns kind) (are kind) refl none in
-    let found : column_place version (columns ++ n ∷ []) kind ≡ Some count =
-    number_place version n (columns ++ n ∷ []) kind named
-    ∙ position_push (λ x. eqb x n) 0 columns n
-    ∙ rw (absent, eq-eqb n n refl, zero-add, long) refl in
-    rw longer (by-bool (IsPlace (count + 1) (place_held new other)
-    (column_place version (columns ++ n ∷ []) other)) (same_kind other kind)
-    (λ e. let same = is-same other kind e in
-    rw (put other, e, same, found) (refl, omega arith, small))
-    (λ e. let apart : (column_of version other ≡ Some n → ⊥) =
-    λ f. false≢true (sym e ∙ ap (λ k. same_kind k kind) (same_Some other kind
-    (sym (kind_of_number version n other f) ∙ named)) ∙ same-self kind) in
+    let found : column_place version (columns ++ n ∷ []) kind ≡ Some count = number_place version n
+    (columns ++ n ∷ []) kind named ∙ position_push (λ x. eqb x n) 0 columns n
+    ∙ rw (absent, eq-eqb n n refl, zero-add, long) refl in rw longer (by-bool
+    (IsPlace (count + 1) (place_held new other) (column_place version (columns ++ n ∷ []) other))
+    (same_kind other kind) (λ e. let same = is-same other kind e in
+    rw (put other, e, same, found) (refl, omega arith, small)) (λ e. let apart : (column_of
+    version other ≡ Some n → ⊥) = λ f. false≢true (sym e ∙ ap (λ k. same_kind k kind)
+    (same_Some other kind (sym (kind_of_number version n other f) ∙ named)) ∙ same-self kind) in
     rw (put other, e, same_place version n columns other apart)
     (wider count (place_held old other) (column_place version columns other) (are other))))
 
@@ -187,8 +166,7 @@ unfolding column_place
 none_yet p version none kind = rw (no_place (column_of version kind)) (none kind)
 
 -- a number is among the columns just where its section's column has a place
-pub among : (version n : ℕ) (columns : List ℕ) (kind : SectionKind)
-    → kind_of_column version n ≡ Some kind
-    → list_any (λ x. eqb x n) columns ≡ is_some (column_place version columns kind)
+pub among : (version n : ℕ) (columns : List ℕ) (kind : SectionKind) → kind_of_column version n
+    ≡ Some kind → list_any (λ x. eqb x n) columns ≡ is_some (column_place version columns kind)
 among version n columns kind named = sym (is_some-position (λ x. eqb x n) 0 columns)
     ∙ ap is_some (sym (number_place version n columns kind named))

@@ -1,25 +1,21 @@
 -- The first section of a kind, met in file order, and the contents of a file whose sections hold
 -- them as they stand.
-use Rattle.std.proofs.Common.{Bool, List, None, Ok, Option, Some, [], ap, arith, cond, drop, eqb}
-use Rattle.std.proofs.Common.{false, find, inl, inr, is_some, length, ne_eqb, option_and_then}
-use Rattle.std.proofs.Common.{option_map, refl, rules, slice_get, subst, sym, true, ℕ, ◌+◌, ◌<◌}
-use Rattle.std.proofs.Common.{◌||◌, ◌∙◌, ◌∷◌, ◌≡◌}
+use Rattle.std.proofs.Common.{Bool, List, None, Ok, Option, [], ℕ, ◌+◌, ◌<◌, ◌||◌, ◌∙◌, ◌∷◌, ◌≡◌}
+use Rattle.std.proofs.Common.{is_some, length, ne_eqb, option_and_then, option_map, slice_get, Some}
+use Rattle.std.proofs.Common.{arith, cond, drop, eqb, false, find, inl, refl, rules, subst, true}
 use Rattle.std.proofs.lemmas.Bool.{false≢true}
-use Rattle.std.proofs.lemmas.Slice.Eq.{bytes_eq-Decides}
-use Rattle.std.specs.Option.{option_or}
-use Rattle.std.specs.Prelude.{IfSome, IsTrue}
-use Rattle.dwp_index.proofs.Terms.{Endianness, Index, SectionKind, all_kinds, by-bool, each-read}
-use Rattle.dwp_index.proofs.Terms.{found_with, index_of, is-same, kind-named, name_of, named-itself}
-use Rattle.dwp_index.proofs.Terms.{not-older, same-each, same-self, same_Some, same_kind, value-of}
-use Rattle.dwp_base.proofs.Bools.{both}
-use Rattle.dwp_base.proofs.Finds.{find_hit, find_miss}
+use Rattle.dwp_index.proofs.Terms.{all_kinds, each-read, not-older, same-each, same-self, same_Some}
+use Rattle.dwp_index.proofs.Terms.{by-bool, Index, index_of, is-same, name_of, same_kind, value-of}
+use Rattle.dwp_index.proofs.Terms.{Endianness, found_with, kind-named, named-itself, SectionKind}
+use Rattle.std.proofs.{Common.ap, Common.inr, Common.sym, lemmas.Slice.Eq.bytes_eq-Decides}
+use Rattle.std.specs.{Option.option_or, Prelude.IfSome, Prelude.IsTrue}
+use Rattle.dwp_base.proofs.{Bools.both, Finds.find_hit, Finds.find_miss}
 use Rattle.dwp_base.specs.Sections.{compressed_name_of, is_named, kind_named}
 use Rattle.dwp_base.specs.declared.section.SectionKind.TheVariants.{CuIndex, TuIndex}
-use Rattle.dwp_elf_read.specs.Elf.{Elf, SHT_NOBITS, SectionMeaning, elf_of, has_name}
-use Rattle.dwp_elf_read.specs.View.{section}
-use Rattle.dwp_elf_read.specs.declared.section.Section.{Section}
+use Rattle.dwp_elf_read.specs.Elf.{Elf, elf_of, has_name, SectionMeaning, SHT_NOBITS}
+use Rattle.dwp_elf_read.specs.{declared.section.Section.Section, View.section}
 use Rattle.dwp_index.specs.Contents.{content, content_among, contents_of, is_of_kind, used_bytes}
-use Rattle.dwp_index.specs.Holding.{HasContent, Holds, HoldsInOrder, held_of, sections_of}
+use Rattle.dwp_index.specs.Holding.{HasContent, held_of, Holds, HoldsInOrder, sections_of}
 use Rattle.dwp_index.specs.Package.{index_in_section, package_of}
 
 -- ---- the kind that a section's name belongs to
@@ -34,13 +30,11 @@ found-passes p (y ∷ ys) x h = grind (rules, found-passes p ys x)
 pub named-of : (kind : SectionKind) (name : Option (List ℕ)) → has_name kind name ≡ true
     → option_and_then kind_named name ≡ Some kind
 named-of kind None h = absurd cc
-named-of kind (Some name) h = grind (
-  rules,
-  bytes_eq-Decides name (name_of kind),
-  bytes_eq-Decides name (compressed_name_of kind),
-  kind-named kind,
-  same-each (λ k. kind_named (compressed_name_of k)) Some refl kind,
-)
+named-of kind (Some name) h =
+    let own = bytes_eq-Decides name (name_of kind) in
+    let older = bytes_eq-Decides name (compressed_name_of kind) in
+    let same = same-each (λ k. kind_named (compressed_name_of k)) Some refl kind in
+    grind (rules, own, older, kind-named kind, same)
 
 names : (kind : SectionKind) (name : Option (List ℕ))
     → option_and_then kind_named name ≡ Some kind → has_name kind name ≡ true
@@ -51,15 +45,13 @@ names kind (Some name) e = found-passes (is_named name) all_kinds kind e
 pub of-other : (kind : SectionKind) (s : SectionMeaning)
     → (option_and_then kind_named s.name ≡ Some kind → ⊥) → is_of_kind kind s ≡ false
 unfolding is_of_kind
-of-other kind s other = by-bool (is_of_kind kind s ≡ false) (is_of_kind kind s)
-    (λ its. absurd (other (named-of kind s.name (both _ (has_name kind s.name) its).1)))
-    (λ not. not)
+of-other kind s other = by-bool (is_of_kind kind s ≡ false) (is_of_kind kind s) (λ its. absurd
+    (other (named-of kind s.name (both _ (has_name kind s.name) its).1))) (λ not. not)
 
 -- ---- one more section is met
 passed : (kind : SectionKind) (met : Option (ℕ × Section)) (i : ℕ) (next : Section)
     → is_of_kind kind (section next) ≡ false → found_with kind met i next ≡ met
-passed kind (Some first) i next other = refl
-passed kind None i next other = rw other refl
+passed kind met i next other = grind (arith, other)
 
 -- one that has no bytes
 pub passed-empty : (kind : SectionKind) (met : Option (ℕ × Section)) (i : ℕ) (next : Section)
@@ -88,27 +80,17 @@ module _ (met : SectionKind → Option (ℕ × Section)) (i : ℕ) (next : Secti
       → is_some (met own) ≡ false → (kind : SectionKind) → found_with kind (met kind) i next
       ≡ cond (same_kind kind own) (Some (i, next)) (met kind)
   unfolding is_of_kind
-  met-first full none kind = by-bool _ (same_kind kind own)
-      (λ same. rw (same, is-same kind own same)
-      (first (met own) none (rw (full, names own (section next).name named) refl)))
+  met-first full none kind =
+      let its : is_of_kind own (section next) ≡ true =
+      rw (full, names own (section next).name named) refl in by-bool _
+      (same_kind kind own) (λ same. rw (same, is-same kind own same) (grind (arith, none, its)))
       (λ other. rw other (passed-by kind other))
-    where
-      first : (before : Option (ℕ × Section)) → is_some before ≡ false
-          → is_of_kind own (section next) ≡ true → found_with own before i next ≡ Some (i, next)
-      first None none its = rw its refl
-      first (Some met) none its = absurd cc
 
   -- one more of that kind
   pub met-later : is_some (met own) ≡ true → (kind : SectionKind)
       → found_with kind (met kind) i next ≡ met kind
   met-later some kind = by-bool _ (same_kind kind own)
-      (λ same. rw (is-same kind own same) (later (met own) some))
-      (λ other. passed-by kind other)
-    where
-      later : (before : Option (ℕ × Section)) → is_some before ≡ true
-          → found_with own before i next ≡ before
-      later None some = absurd cc
-      later (Some met) some = refl
+      (λ same. rw (is-same kind own same) (grind (arith, some))) (λ other. passed-by kind other)
 
 -- ---- the walk
 
@@ -123,18 +105,14 @@ pub record IsMet (kind : SectionKind) (xs : List SectionMeaning) (i : ℕ)
 pub met-next : (kind : SectionKind) (xs : List SectionMeaning) (i : ℕ) (next : Section)
     (met : Option (ℕ × Section)) → slice_get xs i ≡ Some (section next) → IsMet kind xs i met
     → IsMet kind xs (i + 1) (found_with kind met i next)
-met-next kind xs i next (Some found) at is = record {
-  first = is.first;
-  there = is.there;
-  filled = is.filled;
-}
+met-next kind xs i next (Some found) at is =
+    record { first = is.first; there = is.there; filled = is.filled }
 met-next kind xs i next None at is = by-bool _ (is_of_kind kind (section next))
     (λ here. rw here (record {
       first = sym (find_hit (is_of_kind kind) xs i (section next) at here) ∙ is.first;
       there = at;
       filled = here;
-    }))
-    (λ other. rw other (record {
+    })) (λ other. rw other (record {
       first = sym (find_miss (is_of_kind kind) xs i (section next) at other) ∙ is.first;
       there = tt;
       filled = tt;
@@ -149,8 +127,7 @@ another_kind section kind other e ne = of-other kind section (λ named.
 
 pub foreign : (section : SectionMeaning) (kind : SectionKind) (name : List ℕ) → section.name ≡ Some
     name → kind_named name ≡ None → is_of_kind kind section ≡ false
-foreign section kind name e none = of-other kind section (λ named.
-    cc (sym none ∙ rw e at named))
+foreign section kind name e none = of-other kind section (λ named. cc (sym none ∙ rw e at named))
 
 pub empty : (section : SectionMeaning) (kind : SectionKind) → section.size ≡ 0
     → is_of_kind kind section ≡ false
@@ -183,12 +160,10 @@ held_in_order (s ∷ ss) (c ∷ cs) (inr h) kind = by-bool _ (same_kind c.0 kind
     (λ e. rw e (inl (subst (λ k. Holds s k c.1) (is-same c.0 kind e) h.0)))
     (λ e. rw e (inr (another_kind s kind c.0 h.0.name_is e, held_in_order ss cs h.1 kind)))
 
-pub package_is : (bytes : List ℕ) (file : Elf) (held : SectionKind → List ℕ)
-    (compilations types : Option Index) → elf_of bytes ≡ Ok file
-    → ((kind : SectionKind) → HasContent file.sections kind (held kind))
-    → index_in_section file.order (held CuIndex) ≡ Ok compilations → index_in_section file.order
-    (held TuIndex) ≡ Ok types
-    → package_of bytes ≡ Ok (record {
+pub package_is : (bytes : List ℕ) (file : Elf) (held : SectionKind → List ℕ) (compilations
+    types : Option Index) → elf_of bytes ≡ Ok file → ((kind : SectionKind) → HasContent
+    file.sections kind (held kind)) → index_in_section file.order (held CuIndex) ≡ Ok compilations
+    → index_in_section file.order (held TuIndex) ≡ Ok types → package_of bytes ≡ Ok (record {
       order = file.order;
       contents = sections_of held;
       compilations = compilations;

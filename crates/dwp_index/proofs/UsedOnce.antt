@@ -1,21 +1,19 @@
 -- The used slots of an index of distinct identifiers.
-use Rattle.std.proofs.Common.{Bool, List, None, Option, Some, [], add-one, ap, append_assoc, arith}
-use Rattle.std.proofs.Common.{drop, eqb, filter, get_or, get_or-set_other, length, length-append}
-use Rattle.std.proofs.Common.{length-set, map, map-id, ne_eqb, not, refl, set, subst, suc, sym}
-use Rattle.std.proofs.Common.{take, zero, ℕ, ◌++◌, ◌+◌, ◌-◌, ◌<◌, ◌∙◌, ◌∷◌, ◌≡◌, ◌≤◌, ◌⊎◌}
-use Rattle.std.proofs.Math.Seq.{get_or-append_seam}
-use Rattle.std.proofs.lemmas.Bool.{cases_eq}
-use Rattle.std.proofs.lemmas.Grind.{get_or-set_at}
+use Rattle.std.proofs.Common.{Bool, List, None, [], ℕ, ◌++◌, ◌+◌, ◌-◌, ◌<◌, ◌∙◌, ◌∷◌, ◌≡◌, ◌≤◌, ◌⊎◌}
+use Rattle.std.proofs.Common.{add-one, append_assoc, get_or-set_other, length-append, length-set}
+use Rattle.std.proofs.Common.{arith, filter, get_or, length, map-id, ne_eqb, Option, Some, subst}
+use Rattle.std.proofs.Common.{ap, drop, eqb, map, not, refl, set, suc, sym, take, zero}
+use Rattle.std.proofs.lemmas.List.Sorted.{IsPermutation-append, IsPermutation-push_more}
+use Rattle.std.proofs.lemmas.List.Sorted.{IsPermutation-middle, IsPermutation-refl}
+use Rattle.std.proofs.lemmas.List.Sorted.{IsPermutation-map, IsPermutation-sym}
+use Rattle.std.proofs.{lemmas.List.Elements.filter-append, Math.Seq.get_or-append_seam}
+use Rattle.std.proofs.{lemmas.Bool.cases_eq, lemmas.Grind.get_or-set_at}
 use Rattle.std.proofs.lemmas.List.{get_or-map, get_or_past, length-map, set-get_or, set_split}
-use Rattle.std.proofs.lemmas.List.Elements.{filter-append}
 use Rattle.std.proofs.lemmas.List.FromFn.{fill_by_all, map-range_with_len_more}
-use Rattle.std.proofs.lemmas.List.Sorted.{IsPermutation-append, IsPermutation-map}
-use Rattle.std.proofs.lemmas.List.Sorted.{IsPermutation-middle, IsPermutation-push_more}
-use Rattle.std.proofs.lemmas.List.Sorted.{IsPermutation-refl, IsPermutation-sym}
 use Rattle.std.specs.List.Sorted.{IsPermutation}
-use Rattle.dwp_index.proofs.Terms.{Index, IsIndex, by-bool, place, range_with_len}
+use Rattle.dwp_index.proofs.Terms.{Index, IsIndex, place, range_with_len}
 use Rattle.dwp_index.specs.Entries.{compilation_entry, entries_from, type_entry}
-use Rattle.dwp_index.specs.Naming.{IsIndexOfIds, entries_of, numbered}
+use Rattle.dwp_index.specs.Naming.{entries_of, IsIndexOfIds, numbered}
 use Rattle.dwp_index.specs.Used.{slot_at, used_from, used_in}
 use Rattle.dwp_table.specs.Table.{IsHashTable, signature_of}
 
@@ -82,21 +80,18 @@ slot-within rows k some = grind (arith, get_or_past rows k 0)
 
 rows_have_each : (ids rows : List ℕ) → IsHashTable ids rows → HasEach (length ids) rows
 rows_have_each ids rows table = record {
-  each = λ r h.
-      let at = table.placed r h in
-      let slot = place (length rows) (get_or ids r 0) at.0 in
-      let row : get_or rows slot 0 ≡ suc r = omega (arith, at.1.here) in
-      (slot, slot-within rows slot (omega (arith, row)), row);
+  each = λ r h. let at = table.placed r h in
+      let slot = place (length rows) (get_or ids r 0) at.0 in let row : get_or rows slot 0
+      ≡ suc r = omega (arith, at.1.here) in (slot, slot-within rows slot (omega (arith, row)), row);
   most = table.only;
-  once = λ k l some same. table.once k l (slot-within rows k some)
-      (slot-within rows l (omega (arith, some, same))) some same;
+  once = λ k l some same. table.once k l
+      (slot-within rows k some) (slot-within rows l (omega (arith, some, same))) some same;
 }
 
 used-map : (ids rows : List ℕ)
     → filter (λ s. used s.1) (map (named ids) rows) ≡ map (named ids) (filter used rows)
 used-map ids [] = refl
-used-map ids (r ∷ rows) = by-bool _ (used r) (λ e. rw (e, used-map ids rows) refl)
-    (λ e. rw (e, used-map ids rows) refl)
+used-map ids (r ∷ rows) = grind (arith, used-map ids rows)
 
 -- the used slots are the used rows with their names
 used-named : (ids : List ℕ) (index : Index) → IsIndex ids index.signatures index.rows
@@ -120,8 +115,7 @@ numbered-from : (before ids : List ℕ) (r : ℕ) → r ≡ suc (length before) 
 numbered-from before [] r e = refl
 numbered-from before (x ∷ ids) r e =
     let longer : r + 1 ≡ suc (length (before ++ x ∷ [])) =
-    omega (arith, length-append before (x ∷ [])) in
-    rw (
+    omega (arith, length-append before (x ∷ [])) in rw (
       numbered-from (before ++ x ∷ []) ids (r + 1) longer,
       append_assoc,
       ← named-at before ids x r e,
@@ -129,10 +123,9 @@ numbered-from before (x ∷ ids) r e =
 
 pub slots_once : (ids : List ℕ) (index : Index) → IsIndex ids index.signatures index.rows
     → IsPermutation (numbered 1 ids) (used_in index 0)
-slots_once ids index is =
-    rw (numbered-from [] ids 1 (omega arith), used-named ids index is)
-    (IsPermutation-map (named ids) _ _ (each_once (length ids) index.rows
-    (rows_have_each ids index.rows is.table)))
+slots_once ids index is = rw
+    (numbered-from [] ids 1 (omega arith), used-named ids index is) (IsPermutation-map
+    (named ids) _ _ (each_once (length ids) index.rows (rows_have_each ids index.rows is.table)))
 
 used_once : (index : Option Index) (ids : List ℕ) → IsIndexOfIds index ids
     → IsPermutation (numbered 1 ids) (used_from index 0)
@@ -142,7 +135,6 @@ used_once (Some index) ids is = slots_once ids index is
 pub entries_once : (compilations types : Option Index) (ids signatures : List ℕ)
     → IsIndexOfIds compilations ids → IsIndexOfIds types signatures
     → IsPermutation (entries_of ids signatures) (entries_from compilations types 0 0)
-entries_once compilations types ids signatures c t =
-    IsPermutation-append _ _ _ _
+entries_once compilations types ids signatures c t = IsPermutation-append _ _ _ _
     (IsPermutation-map compilation_entry _ _ (used_once compilations ids c))
     (IsPermutation-map type_entry _ _ (used_once types signatures t))

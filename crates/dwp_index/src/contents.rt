@@ -1,12 +1,11 @@
 //! The contents of a package's sections (DWARF 5, 7.3.5).
 
-ghost use Rattle.std.specs.Prelude.{◌≡◌, Some, IsTrue, IfSome, slice_get};
+ghost use Rattle.std.specs.Prelude.{IfSome, IsTrue, slice_get, Some, ◌≡◌};
 ghost use Rattle.std.specs.List.{find};
-ghost use Rattle.dwp_base.specs.Reading.{Answers};
+ghost use Rattle.dwp_base.specs.{declared.section.SectionKind.SectionKind, Reading.Answers};
 ghost use Rattle.dwp_elf_read.specs.View.{elf, section};
-ghost use Rattle.dwp_index.specs.Contents.{content, is_of_kind, bytes_of, contents_of};
+ghost use Rattle.dwp_index.specs.Contents.{bytes_of, content, contents_of, is_of_kind};
 ghost use Rattle.dwp_index.specs.Firsts.{first_in, found_in, found_with};
-ghost use Rattle.dwp_base.specs.declared.section.SectionKind.{SectionKind};
 ghost use Rattle.dwp_index.specs.ContentFields.{contents_in};
 
 use dwp_base::{ByKind, SectionKind};
@@ -36,8 +35,7 @@ pub fn first_sections<'a>(file: &ElfFile<'a>) -> ByKind<Option<(usize, Section<'
     firsts
 }
 
-/// One more section was met: it is the first of its kind, where it has bytes and none was met
-/// before.
+/// Notes a section that was met, where it has bytes and is the first of its kind.
 fn meet<'a>(firsts: &mut ByKind<Option<(usize, Section<'a>)>>, number: usize, next: &Section<'a>)
     ensures { (kind : SectionKind) → found_in firsts.new kind
         ≡ found_with kind (found_in firsts.old kind) number next.now }
@@ -70,10 +68,8 @@ fn content_of_first<'a>(
 }
 
 impl<'a> Contents<'a> {
-    /// The contents of a file.
-    ///
-    /// # Errors
-    /// `Compressed` or `SectionRange` for the first, in order of kind, that can't be used.
+    /// The contents of a file. Errors: `Compressed` or `SectionRange` for the first, in order of
+    /// kind, that can't be used.
     #[tactic(auto, unfolding(crate::specs::Contents::contents_of))]
     pub fn read(file: &ElfFile<'a>) -> Result<Contents<'a>, ReadError>
         ensures { Answers contents_in result (contents_of (elf file.now).sections) }

@@ -1,18 +1,14 @@
 //! Packages: the units that their indexes name, with all that belongs to each.
 
-ghost use Rattle.std.specs.Prelude.{◌≡◌, ◌≤◌, ◌+◌, ℕ, List, length, IfOk};
+ghost use Rattle.std.specs.Prelude.{IfOk, length, List, ℕ, ◌+◌, ◌≡◌, ◌≤◌};
+ghost use Rattle.dwp_index.specs.Package.{as_error, first_outside, found_counted, index_in_section};
+ghost use Rattle.dwp_index.specs.Package.{first_byte, found, index_for, package_of, row_counted};
 ghost use Rattle.std.specs.Option.{option_copied};
 ghost use Rattle.dwp_base.specs.Reading.{Answers};
-ghost use Rattle.dwp_index.specs.Contents.{content};
-ghost use Rattle.dwp_index.specs.ContentFields.{contents_in};
-ghost use Rattle.dwp_table.specs.Objects.{identifier_of};
+ghost use Rattle.dwp_index.specs.{ContentFields.contents_in, Finding.row_number, Finding.slots_for};
+ghost use Rattle.dwp_index.specs.{Contents.content, Index.Index, Index.row_in};
+ghost use Rattle.dwp_table.specs.{Objects.identifier_of, Table.FindsExactly, Table.IsIndex};
 ghost use Rattle.dwp_table.specs.declared.object.DwarfObject.TheVariants.{Compilation, TypeUnit};
-ghost use Rattle.dwp_table.specs.Table.{IsIndex, FindsExactly};
-ghost use Rattle.dwp_index.specs.Finding.{row_number, slots_for};
-ghost use Rattle.dwp_index.specs.Index.{Index, row_in};
-ghost use Rattle.dwp_index.specs.Package.{as_error, package_of, index_in_section};
-ghost use Rattle.dwp_index.specs.Package.{index_for, first_outside, found_counted, found};
-ghost use Rattle.dwp_index.specs.Package.{first_byte, row_counted};
 ghost use Rattle.dwp_index.specs.declared.error.PackageError.TheVariants as errors;
 
 use crate::contents::Contents;
@@ -50,11 +46,9 @@ impl<'a> PackageFile<'a> {
     ghost use Rattle.dwp_index.specs.Entries.{units_left, entries_from};
     ghost use Rattle.dwp_index.specs.Naming.{entries_of, IsIndexOfIds};
 
-    /// Reads a package. An empty index section is none.
-    ///
-    /// # Errors
-    /// `Elf` where the file, or the first section of one of the names of a package, can't be read
-    /// or is compressed; `Index` where an index is malformed, the one of compilation units first.
+    /// Reads a package. An empty index section is none. Errors: `Elf` where the file, or the first
+    /// section of one of the names of a package, can't be read or is compressed; `Index` where an
+    /// index is malformed, the one of compilation units first.
     #[tactic(auto, unfolding(crate::specs::Package::package_of))]
     pub fn parse(bytes: &'a [u8]) -> Result<PackageFile<'a>, PackageError>
         ensures { Answers (λ x. x) result (package_of bytes.now) }
@@ -79,8 +73,7 @@ impl<'a> PackageFile<'a> {
         self.order
     }
 
-    /// The content of the first section of a kind that has bytes; none where there is no such
-    /// section (DWARF 5, 7.3.5).
+    /// The content of the first section of a kind that has bytes, or none (DWARF 5, 7.3.5).
     pub fn content(&self, kind: SectionKind) -> &'a [u8]
         ensures content { result.now ≡ content self.now.contents kind }
     {
@@ -104,11 +97,8 @@ impl<'a> PackageFile<'a> {
     }
 
     /// The unit of an identifier, by the probing of DWARF 5, 7.3.5.3, in the index of its kind;
-    /// None where the index hasn't it.
-    ///
-    /// # Errors
-    /// `Index` where its row is past the rows, `Range` for the first range outside its section,
-    /// `Unit` where its header can't be read.
+    /// None where the index hasn't it. Errors: `Index` where its row is past the rows, `Range` for
+    /// the first range outside its section, `Unit` where its header can't be read.
     #[tactic(auto, unfolding(crate::specs::Package::found))]
     pub fn find(&self, object: DwarfObject) -> Result<Option<PackagedUnit<'a>>, PackageError>
         ensures { Answers (λ x. x) result (found self.now object) }
@@ -117,20 +107,14 @@ impl<'a> PackageFile<'a> {
         Ok(unit)
     }
 
-    /// The compilation unit of a DWO id: `find` of it.
-    ///
-    /// # Errors
-    /// Those of `find`.
+    /// The compilation unit of a DWO id: `find` of it. Errors: those of `find`.
     pub fn find_cu(&self, id: DwoId) -> Result<Option<PackagedUnit<'a>>, PackageError>
         ensures { Answers (λ x. x) result (found self.now (Compilation id)) }
     {
         self.find(DwarfObject::Compilation(id))
     }
 
-    /// The type unit of a signature: `find` of it.
-    ///
-    /// # Errors
-    /// Those of `find`.
+    /// The type unit of a signature: `find` of it. Errors: those of `find`.
     pub fn find_tu(
         &self,
         signature: DebugTypeSignature,
@@ -140,11 +124,8 @@ impl<'a> PackageFile<'a> {
         self.find(DwarfObject::TypeUnit(signature))
     }
 
-    /// The unit of an identifier, and how many slots were looked at; 0 where there is no index of
-    /// the kind.
-    ///
-    /// # Errors
-    /// Those of `find`.
+    /// The unit of an identifier, and how many slots were looked at; 0 where its kind has no index.
+    /// Errors: those of `find`.
     #[tactic(auto, unfolding(crate::specs::Package::found_counted, crate::specs::Package::unit_at_row, crate::specs::Package::unit_in, crate::specs::Package::row_bytes))]
     pub fn find_counted(
         &self,
@@ -193,9 +174,7 @@ impl<'a> PackageFile<'a> {
     }
 
     /// The row of an identifier's unit with its number, counted from 1, and how many slots were
-    /// looked at: what `find_counted` answers, but nothing of the unit itself is read.
-    ///
-    /// # Errors
+    /// looked at: what `find_counted` answers, but nothing of the unit itself is read. Errors:
     /// `Index` where the row is past the rows, `Range` for the first range outside its section.
     #[tactic(auto, unfolding(crate::specs::Package::row_counted))]
     pub fn find_row(
@@ -227,14 +206,15 @@ impl<'a> PackageFile<'a> {
     {
         let index = self.index_for(object)?;
         let number = index.find(object.index())?;
-        let row = index.row(number).ok()?;
+        let Ok(row) = index.row(number) else {
+            return None;
+        };
         let kind = kind_of(place_of(object, row.range(SectionKind::Types)));
         let range = row.range(kind)?;
         self.contents.of(kind).get(range.offset.0 as usize).copied()
     }
 
-    /// The units that the slots of both indexes name, in order of slot, those of the compilation
-    /// index first.
+    /// The units that the slots of both indexes name, in order of slot, compilation units first.
     pub fn units(&self) -> Units<'_>
         ensures slots { units_left result ≡ entries_from self.now.compilations self.now.types 0 0 }
 
@@ -257,10 +237,8 @@ impl<'a> PackageFile<'a> {
     }
 }
 
-/// The index in a section's content (DWARF 5, 7.3.5.3); None in an empty one.
-///
-/// # Errors
-/// `Index` where it is malformed.
+/// The index in a section's content (DWARF 5, 7.3.5.3); None in an empty one. Errors: `Index` where
+/// it is malformed.
 #[tactic(auto, unfolding(crate::specs::Package::index_in_section))]
 #[inline(always)]
 pub fn read_index<'a>(
@@ -272,19 +250,22 @@ pub fn read_index<'a>(
     if bytes.is_empty() {
         return Ok(None);
     }
-    let index = UnitIndex::parse(bytes, order).map_err(PackageError::Index)?;
-    Ok(Some(index))
+    match UnitIndex::parse(bytes, order) {
+        Ok(index) => Ok(Some(index)),
+        Err(error) => Err(PackageError::Index(error)),
+    }
 }
 
-/// The row of a number, counted from 1: `UnitIndex::row` with an error of packages.
-///
-/// # Errors
-/// `Index` for row 0 and past the rows.
+/// The row of a number, counted from 1: `UnitIndex::row` with an error of packages. Errors: `Index`
+/// for row 0 and past the rows.
 #[inline(always)]
 pub fn read_row<'a>(index: &UnitIndex<'a>, number: u32) -> Result<Row<'a>, PackageError>
     ensures { Answers (λ x. x) result (as_error errors.Index (row_in index.now number)) }
 {
-    index.row(number).map_err(PackageError::Index)
+    match index.row(number) {
+        Ok(row) => Ok(row),
+        Err(error) => Err(PackageError::Index(error)),
+    }
 }
 
 /// The first section, in the order of columns, that a range of the row isn't inside of.

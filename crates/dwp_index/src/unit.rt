@@ -1,13 +1,11 @@
 //! Units of a package, with all that belongs to each (DWARF 5, 7.3.5).
 
 ghost use Rattle.std.specs.Prelude.{◌≡◌};
+ghost use Rattle.dwp_index.specs.Package.{encoding_in, lies_inside, part_of, place_of, row_bytes};
 ghost use Rattle.std.specs.Option.{option_copied};
 ghost use Rattle.dwp_base.specs.Reading.{Answers};
 ghost use Rattle.dwp_bytes.specs.StringOffsets.{string_in};
-ghost use Rattle.dwp_index.specs.Contents.{content};
-ghost use Rattle.dwp_index.specs.Index.{range_in};
-ghost use Rattle.dwp_index.specs.Package.{part_of, lies_inside, row_bytes, kind_of, place_of};
-ghost use Rattle.dwp_index.specs.Package.{encoding_in};
+ghost use Rattle.dwp_index.specs.{Contents.content, Index.range_in, Package.kind_of};
 
 use crate::contents::Contents;
 use crate::unit_index::Row;
@@ -83,11 +81,8 @@ impl<'a> PackagedUnit<'a> {
     }
 
     /// The string of a number, by the unit's own encoding; None past the last whole entry of its
-    /// string offsets.
-    ///
-    /// # Errors
-    /// `OffsetOutOfRange` for an offset past the strings, `NoTerminator` where no zero byte ends
-    /// the string.
+    /// string offsets. Errors: `OffsetOutOfRange` for an offset past the strings, `NoTerminator`
+    /// where no zero byte ends the string.
     pub fn string(&self, i: u64) -> Result<Option<&'a [u8]>, ReadError>
         ensures { Answers option_copied result
             (string_in self.now.order self.now.encoding (content self.now.contents SectionKind.Str)
@@ -126,8 +121,7 @@ pub fn lies_inside(bytes: &[u8], range: Contribution) -> bool
     range.offset.0 <= len && range.size <= len - range.offset.0
 }
 
-/// The section that a unit's own bytes stand in: a type unit's may be those of types, by its range
-/// there.
+/// The section that a unit's own bytes stand in: types for a type unit that has a range there.
 #[inline(always)]
 pub fn place_of(object: DwarfObject, range: Option<Contribution>) -> UnitSection
     ensures { result ≡ place_of object range }
@@ -149,10 +143,8 @@ pub fn kind_of(place: UnitSection) -> SectionKind
     }
 }
 
-/// The encoding in the header of the unit that the bytes begin with (DWARF 5, 7.5.1).
-///
-/// # Errors
-/// That of the header where it can't be read, `UnexpectedEof` where there are no bytes.
+/// The encoding in the header of the unit that the bytes begin with (DWARF 5, 7.5.1). Errors: that
+/// of the header where it can't be read, `UnexpectedEof` where there are no bytes.
 #[inline(always)]
 pub fn encoding_in(
     bytes: &[u8],
@@ -180,6 +172,7 @@ pub fn encoding_in(
 }
 
 /// The encoding of a unit of any form.
+#[tactic(auto, using(crate::proofs::FirstUnit::encoding_first))]
 #[inline(never)]
 fn any_encoding(bytes: &[u8], order: Endianness, place: UnitSection) -> Result<Encoding, ReadError>
     ensures { Answers (λ x. x) result (encoding_in order place bytes.now) }

@@ -1,15 +1,13 @@
 use Rattle.std.proofs.Common.{ap, arith, option_map, sym, ◌∙◌}
-use Rattle.dwp_index.proofs.Terms.{elf, found_in}
+use Rattle.dwp_index.proofs.{HeldContents.met-next, Terms.elf, Terms.found_in}
 use Rattle.dwp_base.proofs.Finds.{slice_get_none}
 use Rattle.dwp_elf_read.specs.View.{section}
-use Rattle.dwp_index.proofs.HeldContents.{met-next}
 use Rattle.dwp_index.proofs.contents.first_sections.Goals.{in-Some, in_default}
 use Rattle.dwp_index.proofs.contents.first_sections.Goals as goal
 
 pub loop-i-preserved : goal.loop-i-preserved
 loop-i-preserved c kind =
-    let xs = (elf c.args.file.now).sections in
-    elim c.match-section.branch [
+    let xs = (elf c.args.file.now).sections in elim c.match-section.branch [
       | in-Some w ↦
           let at = sym c.section.ensures.found ∙ ap (option_map section) w.in-Some.is in
           rw (w.firsts-is, w.meet.ensures kind) (met-next kind xs c.loop-i.i w.in-Some.next

@@ -2,8 +2,4 @@ use Rattle.dwp_index.proofs.PackageLookUp.{absent_unit, no_index, present_unit}
 use Rattle.dwp_index.proofs.laws.packages_find_exactly.Goals as goal
 
 pub returns : goal.returns
-returns c = record {
-  present = present_unit c.look_up_finds_exactly.ensures.exact;
-  absent = absent_unit c.look_up_finds_exactly.ensures.exact;
-  no_index = no_index;
-}
+returns c = record { present = present_unit; absent = absent_unit; no_index = no_index }

@@ -1,8 +1,7 @@
 use Rattle.std.proofs.Common.{ap, arith, false, is_none, is_some, refl, sym, true, ◌-◌, ◌∙◌, ◌≡◌}
-use Rattle.dwp_index.proofs.Terms.{NO_COLUMN, kind_of_column, numbers}
-use Rattle.dwp_index.proofs.Columns.{among, done, ends, further, none_yet, one_more, says_none}
-use Rattle.dwp_index.proofs.Columns.{says_some}
-use Rattle.dwp_index.proofs.NumberLists.{length-numbers, numbers_more}
+use Rattle.dwp_index.proofs.Columns.{among, done, further, none_yet, one_more, says_none, says_some}
+use Rattle.dwp_index.proofs.Terms.{kind_of_column, NO_COLUMN, numbers}
+use Rattle.dwp_index.proofs.{Columns.ends, NumberLists.length-numbers, NumberLists.numbers_more}
 use Rattle.dwp_index.proofs.parsing.read_columns.Goals as goal
 
 pub loop-i-init : goal.loop-i-init
@@ -20,9 +19,8 @@ pub returns-in_default-clause-exact : goal.returns-in_default-clause-exact
 returns-in_default-clause-exact c =
     let none = ap (λ n. is_none (kind_of_column c.args.version n))
     (sym c.read_u32_at-number.ensures) ∙ ap is_none (sym c.kind_of_column.ensures) ∙ ap is_none
-    c.in_default.is in
-    sym c.loop-i.invariant.so_far ∙ further c.args.order c.args.version c.args.bytes.now
-    c.args.count c.loop-i.i c.loop-i-test.true (omega arith) true _ none refl
+    c.in_default.is in sym c.loop-i.invariant.so_far ∙ further c.args.order c.args.version
+    c.args.bytes.now c.args.count c.loop-i.i c.loop-i-test.true (omega arith) true _ none refl
 
 pub returns-then-get-clause-exact : goal.returns-then-get-clause-exact
 returns-then-get-clause-exact c =

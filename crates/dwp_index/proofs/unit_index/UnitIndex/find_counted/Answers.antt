@@ -5,9 +5,8 @@ use Rattle.dwp_index.proofs.Views.{end-on, end-start, ended, row_of-used, slots-
 use Rattle.dwp_index.proofs.unit_index.UnitIndex.find_counted.Goals as goal
 
 -- what the row and the count of a look-up say in a table of distinct identifiers
-told : (signatures rows : List ℕ) (x : ℕ) (row : Option ℕ) (count : ℕ)
-    → row ≡ found_row signatures rows x → count ≡ look_count signatures rows x
-    → (count ≤ length rows)
+told : (signatures rows : List ℕ) (x : ℕ) (row : Option ℕ) (count : ℕ) → row
+    ≡ found_row signatures rows x → count ≡ look_count signatures rows x → (count ≤ length rows)
     × ((ids : List ℕ) → IsIndex ids signatures rows → FindsExactly ids x row count)
     × ((ids : List ℕ) → IsIndex ids signatures rows → count ≤ length ids + 1)
 told signatures rows x row count row_is count_is = rw (row_is, count_is) (
@@ -57,11 +56,9 @@ returns-then-signature-identifier c =
     record { row = row; count = sym end.1; bound = says.0; exact = says.1; few = says.2 }
 
 pub place_after-at-requires-clause-within : goal.place_after-at-requires-clause-within
-place_after-at-requires-clause-within c = omega (
-  arith,
-  c.loop-looked.invariant.within,
-  slots-length c.self.inside c.args.self.now c.self.view_is,
-)
+place_after-at-requires-clause-within c =
+    let slots = slots-length c.self.inside c.args.self.now c.self.view_is in
+    omega (arith, c.loop-looked.invariant.within, slots)
 
 pub loop-looked-preserved : goal.loop-looked-preserved
 loop-looked-preserved c =
