@@ -1,16 +1,14 @@
 -- Relocations whose places are in strict order, and what there is to read of a section by them.
-use Rattle.std.proofs.Common.{◌≡◌, ℕ, List, [], ◌∷◌, map, Ok, refl, sym, arith, IsTrue}
-use Rattle.std.proofs.Common.{nat_cmp, lt-ltb}
+use Rattle.std.proofs.Common.{arith, IsTrue, List, map, map-id, Ok, refl, sym, [], ℕ, ◌∙◌, ◌∷◌, ◌≡◌}
+use Rattle.std.proofs.{Common.lt-ltb, Common.nat_cmp, lemmas.Simd.map-map}
 use Rattle.std.specs.List.Sorted.{IsStrictlySortedBy}
 use Rattle.std.proofs.lemmas.Map.Keys.{below_from_sorted, sorted_tail}
-use Rattle.dwp_elf_read.specs.Elf.{Elf, SectionMeaning}
-use Rattle.dwp_elf_read.specs.Relocation.{relocations_of}
+use Rattle.dwp_elf_read.specs.{Elf.Elf, Elf.SectionMeaning, Relocation.relocations_of}
 use Rattle.dwp_bytes.specs.declared.relocation.Relocation.{Relocation}
-use Rattle.dwp_bytes.specs.declared.relocation.RelocationEntry.{RelocationEntry}
-use Rattle.dwp_bytes.specs.Input.{section as input_section}
-use Rattle.dwp_bytes.specs.Relocation.{ascends, relocated_input}
+use Rattle.dwp_bytes.specs.{declared.relocation.RelocationEntry.RelocationEntry, Relocation.ascends}
+use Rattle.dwp_bytes.specs.{Input.section as input_section, Relocation.relocated_input}
 use Rattle.thorin_executable.specs.Relocations.{pair_of, with_relocations}
-use Rattle.thorin_executable.specs.Sections.{entry_of, debug_content, loaded}
+use Rattle.thorin_executable.specs.Sections.{debug_content, entry_of, loaded}
 use Rattle.thorin_executable.specs.declared.loading.DebugSection.{DebugSection}
 
 abbrev places : List RelocationEntry → List ℕ
@@ -25,27 +23,23 @@ ascends-sorted (e ∷ f ∷ es) sorted =
     let rest = sorted_tail nat_cmp e.offset (places (f ∷ es)) sorted in
     rw (lt-ltb e.offset f.offset below, ascends-sorted (f ∷ es) rest) refl
 
-firsts : (es : List RelocationEntry) → map (λ (p : ℕ × Relocation). p.0) (map pair_of es)
-    ≡ places es
-firsts [] = refl
-firsts (e ∷ es) = rw (firsts es) refl
-
 -- a list of the pairs of a map in order of their places
 pub ascends_pairs : (es : List RelocationEntry) (pairs : List (ℕ × Relocation))
     → map pair_of es ≡ pairs → IsStrictlySortedBy nat_cmp (map (λ (p : ℕ × Relocation). p.0) pairs)
     → IsTrue (ascends es)
-ascends_pairs es pairs same sorted = ascends-sorted es (rw (← firsts es, same) sorted)
+ascends_pairs es pairs same sorted =
+    let firsts : map (λ (p : ℕ × Relocation). p.0) (map pair_of es) ≡ places es =
+    map-map (λ (p : ℕ × Relocation). p.0) pair_of es in
+    ascends-sorted es (rw (← firsts, same) sorted)
 
 pub entries-again : (entries : List RelocationEntry) → map entry_of (map pair_of entries) ≡ entries
-entries-again [] = refl
-entries-again (e ∷ es) = rw (entries-again es) refl
+entries-again entries = map-map entry_of pair_of entries ∙ map-id entries
 
 pub loaded_is : (file target : Elf) (kind : DebugSection) (section : SectionMeaning)
     (bytes : List ℕ) (entries placed : List RelocationEntry) → target ≡ file
     → debug_content kind section ≡ Ok bytes
     → with_relocations file section.name (relocations_of target section.number) [] ≡ Ok
-    (map pair_of entries)
-    → placed ≡ entries
+    (map pair_of entries) → placed ≡ entries
     → loaded file kind section ≡ Ok (relocated_input placed 0 (input_section file.order bytes))
 unfolding loaded
 loaded_is file target kind section bytes entries placed same content found is =

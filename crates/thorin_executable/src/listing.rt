@@ -1,15 +1,13 @@
 //! The split units of an executable, up to the first error.
 
-ghost use Rattle.std.specs.Prelude.{◌≡◌, [], None, Some, option_map, IfOk, OnErr, string_bytes};
-ghost use Rattle.dwp_dwarf.specs.Sections.{strings_of};
-ghost use Rattle.dwp_dwarf.specs.Split.{attributes_of};
+ghost use Rattle.thorin_executable.specs.Skeletons as spec;
+ghost use Rattle.std.specs.Prelude.{IfOk, None, OnErr, option_map, Some, string_bytes, [], ◌≡◌};
+ghost use Rattle.thorin_executable.specs.View.{IsNextNamed, IsOpenedNamed, named_at, UnlessMemory};
+ghost use Rattle.thorin_executable.specs.View.{data_of, IsFront, IsOpened, IsPathAfter, IsPushed};
+ghost use Rattle.dwp_dwarf.specs.{Sections.strings_of, Split.attributes_of};
 ghost use Rattle.dwp_units.specs.Units.{unit_of, unit_seen, units_left};
 ghost use Rattle.thorin_errors.specs.Answers.{Gives};
-ghost use Rattle.thorin_executable.specs.Skeletons as spec;
-ghost use Rattle.thorin_executable.specs.Paths.{IsKept};
-ghost use Rattle.thorin_executable.specs.View.{data_of, listed, IsFront, UnlessMemory, named_at};
-ghost use Rattle.thorin_executable.specs.View.{IsOpened, IsNext, IsOpenedNamed, IsNextNamed};
-ghost use Rattle.thorin_executable.specs.View.{IsPathAfter, IsPushed};
+ghost use Rattle.thorin_executable.specs.{Paths.IsKept, View.IsNext, View.listed};
 
 use crate::loading::{DebugData, SectionReader};
 use crate::paths::LastPath;
@@ -64,10 +62,8 @@ pub struct NamedUnit {
     pub is_repeated: bool,
 }
 
-/// The attributes of a unit's root entry that name its split object.
-///
-/// # Errors
-/// `NoDie` where it has none, `ParseUnit` for any error in it.
+/// The attributes of a unit's root entry that name its split object. Errors: `NoDie` where it has
+/// none, `ParseUnit` for any error in it.
 #[tactic(auto, unfolding(crate::specs::Skeletons::root_attributes))]
 fn root_attributes<R: Reader>(
     debug_abbrev: &mut AbbreviationCache<R>,
@@ -212,10 +208,8 @@ impl<'a> Model for NamedUnits<'a> {
 }
 
 impl<'a> NamedUnits<'a> {
-    /// Begins to read the units of an executable, as `SkeletonUnits::read_by` does.
-    ///
-    /// # Errors
-    /// Those of `SkeletonUnits::read`.
+    /// Begins to read the units of an executable, as `SkeletonUnits::read_by` does. Errors: those
+    /// of `SkeletonUnits::read`.
     #[tactic(auto, unfolding(crate::specs::Skeletons::skeletons_by))]
     pub fn read_by<Sess: Session<RelocationEntry>>(
         alloc: Global,
@@ -241,10 +235,8 @@ impl<'a> NamedUnits<'a> {
         })
     }
 
-    /// The next unit; None at the end.
-    ///
-    /// # Errors
-    /// Those of `SkeletonUnits::next`. No unit comes after an `Err`.
+    /// The next unit; None at the end. Errors: those of `SkeletonUnits::next`. No unit comes after
+    /// an `Err`.
     pub fn next(&mut self) -> Result<Option<NamedUnit>, Error>
         ensures next { IsNextNamed self.old.listed result self.new.path self.new.listed }
         ensures path { IsPathAfter result self.old.path self.new.path }
@@ -291,12 +283,9 @@ impl<'a> Model for SkeletonUnits<'a> {
 
 impl<'a> SkeletonUnits<'a> {
     /// Begins to read the units of an executable. Nothing of its bytes is copied; the relocations
-    /// are placed in the session.
-    ///
-    /// # Errors
-    /// `ParseObjectFile`; of a section that is used `DecompressData`, `ObjectRead`,
-    /// `NamelessSection`, `RelocationWithInvalidSymbol`, `MultipleRelocations` and
-    /// `UnsupportedRelocation`; `Memory`.
+    /// are placed in the session. Errors: `ParseObjectFile`; of a section that is used
+    /// `DecompressData`, `ObjectRead`, `NamelessSection`, `RelocationWithInvalidSymbol`,
+    /// `MultipleRelocations` and `UnsupportedRelocation`; `Memory`.
     pub fn read<Sess: Session<RelocationEntry>>(
         alloc: Global,
         session: &'a Sess,
@@ -308,10 +297,7 @@ impl<'a> SkeletonUnits<'a> {
     }
 
     /// Begins as `read` does, where a unit that names no object is refused or passed over, as is
-    /// asked for.
-    ///
-    /// # Errors
-    /// Those of `read`.
+    /// asked for. Errors: those of `read`.
     pub fn read_by<Sess: Session<RelocationEntry>>(
         alloc: Global,
         session: &'a Sess,
@@ -324,11 +310,9 @@ impl<'a> SkeletonUnits<'a> {
         Ok(SkeletonUnits { named })
     }
 
-    /// The next unit; None at the end.
-    ///
-    /// # Errors
-    /// Of a unit `ParseUnitHeader`, those of `dwo_identifier_of_unit`, `NoDie`, `ParseUnit`,
-    /// `MissingDwoName` and, for strings, `GimliRead`; `Memory`. No unit comes after an `Err`.
+    /// The next unit; None at the end. Errors: of a unit `ParseUnitHeader`, those of
+    /// `dwo_identifier_of_unit`, `NoDie`, `ParseUnit`, `MissingDwoName` and, for strings,
+    /// `GimliRead`; `Memory`. No unit comes after an `Err`.
     pub fn next(&mut self) -> Result<Option<Skeleton>, Error>
         ensures next { IsNext self.old result self.new }
         ensures ended { OnErr result (self.new ≡ ([], None)) }

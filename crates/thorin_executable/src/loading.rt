@@ -1,11 +1,10 @@
 //! The sections of an executable that are read.
 
-ghost use Rattle.std.specs.Prelude.{◌≡◌, find, option_map, IfSome, IsTrue};
-ghost use Rattle.dwp_bytes.specs.Input.{section};
-ghost use Rattle.dwp_bytes.specs.Relocation.{ascends, relocated_input};
+ghost use Rattle.thorin_executable.specs.Sections as spec;
+ghost use Rattle.std.specs.Prelude.{find, IfSome, IsTrue, option_map, ◌≡◌};
+ghost use Rattle.dwp_bytes.specs.{Input.section, Relocation.ascends, Relocation.relocated_input};
 ghost use Rattle.dwp_elf_read.specs.View.{elf, file as file_of, section as meaning};
 ghost use Rattle.thorin_errors.specs.Answers.{Gives};
-ghost use Rattle.thorin_executable.specs.Sections as spec;
 ghost use Rattle.thorin_executable.specs.View.{data_of};
 
 use crate::relocations::add_relocations;
@@ -70,15 +69,10 @@ impl<'a> Reader for SectionReader<'a> {
 /// A section of an executable that is read.
 #[derive(Clone, Copy)]
 pub(crate) enum DebugSection {
-    /// Abbreviations.
     Abbrev,
-    /// Units.
     Info,
-    /// Strings of line tables.
     LineStr,
-    /// Strings.
     Str,
-    /// Offsets of strings.
     StrOffsets,
 }
 
@@ -164,12 +158,9 @@ fn load_first<'a, Sess: Session<RelocationEntry>>(
 }
 
 impl<'a> DebugData<SectionReader<'a>> {
-    /// Those of the bytes of a file.
-    ///
-    /// # Errors
-    /// `ParseObjectFile`, then of the sections of abbreviations, units, strings of line tables,
-    /// strings and offsets of strings, in this order, `DecompressData`, `ObjectRead` and the errors
-    /// of relocations; `Memory`.
+    /// Those of the bytes of a file. Errors: `ParseObjectFile`, then of the sections of
+    /// abbreviations, units, strings of line tables, strings and offsets of strings, in this order,
+    /// `DecompressData`, `ObjectRead` and the errors of relocations; `Memory`.
     #[tactic(auto, unfolding(crate::specs::Sections::debug_data_of))]
     pub fn read<Sess: Session<RelocationEntry>>(
         alloc: Global,

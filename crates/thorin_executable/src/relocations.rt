@@ -1,15 +1,14 @@
 //! The relocations of an executable's section (ELF gABI, "Relocation").
 
-ghost use Rattle.std.specs.Prelude.{◌≡◌, [], map, IfOk, IsTrue, MatchResult, None, Some};
+ghost use Rattle.std.specs.Prelude.{IfOk, IsTrue, map, MatchResult, None, Some, [], ◌≡◌};
 ghost use Rattle.std.specs.Prelude.{string_bytes};
+ghost use Rattle.thorin_executable.specs.Relocations.{pair_of, with_relocation, with_relocations};
+ghost use Rattle.thorin_executable.specs.Relocations.{is_absolute};
 ghost use Rattle.dwp_elf_read.specs.declared.error.ReadError.TheVariants.{NameRange};
-ghost use Rattle.dwp_elf_read.specs.Relocation.{relocations_of};
-ghost use Rattle.dwp_elf_read.specs.View.{elf, file, section};
+ghost use Rattle.dwp_elf_read.specs.{Relocation.relocations_of, View.elf, View.file, View.section};
 ghost use Rattle.dwp_bytes.specs.Relocation.{ascends};
 ghost use Rattle.thorin_errors.specs.Answers.{Gives, MemoryAside};
 ghost use Rattle.thorin_errors.specs.Errors.{error_of, NamelessSection};
-ghost use Rattle.thorin_executable.specs.Relocations.{is_absolute, pair_of, with_relocation};
-ghost use Rattle.thorin_executable.specs.Relocations.{with_relocations};
 
 use dwp_bytes::{Relocation, RelocationEntry};
 use dwp_elf_read::{ElfFile, RawRelocation, Section};
@@ -25,14 +24,11 @@ const EM_X86_64: u16 = 62;
 const EM_AARCH64: u16 = 183;
 
 /// The relocations of a section of an executable, in order of place, no two at one place; the value
-/// of the symbol is added to each addend.
-///
-/// # Errors
-/// The first error in file order: `ObjectRead` where a table of relocations can't be read;
-/// `UnsupportedRelocation` for a type that isn't an absolute one of x86-64, i386 or AArch64;
-/// `RelocationWithInvalidSymbol` for a symbol that can't be read; `MultipleRelocations` for a
-/// second relocation at one place. These three name the section: where its name can't be read, the
-/// error is `NamelessSection`. Beside these `Memory` alone.
+/// of the symbol is added to each addend. Errors: the first error in file order: `ObjectRead` where
+/// a table of relocations can't be read; `UnsupportedRelocation` for a type that isn't an absolute
+/// one of x86-64, i386 or AArch64; `RelocationWithInvalidSymbol` for a symbol that can't be read;
+/// `MultipleRelocations` for a second relocation at one place. These three name the section: where
+/// its name can't be read, the error is `NamelessSection`. Beside these `Memory` alone.
 #[tactic(auto, unfolding(crate::specs::Relocations::with_relocations))]
 pub fn add_relocations(
     alloc: Global,

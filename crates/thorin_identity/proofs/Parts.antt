@@ -1,31 +1,26 @@
 -- The identity by a part of a section: tables of the same bytes give the same, and so does the
 -- section's table where it says the same of the root entry's code.
-use Rattle.std.proofs.Common.{◌≡◌, ℕ, ◌+◌, ◌<◌, ◌≤◌, min, length, take, drop, Option, Some, Result}
-use Rattle.std.proofs.Common.{Ok, Err, refl, ap, sym, ◌∙◌, arith, inl, inr, ◌-◌, List, [], ◌∷◌}
-use Rattle.std.proofs.Common.{None, option_map, drop-drop, length-drop, length-take-le, take-take}
-use Rattle.std.proofs.lemmas.Bool.{cases_lt}
-use Rattle.std.proofs.lemmas.List.{take_min, drop-take}
-use Rattle.std.specs.Option.{ok_or}
+use Rattle.std.proofs.Common.{drop, length, min, Ok, take, [], ℕ, ◌+◌, ◌-◌, ◌<◌, ◌∙◌, ◌∷◌, ◌≡◌, ◌≤◌}
+use Rattle.std.proofs.Common.{drop-drop, length-drop, length-take-le, Option, option_map, take-take}
+use Rattle.std.proofs.Common.{ap, arith, Err, inl, inr, List, None, refl, Result, Some, sym}
 use Rattle.dwp_base.specs.Reading.{◌>>=◌}
+use Rattle.thorin_identity.specs.Identity.{entry_identity, part_between, root_identity, with_offset}
+use Rattle.thorin_identity.specs.Identity.{DW_AT_GNU_dwo_id, first_identifier, numbered_identity}
+use Rattle.thorin_identity.specs.Identity.{compilation, found_or, identifier_in}
+use Rattle.std.proofs.{lemmas.Bool.cases_lt, lemmas.List.take_min, lemmas.Slice.between_is}
+use Rattle.std.specs.Option.{ok_or}
 use Rattle.dwp_bytes.specs.declared.error.ReadError.TheVariants.{UnknownCode}
-use Rattle.dwp_bytes.specs.Input.{Input, after, front, section}
-use Rattle.dwp_dwarf.proofs.Offsets.{from_within, past_end}
+use Rattle.dwp_bytes.specs.Input.{after, front, Input, section}
+use Rattle.dwp_dwarf.proofs.{Offsets.from_within, Offsets.past_end, Tables.declared_anywhere}
 use Rattle.dwp_units.proofs.Readings.{bind_alike}
-use Rattle.dwp_dwarf.proofs.Tables.{declared_anywhere}
-use Rattle.dwp_dwarf.specs.Abbreviations.{declaration, Declaration}
-use Rattle.dwp_dwarf.specs.Entries.{entry, DebugAttribute, DebugEntry}
-use Rattle.dwp_units.specs.AbbreviationCodes.{root_code_at}
-use Rattle.dwp_dwarf.specs.Offsets.{from_at}
-use Rattle.dwp_units.specs.Units.{Unit}
+use Rattle.dwp_dwarf.specs.{Abbreviations.declaration, Abbreviations.Declaration, Offsets.from_at}
+use Rattle.dwp_dwarf.specs.Entries.{DebugAttribute, DebugEntry, entry}
+use Rattle.dwp_units.specs.{AbbreviationCodes.root_code_at, Units.Unit}
 use Rattle.dwp_table.specs.declared.object.DwarfObject.{DwarfObject}
-use Rattle.thorin_errors.specs.Errors.{ErrorValue, NoDie, GimliRead, ParseUnitAbbreviations}
+use Rattle.thorin_errors.specs.Errors.{ErrorValue, GimliRead, NoDie, ParseUnitAbbreviations}
 use Rattle.thorin_errors.specs.Answers.{as_error}
-use Rattle.thorin_identity.specs.Identity.{entry_identity, root_identity, part_between, with_offset}
-use Rattle.thorin_identity.specs.Identity.{compilation, DW_AT_GNU_dwo_id, identifier_in, found_or}
-use Rattle.thorin_identity.specs.Identity.{first_identifier, numbered_identity}
 use Rattle.dwp_base.specs.declared.endian.Endianness.{Endianness}
-use Rattle.dwp_bytes.specs.declared.encoding.Encoding.{Encoding}
-use Rattle.dwp_bytes.specs.declared.error.ReadError.{ReadError}
+use Rattle.dwp_bytes.specs.{declared.encoding.Encoding.Encoding, declared.error.ReadError.ReadError}
 use Rattle.dwp_dwarf.specs.Numbers.{first_number, number_or, numbered, numbered_at}
 
 -- by the code of the root entry
@@ -83,12 +78,6 @@ pub part_min : (start end : ℕ) (whole : Input)
 part_min start end whole = rw (take_min end whole.bytes) refl
 
 -- ---- a range of a section is what is left behind its start of the bytes up to its end
--- what stands up to a place behind a start is what stands behind that of what is up to the place
-between : (bytes : List ℕ) (begin end : ℕ) → begin ≤ end
-    → take (end - begin) (drop begin bytes) ≡ drop begin (take end bytes)
-between bytes begin end early =
-    let way : begin + (end - begin) ≡ end = omega (arith, early) in
-    rw (← drop-take begin (end - begin) bytes, way) refl
 
 -- a part of a part is a part of the whole
 within : (bytes : List ℕ) (begin start end last : ℕ) → begin ≤ start → start ≤ end → end ≤ last
@@ -96,9 +85,10 @@ within : (bytes : List ℕ) (begin start end last : ℕ) → begin ≤ start →
     ≡ drop start (take end bytes)
 within bytes begin start end last early order late =
     let way : begin + (start - begin) ≡ start = omega (arith, early) in
-    let behind : begin ≤ end = omega (arith, early, order) in
+    let cut : take (end - begin) (drop begin (take last bytes))
+    ≡ drop begin (take end (take last bytes)) = between_is (take last bytes) begin end in
     rw (
-      between (take last bytes) begin end behind,
+      cut,
       take-take end last bytes late,
       drop-drop (start - begin) begin (take end bytes),
       way,
@@ -106,8 +96,7 @@ within bytes begin start end last early order late =
 
 -- the same of a section that is a part of one
 pub part_within : (order : Endianness) (bytes : List ℕ) (begin start end last : ℕ) (part : Input)
-    → begin ≤ start → start ≤ end → end ≤ last
-    → part ≡ section order (drop begin (take last bytes))
+    → begin ≤ start → start ≤ end → end ≤ last → part ≡ section order (drop begin (take last bytes))
     → part_between (start - begin) (end - begin) part ≡ section order (drop start (take end bytes))
 part_within order bytes begin start end last part early in_order late held =
     rw (held, within bytes begin start end last early in_order late) refl

@@ -1,18 +1,15 @@
 //! Which unit a unit of a split object is.
 
-ghost use Rattle.std.specs.Prelude.{◌≡◌, ◌≢◌, Ok, IfErr, IfSome, drop, take};
-ghost use Rattle.dwp_bytes.specs.Input.{Input};
-ghost use Rattle.thorin_errors.specs.Answers.{Gives};
+ghost use Rattle.std.specs.Prelude.{drop, IfErr, IfSome, Ok, take, ◌≡◌, ◌≢◌};
+ghost use Rattle.thorin_identity.specs.Identity.{numbered_identity, part_between, root_identity};
+ghost use Rattle.thorin_identity.specs.Identity.{identity, identity_by, with_offset};
+ghost use Rattle.{dwp_bytes.specs.Input.Input, thorin_errors.specs.Answers.Gives};
 ghost use Rattle.dwp_units.specs.Units.{Unit, unit_of};
-ghost use Rattle.dwp_dwarf.specs.Attributes.{entry_of};
 ghost use Rattle.dwp_dwarf.specs.Numbers.{numbered_of};
-ghost use Rattle.thorin_identity.specs.Identity.{identity, identity_by, root_identity};
-ghost use Rattle.thorin_identity.specs.Identity.{entry_identity, numbered_identity, part_between};
-ghost use Rattle.thorin_identity.specs.Identity.{with_offset};
 
 use dwp_dwarf::{
-    AbbreviationCache, Abbreviations, EntryNumber, ReadError, Reader, RootEntry, UnitHeader,
-    UnitType,
+    AbbreviationCache, Abbreviations, EntryNumber, ReadError, Reader, UnitHeader, UnitType,
+    number_read,
 };
 use dwp_table::{DebugTypeSignature, DwarfObject, DwoId};
 use thorin_errors::Error;
@@ -26,11 +23,9 @@ const DW_AT_GNU_DWO_ID: u64 = 0x2131;
 /// The identifier of a unit: from the header of a skeleton, split or type unit; for a compile unit
 /// the first GNU_dwo_id of its root entry whose form is a plain number; else none (DWARF 5, 7.5.1;
 /// the GNU page DebugFission). `debug_abbrev` is the section that the unit's abbreviations stand
-/// in.
-///
-/// # Errors
-/// For a compile unit alone: `ParseUnitAbbreviations` (the offset is past the end, or the table is
-/// malformed), `NoDie`, `TopLevelDieNotUnit` and `GimliRead` (the root entry can't be read).
+/// in. Errors: for a compile unit alone: `ParseUnitAbbreviations` (the offset is past the end, or
+/// the table is malformed), `NoDie`, `TopLevelDieNotUnit` and `GimliRead` (the root entry can't be
+/// read).
 #[tactic(auto, unfolding(crate::specs::Identity::identity))]
 pub fn dwo_identifier_of_unit<R: Reader>(
     debug_abbrev: &R,
@@ -48,10 +43,8 @@ pub fn dwo_identifier_of_unit<R: Reader>(
 
 /// The identifier of a unit, as `dwo_identifier_of_unit` answers it, where the section's tables are
 /// remembered: units that use one table, or several by turns, read each once (DWARF 5, 7.5.3). Once
-/// a table is remembered, attributes without bytes cost a unit that uses it nothing.
-///
-/// # Errors
-/// Those of `dwo_identifier_of_unit`.
+/// a table is remembered, attributes without bytes cost a unit that uses it nothing. Errors: those
+/// of `dwo_identifier_of_unit`.
 #[tactic(auto, unfolding(crate::specs::Identity::identity))]
 pub fn dwo_identifier_remembering<R: Reader>(
     debug_abbrev: &mut AbbreviationCache<R>,
@@ -76,10 +69,7 @@ pub fn dwo_identifier_remembering<R: Reader>(
 ///
 /// All parts share what is remembered of the section's tables: this answers where it tells that the
 /// code of the root entry is declared within the part. Else the part is read by itself, and nothing
-/// of that is remembered.
-///
-/// # Errors
-/// Those of `dwo_identifier_of_unit`, of the part.
+/// of that is remembered. Errors: those of `dwo_identifier_of_unit`, of the part.
 #[tactic(auto, unfolding(crate::specs::Identity::identity))]
 pub fn dwo_identifier_in_range<R: Reader>(
     debug_abbrev: &mut AbbreviationCache<R>,
@@ -134,7 +124,11 @@ fn root_identifier<R: Reader>(
         .get(code)
         .map_err(Error::ParseUnitAbbreviations)?
         .ok_or(Error::GimliRead(ReadError::UnknownCode))?;
-    entry_identifier(abbreviation.entry(header.encoding(), values))
+    let entry = abbreviation.entry(header.encoding(), values);
+    numbered_identifier(EntryNumber {
+        tag: entry.tag,
+        number: number_read(entry, DW_AT_GNU_DWO_ID),
+    })
 }
 
 /// The offset in the section at which the unit's table begins, where it is known that the table
@@ -206,24 +200,4 @@ fn numbered_identifier(found: EntryNumber) -> Result<Option<DwarfObject>, Error>
         return Err(Error::TopLevelDieNotUnit);
     }
     Ok(found.number?.map(|id| DwarfObject::Compilation(DwoId(id))))
-}
-
-/// The identifier in an entry of a unit.
-#[tactic(auto, unfolding(crate::specs::Identity::entry_identity))]
-fn entry_identifier<R: Reader>(entry: RootEntry<R>) -> Result<Option<DwarfObject>, Error>
-    ensures meaning { Gives (λ name. name) result (entry_identity (entry_of R.input entry)) }
-    ensures memory { IfErr result (λ e. e ≢ Error.Memory) }
-{
-    if entry.tag != DW_TAG_COMPILE_UNIT && entry.tag != DW_TAG_TYPE_UNIT {
-        return Err(Error::TopLevelDieNotUnit);
-    }
-    for attribute in entry.attributes {
-        let attribute = attribute?;
-        if attribute.name == DW_AT_GNU_DWO_ID {
-            if let Some(id) = attribute.number() {
-                return Ok(Some(DwarfObject::Compilation(DwoId(id))));
-            }
-        }
-    }
-    Ok(None)
 }

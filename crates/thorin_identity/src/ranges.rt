@@ -119,10 +119,8 @@ impl<'a> RangeTables<'a> {
     /// What `dwo_identifier_of_unit` says of a unit whose abbreviations stand in the section from
     /// the byte `start` up to the byte `end`. Nothing stands past the section's end, nor where
     /// `end` is before `start`. What was read before is remembered as `RangeTables` says; a unit
-    /// that is named by its header changes nothing of that.
-    ///
-    /// # Errors
-    /// Those of `dwo_identifier_of_unit`, of the range.
+    /// that is named by its header changes nothing of that. Errors: those of
+    /// `dwo_identifier_of_unit`, of the range.
     #[tactic(auto, unfolding(crate::specs::Identity::identity))]
     pub fn identifier(
         &mut self,

@@ -17,20 +17,16 @@ use crate::entry::IndexEntry;
 use crate::rows::IndexRows;
 use dwp_base::{Contribution, Endianness, SectionKind};
 use dwp_bytes::Encoding;
-use dwp_table::laws::unused_slots_are_a_table;
 use dwp_table::{Bucketable, CONTRIBUTION_KINDS, column_of, place_row, slot_count};
 use std::alloc::{AllocError, Global};
 use thorin_errors::Error;
 
 /// The bytes of an index that has a row for each entry, in their order (DWARF 5, 7.3.5.3; the GNU
 /// page DebugFissionDWP); no bytes where there are no entries. Where no two entries have one
-/// identifier, a look-up finds each of them.
-///
-/// # Errors
-/// In this order: `NumberTooLarge` for more units than an index can name; `MixedInputEncodings`
-/// where encodings differ; `SectionOutsideFormat` for a contribution to a section that packages of
-/// the version don't have; `NumberTooLarge` for an offset past 32 bits, then for a size. Beside
-/// these `Memory` alone.
+/// identifier, a look-up finds each of them. Errors: in this order: `NumberTooLarge` for more units
+/// than an index can name; `MixedInputEncodings` where encodings differ; `SectionOutsideFormat` for
+/// a contribution to a section that packages of the version don't have; `NumberTooLarge` for an
+/// offset past 32 bits, then for a size. Beside these `Memory` alone.
 pub fn write_index(
     alloc: Global,
     endianness: Endianness,
@@ -46,10 +42,7 @@ pub fn write_index(
     write_rows(alloc, endianness, &rows)
 }
 
-/// Writes the index of rows, as `write_index` that of entries.
-///
-/// # Errors
-/// Those of `write_index`.
+/// Writes the index of rows, as `write_index` that of entries. Errors: those of `write_index`.
 pub fn write_rows(alloc: Global, endianness: Endianness, rows: &IndexRows) -> Result<Vec<u8>, Error>
     ensures refusal { Gives (λ _. tt) result (index_tests rows.now) }
     ensures written { IfOk result (λ bytes. IsIndexOf endianness rows.now bytes.items) }
@@ -166,9 +159,7 @@ pub struct Buckets {
 }
 
 /// Places units in a hash table in their order, each in the first unused slot of its probe
-/// sequence. Where no two have one identifier, a look-up finds each of them.
-///
-/// # Errors
+/// sequence. Where no two have one identifier, a look-up finds each of them. Errors:
 /// `NumberTooLarge` for more than 1,431,655,765 units; else `Memory` alone.
 pub fn bucket<B: Bucketable>(alloc: Global, units: &[B]) -> Result<Buckets, Error>
     ensures refusal { Gives (λ _. tt) result (count_test (length units.now)) }
@@ -180,7 +171,6 @@ pub fn bucket<B: Bucketable>(alloc: Global, units: &[B]) -> Result<Buckets, Erro
     test_count(units.len())?;
     let mut slots = vec![in alloc; 0u32; slot_count(units.len() as u32) as usize]?;
     let mut looked = Vec::with_capacity(alloc, units.len())?;
-    unused_slots_are_a_table();
     let table = slots.as_mut_slice();
     for (i, unit) in units.iter().enumerate() {
         looked.push(place_row(table, unit.index(), i as u32 + 1).unwrap())?;

@@ -1,13 +1,11 @@
 //! The rows of an index, each held in few bytes: what neighbouring rows share is held once.
 
-ghost use Rattle.std.specs.Prelude.{◌≡◌, ◌<◌, ◌≤◌, ◌+◌, ◌++◌, [], ◌∷◌, Some, get_or, length, take};
-ghost use Rattle.std.specs.Prelude.{slice_get, IfOk, OnOk, OnErr, IsTrue};
+ghost use Rattle.std.specs.Prelude.{get_or, length, Some, take, [], ◌++◌, ◌+◌, ◌<◌, ◌∷◌, ◌≡◌, ◌≤◌};
+ghost use Rattle.std.specs.Prelude.{IfOk, IsTrue, OnErr, OnOk, slice_get};
 ghost use Rattle.dwp_table.specs.Table.{HasSlots, IsHashTable};
 ghost use Rattle.thorin_errors.specs.Answers.{Gives};
-ghost use Rattle.thorin_index.specs.Entries.{contribution_to};
-ghost use Rattle.thorin_index.specs.EntryTests.{count_test};
-ghost use Rattle.thorin_index.specs.IndexText.{entry_ids};
-ghost use Rattle.thorin_index.specs.Rows.{blank, with_own};
+ghost use Rattle.thorin_index.specs.{Entries.contribution_to, EntryTests.count_test, Rows.with_own};
+ghost use Rattle.thorin_index.specs.{IndexText.entry_ids, Rows.blank};
 
 use crate::entry::IndexEntry;
 use crate::index_writer::bucket;
@@ -53,19 +51,15 @@ fn split(entry: &IndexEntry) -> (Own, IndexEntry)
 {
     let mut shared = *entry;
     shared.id = DwarfObject::TypeUnit(DebugTypeSignature(0));
-    let info = entry.contribution(SectionKind::Info);
-    let types = entry.contribution(SectionKind::Types);
-    match (info, types) {
-        (Some(range), _) => {
-            shared.debug_info = None;
-            (Own::Info(range), shared)
-        }
-        (None, Some(range)) => {
-            shared.debug_types = None;
-            (Own::Types(range), shared)
-        }
-        (None, None) => (Own::Nothing, shared),
+    if let Some(range) = shared.debug_info {
+        shared.debug_info = None;
+        return (Own::Info(range), shared);
     }
+    if let Some(range) = shared.debug_types {
+        shared.debug_types = None;
+        return (Own::Types(range), shared);
+    }
+    (Own::Nothing, shared)
 }
 
 /// Whether two entries are the same.
@@ -81,10 +75,7 @@ fn same_entry(a: &IndexEntry, b: &IndexEntry) -> bool
 }
 
 /// The number of an entry among others: that of the last, where it is the same, else of a new last
-/// one.
-///
-/// # Errors
-/// `AllocError` where there is no memory; then nothing is added.
+/// one. Errors: `AllocError` where there is no memory; then nothing is added.
 pub fn share(entries: &mut Vec<IndexEntry>, entry: &IndexEntry) -> Result<usize, AllocError>
     ensures there { IfOk result (λ number. slice_get entries.new.items number ≡ Some entry.now) }
     ensures kept { take (length entries.old.items) entries.new.items ≡ entries.old.items }
@@ -187,10 +178,7 @@ impl IndexRows {
         entry
     }
 
-    /// Adds a row.
-    ///
-    /// # Errors
-    /// `AllocError` where there is no memory; then the rows are as they were.
+    /// Adds a row. Errors: `AllocError` where there is no memory; then the rows are as they were.
     pub fn push(&mut self, entry: &IndexEntry) -> Result<(), AllocError>
         ensures pushed { OnOk result (self.new ≡ self.old ++ entry.now ∷ []) }
         ensures err { OnErr result (self.new ≡ self.old) }

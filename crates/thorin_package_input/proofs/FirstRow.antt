@@ -3,11 +3,8 @@ use Rattle.thorin_package_input.proofs.Terms.{cases_eq, Contribution, Index, is_
 use Rattle.thorin_package_input.proofs.Terms.{position_from, range_in, range_of_row, range_with_len}
 use Rattle.thorin_package_input.proofs.Terms.{Ranges, ranges_of, row_in, SectionKind}
 use Rattle.std.proofs.Common.{◌≡◌, ◌≢◌, ℕ, zero, suc, ◌+◌, ◌<◌, ◌≤◌, Bool, true, false, length, map}
-use Rattle.std.proofs.Common.{Some, None, Ok, Err, Option, Result, refl, arith, MatchOption}
-use Rattle.std.proofs.Common.{option_and_then}
-use Rattle.std.specs.Result.{result_ok}
+use Rattle.std.proofs.Common.{Some, None, Ok, Option, refl, arith, rules, MatchOption}
 use Rattle.dwp_base.proofs.Bools.{by-bool}
-use Rattle.dwp_bytes.specs.declared.error.ReadError.{ReadError}
 use Rattle.thorin_package_input.specs.RowPlaces.{IsFirstWith, row_by_place}
 
 -- ---- the first of f a, f (a + 1) and so on that passes a test
@@ -41,27 +38,18 @@ module _ {X : Type 0} (t : X → Bool) (f : ℕ → X) where
   finds : (a n end : ℕ) → a + n ≡ end
       → IsFound a end (position_from t a (map f (range_with_len a n)))
   finds a zero end e = λ j from below. absurd (omega arith)
-  finds a (suc n) end e = by-bool _ (t (f a))
-      (λ passes. rw passes (record {
-        low = omega arith;
-        high = omega arith;
-        here = passes;
-        before = λ j from below. absurd (omega arith);
-      }))
-      (λ fails. let others = finds (a + 1) n end (omega arith) in
-      rw fails (one_fails a end (position_from t (a + 1) (map f (range_with_len (a + 1) n))) fails
-      others))
+  finds a (suc n) end e = by-bool _ (t (f a)) (λ passes. rw passes (record {
+    low = omega arith;
+    high = omega arith;
+    here = passes;
+    before = λ j from below. absurd (omega arith);
+  })) (λ fails. let others = finds (a + 1) n end (omega arith) in rw fails
+      (one_fails a end (position_from t (a + 1) (map f (range_with_len (a + 1) n))) fails others))
 
 -- ---- a row's range
 pub range_is : (range : Contribution) (found : Option Contribution) → is_range range found ≡ true
     → found ≡ Some range
 range_is range found passes = grind (arith, nat_tests)
-
-row_with : (kind : SectionKind) (range : Contribution) (found : Result Ranges ReadError)
-    → option_and_then (λ row. range_in row kind) (result_ok found) ≡ Some range → (row : Ranges)
-    × (found ≡ Ok row) × (range_in row kind ≡ Some range)
-row_with kind range (Ok row) has = (row, refl, has)
-row_with kind range (Err e) has = absurd cc
 
 pub range_of_found : (index : Index) (kind : SectionKind) (number : ℕ) (row : Ranges)
     → row_in index number ≡ Ok row → range_of_row index kind number ≡ range_in row kind
@@ -92,7 +80,7 @@ module _ (index : Index) (kind : SectionKind) (range : Contribution) where
 
   row_found : (number : ℕ) → test (of_row number) ≡ true → (row : Ranges)
       × (row_in index number ≡ Ok row) × (range_in row kind ≡ Some range)
-  row_found number passes = row_with kind range (row_in index number) (range_is range _ passes)
+  row_found number passes = grind (rules, range_is range)
 
   is_first : (number : ℕ) → IsFirstAt test of_row 1 (1 + length index.offsets) number
       → IsFirstWith index kind range number
@@ -104,10 +92,8 @@ module _ (index : Index) (kind : SectionKind) (range : Contribution) where
         has = row.2;
         low = first.low;
         high = omega (arith, first.high);
-        first = λ lower other below there has.
-            let passes = has_range lower other there has in
-            let fails = first.before lower (numbered index lower other there).0 below in
-            cc;
+        first = λ lower other below there has. let passes = has_range lower other there has in
+            let fails = first.before lower (numbered index lower other there).0 below in cc;
       }
 
   pub first_row : (number : ℕ) → row_by_place (Some index) kind range ≡ Some number
@@ -122,8 +108,7 @@ module _ (index : Index) (kind : SectionKind) (range : Contribution) where
       let within = numbered index number row there in
       let passes = has_range number row there has in
       let nowhere = rw none at rows in
-      let fails = nowhere number within.0 (omega (arith, within.1)) in
-      cc
+      let fails = nowhere number within.0 (omega (arith, within.1)) in cc
 
   pub first_found : (number : ℕ) → IsFirstWith index kind range number
       → row_by_place (Some index) kind range ≡ Some number
@@ -138,11 +123,4 @@ module _ (index : Index) (kind : SectionKind) (range : Contribution) where
       found_there None none = grind (arith, none number, first.low, first.high, passes)
       found_there (Some i) at =
           let row = row_found i at.here in
-          grind (
-            arith,
-            first.first i row.0,
-            row.1,
-            row.2,
-            at.before number first.low,
-            passes,
-          )
+          grind (arith, first.first i row.0, row.1, row.2, at.before number first.low, passes)

@@ -1,29 +1,22 @@
 -- String offsets without a header, joined, are read in turn.
-use Rattle.thorin_package_input.proofs.Terms.{data_of, Encoding, Endianness, header_size, IsTable}
-use Rattle.thorin_package_input.proofs.Terms.{NamesTheSame, nat_tests, offset_size, ReadsAlike}
-use Rattle.std.proofs.Common.{◌≡◌, ℕ, ◌+◌, ◌-◌, ◌*◌, ◌/◌, ◌<◌, ◌≤◌, cond, ltb, List, ◌++◌, length}
-use Rattle.std.proofs.Common.{drop, ap, refl, ⊎_elim, arith, length-append, take, Some, None, Ok}
-use Rattle.std.proofs.Common.{sym, ◌∙◌, drop_at, drop-drop, length-drop, lt-ltb, add-mul}
-use Rattle.std.proofs.lemmas.List.{get_or_append_left, drop-append-le}
-use Rattle.std.proofs.lemmas.Bool.{cases_lt, lt-leb}
-use Rattle.std.proofs.lemmas.Nat.{row_fits}
-use Rattle.dwp_base.specs.declared.endian.Endianness.TheVariants.{Little, Big}
-use Rattle.dwp_base.specs.Numbers.{number}
+use Rattle.thorin_package_input.proofs.Terms.{Endianness, header_size, NamesTheSame, offset_size}
+use Rattle.thorin_package_input.proofs.Terms.{data_of, Encoding, IsTable, nat_tests, ReadsAlike}
+use Rattle.std.proofs.Common.{cond, ltb, ℕ, ⊎_elim, ◌*◌, ◌++◌, ◌+◌, ◌-◌, ◌/◌, ◌<◌, ◌∙◌, ◌≡◌, ◌≤◌}
+use Rattle.std.proofs.Common.{add-mul, drop-drop, drop_at, length, length-append, length-drop, List}
+use Rattle.std.proofs.Common.{ap, arith, drop, lt-ltb, None, Ok, refl, Some, sym, take}
+use Rattle.std.proofs.lemmas.List.{drop-append-le, get_or_append_left}
+use Rattle.std.proofs.{lemmas.Bool.cases_lt, lemmas.Bool.lt-leb, lemmas.Nat.row_fits}
+use Rattle.dwp_base.{proofs.Steps.bind-was, proofs.Steps.guard-ok, specs.Numbers.number}
 use Rattle.dwp_bytes.specs.declared.encoding.Format.{Format}
 use Rattle.dwp_bytes.specs.declared.encoding.Format.TheVariants.{Dwarf32, Dwarf64}
 use Rattle.dwp_bytes.specs.StringOffsets.{entry_count, entry_in, string_at, string_in}
-use Rattle.thorin_strings.specs.StringOffsets.{offset_at, named_at}
-use Rattle.dwp_base.proofs.Steps.{bind-was, guard-ok}
+use Rattle.thorin_strings.specs.StringOffsets.{named_at, offset_at}
 use Rattle.thorin_strings.proofs.NamedEntries.{as_error_ok}
 
 -- a number in front doesn't depend on what follows it
-pub number_front : (order : Endianness) (format : Format) (xs ys : List ℕ)
-    → offset_size format ≤ length
-    xs → number order (offset_size format) (xs ++ ys) ≡ number order (offset_size format) xs
-number_front Little Dwarf32 xs ys within = grind (arith, get_or_append_left)
-number_front Big Dwarf32 xs ys within = grind (arith, get_or_append_left)
-number_front Little Dwarf64 xs ys within = grind (arith, get_or_append_left)
-number_front Big Dwarf64 xs ys within = grind (arith, get_or_append_left)
+pub number_front : (order : Endianness) (format : Format) (xs ys : List ℕ) → offset_size format ≤
+    length xs → number order (offset_size format) (xs ++ ys) ≡ number order (offset_size format) xs
+number_front order format xs ys within = grind (arith, get_or_append_left)
 
 pub no_header : (encoding : Encoding) → encoding.version < 5 → header_size encoding ≡ 0
 no_header encoding old = rw (lt-leb 5 encoding.version old) refl
@@ -61,8 +54,7 @@ module _ (order : Endianness) (encoding : Encoding) (first second : List ℕ) (n
   entry_before i less =
       let room : i * width + width ≤ n * width = row_fits i width n width less (omega arith) in
       let at : header_size encoding + i * width + width ≤ length first =
-      omega (arith, header, long) in
-      rw (
+      omega (arith, header, long) in rw (
         lt-ltb i (entry_count encoding (length (first ++ second))) (omega (arith, count_all)),
         lt-ltb i (entry_count encoding (length first)) (omega (arith, count_first)),
         drop-append-le (header_size encoding + i * width) first second (omega arith),
@@ -80,12 +72,10 @@ module _ (order : Endianness) (encoding : Encoding) (first second : List ℕ) (n
       let at : header_size encoding + i * width ≡ n * width + (header_size encoding + later *
       width) = omega (arith, header, ap (λ m. m * width) is, add-mul n later width) in
       let same : ltb i (entry_count encoding (length (first ++ second))) ≡ ltb later
-      (entry_count encoding (length second)) = grind (arith, nat_tests, count_all) in
-      rw (
+      (entry_count encoding (length second)) = grind (arith, nat_tests, count_all) in rw (
         same,
         at,
-        ← drop-drop (header_size encoding + later * width) (n * width)
-            (first ++ second),
+        ← drop-drop (header_size encoding + later * width) (n * width) (first ++ second),
         drop_at first second (n * width) long,
       ) refl
 
@@ -96,9 +86,8 @@ module _ (order : Endianness) (encoding : Encoding) (first second : List ℕ) (n
   joined_read strings i = grind (arith, nat_tests, entry_before i, entry_behind i)
 
 -- ---- a rewritten range of string offsets reads as it read before
-offset_is : (order : Endianness) (format : Format) (bytes : List ℕ) (at offset : ℕ)
-    → offset_at order format bytes at ≡ Ok offset → number order (offset_size format)
-    (drop at bytes) ≡ offset
+offset_is : (order : Endianness) (format : Format) (bytes : List ℕ) (at offset : ℕ) → offset_at
+    order format bytes at ≡ Ok offset → number order (offset_size format) (drop at bytes) ≡ offset
 unfolding offset_at
 offset_is order format bytes at offset h = (guard-ok _ _ _ _ h).1
 
@@ -108,8 +97,7 @@ named_read : (order : Endianness) (encoding : Encoding) (section bytes : List �
     bytes i ≡ Ok string → string_in order encoding section bytes i ≡ Ok (Some string)
 unfolding string_in entry_in named_at
 named_read order encoding section bytes i string less h =
-    let offset = bind-was _ _ string h in
-    grind (
+    let offset = bind-was _ _ string h in grind (
       arith,
       nat_tests,
       offset_is order encoding.format bytes _ offset.0 (as_error_ok _ _ offset.0 offset.1),
@@ -128,14 +116,12 @@ pub strings_again : (order : Endianness) (encoding : Encoding) (section bytes : 
     → take (length after) final ≡ after → (i : ℕ) → ReadsAlike order encoding section bytes
     (data_of final) rewritten i
 strings_again order encoding section bytes before rewritten after final names final_table kept i =
-    ⊎_elim
-    (λ less.
+    ⊎_elim (λ less.
     let one = names.named i less in
     let old = named_read order encoding section bytes i one.string less one.old in
     let new = named_read order encoding (data_of final) rewritten i one.string
     (omega (arith, names.count)) (one.new final final_table kept) in
-    record { readable = rw old refl; same = new ∙ sym old })
-    (λ past.
+    record { readable = rw old refl; same = new ∙ sym old }) (λ past.
     let old = past_read order encoding section bytes i past in
     let new = past_read order encoding (data_of final) rewritten i (omega (arith, names.count)) in
     record { readable = rw old refl; same = new ∙ sym old })

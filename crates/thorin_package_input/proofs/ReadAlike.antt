@@ -1,48 +1,43 @@
 -- A package's string offsets, rewritten, read as they read before.
-use Rattle.thorin_package_input.proofs.Terms.{cases_eq, Contribution, data_of, Encoding, Endianness}
-use Rattle.thorin_package_input.proofs.Terms.{header_size, Index, IsTable, kept_more, NamesTheSame}
-use Rattle.thorin_package_input.proofs.Terms.{offset_ranges, offset_size, ranges_test, ReadsAlike}
-use Rattle.thorin_package_input.proofs.Terms.{remapped, rewritten_from}
-use Rattle.std.proofs.Common.{◌≡◌, ℕ, ◌+◌, ◌-◌, ◌≤◌, List, [], ◌∷◌, ◌++◌, length, take, drop}
-use Rattle.std.proofs.Common.{slice_range, Option, Ok, ap, sym, subst, refl, ◌∙◌, ⊎_elim}
-use Rattle.std.proofs.Common.{append_assoc, length-append, length-drop, arith}
-use Rattle.std.proofs.Math.Nat.{div-add-mod}
-use Rattle.std.proofs.lemmas.List.{drop_at, take_at, take_all, length-take-le}
-use Rattle.dwp_base.proofs.Steps.{bind-was, same-ok}
-use Rattle.thorin_package_input.specs.PackagedOffsets.{packaged_offsets}
+use Rattle.thorin_package_input.proofs.Terms.{cases_eq, Contribution, offset_ranges, rewritten_from}
+use Rattle.thorin_package_input.proofs.Terms.{Encoding, Endianness, kept_more, ReadsAlike, remapped}
+use Rattle.thorin_package_input.proofs.Terms.{header_size, NamesTheSame, offset_size, ranges_test}
+use Rattle.thorin_package_input.proofs.Terms.{data_of, Index, IsTable}
+use Rattle.std.proofs.Common.{length, List, take, [], ℕ, ⊎_elim, ◌++◌, ◌+◌, ◌-◌, ◌∙◌, ◌∷◌, ◌≡◌, ◌≤◌}
+use Rattle.std.proofs.Common.{append_assoc, length-append, length-drop, Option, slice_range, subst}
+use Rattle.std.proofs.Common.{ap, arith, drop, Ok, refl, sym}
 use Rattle.thorin_package_input.specs.PackagedReading.{PackageReadsAlike, RangeReadsAlike}
-use Rattle.thorin_package_input.specs.PackagedReading.{range_bytes}
-use Rattle.thorin_package_input.proofs.RewriteSteps.{IsNext, next_passed}
-use Rattle.thorin_package_input.proofs.RowRanges.{IsIn, compilation_there, type_there}
+use Rattle.std.proofs.Math.Nat.{div-add-mod}
+use Rattle.std.proofs.lemmas.List.{drop_at, length-take-le, take_all, take_at}
+use Rattle.dwp_base.proofs.Steps.{bind-was, same-ok}
+use Rattle.thorin_strings.proofs.NamedEntries.{range_named}
+use Rattle.thorin_package_input.specs.PackagedOffsets.{packaged_offsets}
+use Rattle.thorin_package_input.{proofs.OffsetsJoined.strings_again, proofs.RewriteSteps.IsNext}
+use Rattle.thorin_package_input.{proofs.RewriteSteps.next_passed, specs.PackagedReading.range_bytes}
+use Rattle.thorin_package_input.proofs.RowRanges.{compilation_there, IsIn, type_there}
 
 -- ---- parts of lists
 slice_front : (front range rest : List ℕ) (a b : ℕ) → length front ≡ a → length range ≡ b - a
     → slice_range (front ++ range ++ rest) a b ≡ range
-slice_front front range rest a b front_is range_is =
-    rw (append_assoc, drop_at front (range ++ rest) a front_is)
-    (take_at range rest (b - a) range_is)
+slice_front front range rest a b front_is range_is = rw
+    (append_assoc, drop_at front (range ++ rest) a front_is) (take_at range rest (b - a) range_is)
 
 slice_length : (bytes : List ℕ) (a b : ℕ) → a ≤ b → b ≤ length bytes
     → length (slice_range bytes a b) ≡ b - a
 slice_length bytes a b less within = length-take-le (b - a) (drop a bytes)
     (omega (arith, length-drop a bytes))
 
--- ---- what is known of ranges one by one
-abbrev pub NamesLaw : Type 0
-NamesLaw = (order : Endianness) (encoding : Encoding) (section bytes : List ℕ) (size : ℕ)
-    (before : List (List ℕ)) (rewritten : List ℕ) (after : List (List ℕ))
-    → IsTable before → remapped order encoding section bytes size before ≡ Ok (rewritten, after)
-    → NamesTheSame order encoding section bytes size before rewritten after
-
-abbrev pub AlikeLaw : Type 0
-AlikeLaw = (order : Endianness) (encoding : Encoding) (section bytes : List ℕ)
+-- ---- a range that was rewritten
+pub strings_alike : (order : Endianness) (encoding : Encoding) (section bytes : List ℕ)
     (before : List (List ℕ)) (rewritten : List ℕ) (after final : List (List ℕ))
     → IsTable before → remapped order encoding section bytes (length bytes) before ≡ Ok
     (rewritten, after) → IsTable final → take (length after) final ≡ after → (i : ℕ)
     → ReadsAlike order encoding section bytes (data_of final) rewritten i
+strings_alike order encoding section bytes before rewritten after final table ok =
+    strings_again order encoding section bytes before rewritten after final
+    (range_named order encoding section bytes (length bytes) before (rewritten, after) table ok)
 
-module _ (names : NamesLaw) (order : Endianness) (encoding : Encoding)
-    (section bytes : List ℕ) where
+module _ (order : Endianness) (encoding : Encoding) (section bytes : List ℕ) where
   -- a range was rewritten, and its strings are among those in the end
   record IsRewritten (after : List (List ℕ)) (r : Contribution) (rewritten : List ℕ) : Type 0 where
     inside : r.offset.0 + r.size ≤ length bytes
@@ -70,23 +65,15 @@ module _ (names : NamesLaw) (order : Endianness) (encoding : Encoding)
   same_size : (last : ℕ) (r : Contribution) (rs : List Contribution) (old new : List (List ℕ))
       (rewritten : List ℕ) → IsNext encoding (length bytes) last r rs → NamesTheSame order encoding
       section (range_bytes bytes r) r.size old rewritten new → length rewritten ≡ r.size
-  same_size last r rs old new rewritten next named =
-      ⊎_elim
-      (λ (none : r.size ≡ 0). ap length (named.none none) ∙ sym none)
-      (λ some. omega (
-        arith,
-        named.long some,
-        div-add-mod (r.size - header_size encoding)
-            (offset_size encoding.format),
-      ))
-      (cases_eq r.size 0)
+  same_size last r rs old new rewritten next named = ⊎_elim (λ (none : r.size ≡ 0). ap length
+      (named.none none) ∙ sym none) (λ some. let parts = div-add-mod (r.size - header_size encoding)
+      (offset_size encoding.format) in omega (arith, named.long some, parts)) (cases_eq r.size 0)
 
   module _ (at : ℕ) (x : Contribution) (xs : List Contribution) (before between : List (List ℕ))
       (range rest : List ℕ) (after : List (List ℕ))
       (next : IsNext encoding (length bytes) at x xs) (table : IsTable before)
       (ok : remapped order encoding section (range_bytes bytes x) x.size before ≡ Ok
-      (range, between))
-      (behind : AreWritten (x.offset.0 + x.size) xs between rest after) where
+      (range, between)) (behind : AreWritten (x.offset.0 + x.size) xs between rest after) where
     abbrev gap : List ℕ
     gap = slice_range bytes at x.offset.0
 
@@ -94,7 +81,8 @@ module _ (names : NamesLaw) (order : Endianness) (encoding : Encoding)
     gap_length = slice_length bytes at x.offset.0 next.behind (omega (arith, next.inside))
 
     same : NamesTheSame order encoding section (range_bytes bytes x) x.size before range between
-    same = names order encoding section (range_bytes bytes x) x.size before range between table ok
+    same = range_named order encoding section (range_bytes bytes x) x.size before (range, between)
+        table ok
 
     range_length : length range ≡ x.size
     range_length = same_size at x xs before between range next same
@@ -114,8 +102,7 @@ module _ (names : NamesLaw) (order : Endianness) (encoding : Encoding)
           let regrouped : front ++ ((gap ++ range) ++ rest) ≡ ((front ++ gap) ++ range) ++ rest =
           simp append_assoc in
           rw regrouped (slice_front (front ++ gap) range rest x.offset.0 (x.offset.0 + x.size)
-          (omega (arith, length-append {A = ℕ}, gap_length))
-          (omega (arith, range_length)));
+          (omega (arith, length-append {A = ℕ}, gap_length)) (omega (arith, range_length)));
     }
 
     later_written : (r : Contribution) → IsWritten (x.offset.0 + x.size) rest after r
@@ -156,25 +143,22 @@ module _ (names : NamesLaw) (order : Endianness) (encoding : Encoding)
       let next = next_passed encoding (length bytes) at x xs passed in
       let first = bind-was _ _ (written, after) ok in
       let second = bind-was _ _ (written, after) first.2 in
-      let between = names order encoding section (range_bytes bytes x) x.size before first.0.0
-      first.0.1 table first.1 in
+      let between = range_named order encoding section (range_bytes bytes x) x.size before first.0
+      table first.1 in
       subst (λ p. AreWritten at (x ∷ xs) before p.0 p.1) (same-ok _ _ second.2)
       (more_written at x xs before first.0.1 first.0.0 second.0.0 second.0.1 next table first.1
       (all_written xs (x.offset.0 + x.size) first.0.1 second.0.0 second.0.1 next.inside
       between.table next.others second.1))
 
--- ---- the range of each row
-module _ (names : NamesLaw) (alike : AlikeLaw) (order : Endianness) (encoding : Encoding)
-    (section bytes : List ℕ) where
+  -- ---- the range of each row
   reads_alike : (written : List ℕ) (after : List (List ℕ)) (r : Contribution)
-      → IsWritten names order encoding section bytes 0 written after r → RangeReadsAlike order
-      encoding section bytes written after r
+      → IsWritten 0 written after r → RangeReadsAlike order encoding section bytes written after r
   reads_alike written after r w = record {
     inside = w.one.inside;
     alike = λ final table kept k.
         let count : length (range_bytes bytes r) ≡ r.size = slice_length bytes r.offset.0
         (r.offset.0 + r.size) (omega arith) w.one.inside ∙ omega arith in
-        rw (w.there [] refl) (alike order encoding section (range_bytes bytes r) w.one.old
+        rw (w.there [] refl) (strings_alike order encoding section (range_bytes bytes r) w.one.old
         w.rewritten w.one.new final w.one.table (rw count w.one.ok) table
         (kept_more w.one.new after final w.one.still kept) k);
   }
@@ -186,8 +170,8 @@ module _ (names : NamesLaw) (alike : AlikeLaw) (order : Endianness) (encoding : 
   unfolding packaged_offsets
   package_reads_alike compilations types before written after table ok =
       let tested = bind-was _ _ (written, after) ok in
-      let all = all_written names order encoding section bytes (offset_ranges compilations types) 0
-      before written after (omega arith) table tested.1 tested.2 in
+      let all = all_written (offset_ranges compilations types) 0 before written after (omega arith)
+      table tested.1 tested.2 in
       record {
         table = all.table;
         kept = all.kept;

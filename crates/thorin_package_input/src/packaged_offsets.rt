@@ -1,13 +1,12 @@
 //! The string offsets of a finished package, rewritten into a table of strings: the ranges that its
 //! rows have, one after another.
 
-ghost use Rattle.std.specs.Prelude.{◌≡◌, ◌≢◌, length, map, take, OnOk, IfErr};
+ghost use Rattle.std.specs.Prelude.{IfErr, length, map, OnOk, take, ◌≡◌, ◌≢◌};
+ghost use Rattle.thorin_package_input.specs.PackagedOffsets.{is_whole_range, packaged_offsets};
+ghost use Rattle.thorin_package_input.specs.PackagedOffsets.{ranges_test, rewritten_from};
 ghost use Rattle.std.specs.Option.{option_copied};
 ghost use Rattle.thorin_errors.specs.Answers.{Gives};
-ghost use Rattle.thorin_package_input.specs.PackagedOffsets.{is_whole_range};
-ghost use Rattle.thorin_package_input.specs.PackagedOffsets.{packaged_offsets, ranges_test};
-ghost use Rattle.thorin_package_input.specs.PackagedOffsets.{rewritten_from, with_rows};
-ghost use Rattle.thorin_package_input.specs.RangeKeys.{range_at};
+ghost use Rattle.thorin_package_input.specs.{PackagedOffsets.with_rows, RangeKeys.range_at};
 
 use crate::row_places::range_of_row;
 use dwp_base::{Contribution, ContributionOffset, SectionKind};
@@ -21,13 +20,10 @@ use thorin_strings::{PackageStringTable, Repeats, StringOffsets};
 /// The string offsets of a package with these indexes, rewritten to the same strings in a table:
 /// each range of a row by itself, with its own header (DWARF 5, 7.3.5, 7.26), and the bytes between
 /// the ranges as they are. Strings that are new go last; a refusal leaves those that were added
-/// before it.
-///
-/// # Errors
-/// Before any range is rewritten and by their places, `BadStringOffsets` (a range is outside the
-/// section, shorter than its header, or its entries aren't whole) and `OverlappingStringOffsets` (a
-/// range begins inside the one before it); then what `remap_str_offsets_section` refuses a range
-/// for.
+/// before it. Errors: before any range is rewritten and by their places, `BadStringOffsets` (a
+/// range is outside the section, shorter than its header, or its entries aren't whole) and
+/// `OverlappingStringOffsets` (a range begins inside the one before it); then what
+/// `remap_str_offsets_section` refuses a range for.
 #[tactic(auto, unfolding(crate::specs::PackagedOffsets::packaged_offsets, crate::specs::PackagedOffsets::offset_ranges))]
 pub fn remap_packaged_offsets(
     alloc: Global,
@@ -110,8 +106,7 @@ fn add_rows(
     Ok(())
 }
 
-/// Whether a range lies inside a section of so many bytes, isn't shorter than its header, and has
-/// whole entries.
+/// Whether a range lies inside a section of so many bytes, with its header and whole entries.
 fn is_whole_range(range: Contribution, encoding: Encoding, size: u64) -> bool
     ensures { result ≡ is_whole_range encoding size range }
 {

@@ -1,20 +1,17 @@
 -- The header of a range of string offsets, and the bytes of its entries, as they are read; what
 -- rewritten entries name, and a range of them.
-use Rattle.std.proofs.Common.{Result, drop-drop, drop_at, eqb-true, ltb, ltb-false, suc-mul, true}
-use Rattle.std.proofs.Common.{zero-mul, ⊎_elim}
-use Rattle.std.proofs.lemmas.Bool.Decides.{nat_tests}
-use Rattle.std.proofs.lemmas.List.{get_or_append_left, get_or_push}
-use Rattle.std.proofs.lemmas.Nat.{from_be_bytes-to_be_bytes_4, from_be_bytes-to_be_bytes_8}
-use Rattle.std.proofs.lemmas.Nat.{from_le_bytes-to_le_bytes_4, from_le_bytes-to_le_bytes_8}
-use Rattle.std.proofs.lemmas.Nat.{row_fits}
 use Rattle.thorin_strings.proofs.Terms
 use Terms.{Big, Encoding, Endianness, ErrorValue, IsZeroFree, List, Little, Ok, [], arith, bind-was}
 use Terms.{cases_eq, drop, entry_at, entry_bytes, entry_count, eqb, eqb-false, fitting_offset}
 use Terms.{get_or, header_of, header_size, length, length-append, named_at, number, number_bytes}
 use Terms.{offset_at, offset_limit, offset_size, refl, remapped, remapped_entries, remapped_entry}
 use Terms.{suc, sym, take, take_all, there_later, zero, ℕ, ◌*◌, ◌++◌, ◌+◌, ◌<◌, ◌∙◌, ◌∷◌, ◌≡◌, ◌≤◌}
-use Rattle.dwp_base.proofs.Bools.{by-bool}
-use Rattle.dwp_base.proofs.Steps.{by-choice, guard-ok, same-ok}
+use Rattle.std.proofs.Common.{drop-drop, drop_at, eqb-true, ltb, ltb-false, Result, suc-mul, ⊎_elim}
+use Rattle.std.proofs.lemmas.Nat.{from_be_bytes-to_be_bytes_4, from_be_bytes-to_be_bytes_8}
+use Rattle.std.proofs.lemmas.Nat.{from_le_bytes-to_le_bytes_4, from_le_bytes-to_le_bytes_8}
+use Rattle.std.proofs.{Common.true, lemmas.Bool.Decides.nat_tests, lemmas.List.get_or_append_left}
+use Rattle.std.proofs.{Common.zero-mul, lemmas.List.get_or_push, lemmas.Nat.row_fits}
+use Rattle.dwp_base.proofs.{Bools.by-bool, Steps.by-choice, Steps.guard-ok, Steps.same-ok}
 use Rattle.dwp_bytes.specs.declared.encoding.Format.{Format}
 use Rattle.dwp_bytes.specs.declared.encoding.Format.TheVariants.{Dwarf32, Dwarf64}
 use Rattle.dwp_strings.proofs.Named.{has, has_Decides, read_free, read_later, string_was, used}
@@ -37,13 +34,10 @@ kept Big Dwarf64 x rest = (refl, λ h. omega (arith, from_be_bytes-to_be_bytes_8
 pub entries_long : (order : Endianness) (format : Format) (offsets : List ℕ)
     → length (entry_bytes order format offsets) ≡ length offsets * offset_size format
 entries_long order format [] = sym (zero-mul (offset_size format))
-entries_long order format (x ∷ xs) = grind (
-  arith,
-  length-append,
-  (kept order format x []).0,
-  entries_long order format xs,
-  suc-mul (length xs) (offset_size format),
-)
+entries_long order format (x ∷ xs) =
+    let one = (kept order format x []).0 in
+    let more = suc-mul (length xs) (offset_size format) in
+    grind (arith, length-append, one, entries_long order format xs, more)
 
 pub entry_read : (order : Endianness) (format : Format) (offsets : List ℕ) (i : ℕ)
     → i < length offsets → get_or offsets i 0 ≤ offset_limit format
@@ -140,8 +134,7 @@ module _ (order : Endianness) (encoding : Encoding) (section bytes : List ℕ) w
               old = old.old;
               there = (there.0, there.1 ∙ old.there.1);
               fits = old.fits;
-            }))
-            (cases_eq i n);
+            })) (cases_eq i n);
       })
 
   -- a header and so many entries
@@ -152,8 +145,7 @@ module _ (order : Endianness) (encoding : Encoding) (section bytes : List ℕ) w
     range_long = grind (arith, entries_long, length-append)
 
     one_named : (strings : List (List ℕ)) (i : ℕ) → i < n
-        → EntryNames i strings (get_or offsets i 0)
-        → NamesOneString order encoding section bytes
+        → EntryNames i strings (get_or offsets i 0) → NamesOneString order encoding section bytes
         (header ++ entry_bytes order encoding.format offsets) strings i
     unfolding named_at offset_at
     one_named strings i less entry =
@@ -165,8 +157,7 @@ module _ (order : Endianness) (encoding : Encoding) (section bytes : List ℕ) w
           string = entry.string;
           there = (has_Decides strings entry.string).0 entry.there.0;
           old = entry.old;
-          new = λ final table kept.
-              (let free = named_free i entry.string entry.old in
+          new = λ final table kept. (let free = named_free i entry.string entry.old in
               let found = read_later strings final entry.string kept free entry.there.0 in
               let room = row_fits i width n width less in
               grind (arith, range_long, drop-drop, read, found));

@@ -1,16 +1,15 @@
 //! String offsets, rewritten into a table of strings (DWARF 5, 7.26).
 
-ghost use Rattle.std.specs.Prelude.{◌≡◌, ◌≢◌, ◌≤◌, ◌<◌, ◌+◌, ◌*◌, ◌^◌, ◌++◌, [], length, take};
-ghost use Rattle.std.specs.Prelude.{OnOk, OnErr, IfOk};
+ghost use Rattle.std.specs.Prelude.{length, take, [], ◌*◌, ◌++◌, ◌+◌, ◌<◌, ◌^◌, ◌≡◌, ◌≢◌, ◌≤◌};
+ghost use Rattle.std.specs.Prelude.{IfOk, OnErr, OnOk};
+ghost use Rattle.thorin_strings.specs.StringOffsets.{header_of, offset_limit, string_read};
+ghost use Rattle.thorin_strings.specs.StringOffsets.{remapped};
 ghost use Rattle.dwp_base.specs.Numbers.{number_bytes};
 ghost use Rattle.dwp_bytes.specs.declared.encoding.Format.TheVariants.{Dwarf32};
-ghost use Rattle.dwp_bytes.specs.Encoding.{offset_size};
+ghost use Rattle.dwp_bytes.specs.{Encoding.offset_size, StringOffsets.header_size};
 ghost use Rattle.thorin_errors.specs.Answers.{Gives};
-ghost use Rattle.dwp_bytes.specs.StringOffsets.{header_size};
-ghost use Rattle.thorin_strings.specs.StringOffsets.{offset_limit, header_of, remapped};
-ghost use Rattle.thorin_strings.specs.StringOffsets.{string_read};
 ghost use Rattle.dwp_strings.specs.Strings.{IsZeroFree};
-ghost use Rattle.thorin_strings.specs.Known.{offset_read, fitting_read, AreKnown};
+ghost use Rattle.thorin_strings.specs.Known.{AreKnown, fitting_read, offset_read};
 
 use crate::repeats::Repeats;
 use crate::table::PackageStringTable;
@@ -101,9 +100,8 @@ pub(crate) fn dwarf32(encoding: Encoding) -> Encoding
     ensures { result ≡ encoding }
 {
     Encoding {
-        version: encoding.version,
         format: Format::Dwarf32,
-        address_size: encoding.address_size,
+        ..encoding
     }
 }
 
@@ -113,13 +111,11 @@ impl PackageStringTable {
     /// under the same encoding. New strings are appended. A refusal leaves the table as it was.
     ///
     /// `section_size` is how many bytes the range has; in a file that is whole it isn't past
-    /// `debug_str_offsets`. A range of no bytes gives none.
-    ///
-    /// # Errors
-    /// In this order: a range shorter than its header (`BadStringOffsets(0)`), a length past the
-    /// format's limit (`NumberTooLarge`), and entry by entry one that can't be read
-    /// (`OffsetAtIndex`), a string that can't be read (`StrAtOffset`), an offset past the format's
-    /// limit (`NumberTooLarge`); `Memory`.
+    /// `debug_str_offsets`. A range of no bytes gives none. Errors: in this order: a range shorter
+    /// than its header (`BadStringOffsets(0)`), a length past the format's limit
+    /// (`NumberTooLarge`), and entry by entry one that can't be read (`OffsetAtIndex`), a string
+    /// that can't be read (`StrAtOffset`), an offset past the format's limit (`NumberTooLarge`);
+    /// `Memory`.
     pub fn remap_str_offsets_section(
         &mut self,
         debug_str: &[u8],
@@ -145,10 +141,8 @@ impl PackageStringTable {
 
     /// As `remap_str_offsets_section`, for one of many ranges that name strings of the same
     /// section: a long string is read once for all of them. `repeats` remembers strings of that
-    /// section alone, and where they are in this table.
-    ///
-    /// # Errors
-    /// Those of `remap_str_offsets_section`; then nothing is remembered.
+    /// section alone, and where they are in this table. Errors: those of
+    /// `remap_str_offsets_section`; then nothing is remembered.
     pub fn remap_repeating(
         &mut self,
         repeats: &mut Repeats,
@@ -189,11 +183,8 @@ impl PackageStringTable {
         ensures kept { take (length self.old) self.new ≡ self.old }
         ensures known { AreKnown range.now.strings.now self.new repeats.new }
     {
-        let StringOffsets {
-            order,
-            encoding,
-            ..
-        } = *range;
+        let order = range.order;
+        let encoding = range.encoding;
         if section_size == 0 {
             return Ok(Vec::new(self.alloc));
         }
@@ -264,6 +255,7 @@ impl PackageStringTable {
 
     /// The offset of a string, which is read where it isn't remembered, and is to fit the format.
     #[inline(never)]
+    #[tactic(auto, using(crate::proofs::RemapLemmas::read_fitting, crate::proofs::RemapLemmas::read_large, std::proofs::lemmas::List::take_all))]
     pub(crate) fn fitting_offset(
         &mut self,
         repeats: &mut Repeats,

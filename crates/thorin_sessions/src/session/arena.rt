@@ -56,10 +56,8 @@ impl<'a, R: Files, Relocations: Copy> Session<Relocations> for ArenaSession<'a, 
 }
 
 /// Reads all that is left, which is about `len` bytes, into the arena. A file of that length makes
-/// one allocation: the byte more lets the read that finds the end have room.
-///
-/// # Errors
-/// That of the read that failed; want of memory is `InputError::Memory` alone.
+/// one allocation: the byte more lets the read that finds the end have room. Errors: that of the
+/// read that failed; want of memory is `InputError::Memory` alone.
 pub fn read_into<'a, F: Read>(
     bump: &'a Bump,
     file: &mut F,
