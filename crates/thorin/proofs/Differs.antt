@@ -4,17 +4,16 @@ use Terms.{ap, append-nil, append_assoc, begun-now, bind-was, Compilation, Dwarf
 use Terms.{IndexEntry, inl, InProgress, inr, List, lookup, map, map-append, Meaning, None, Ok}
 use Terms.{Option, refl, rules, same-ok, same_name, Some, Source, source-made, source_units, State}
 use Terms.{sym, taken, takes, TypeUnit, UnitRead, units_in, Used, [], ℕ, ◌++◌, ◌∙◌, ◌∷◌, ◌≡◌}
+use Rattle.thorin.specs.Differing.{differing, differing_by, input_units, object_units, read_bytes}
+use Rattle.thorin.specs.Differing.{Bytes, or_there, own_bytes}
 use Rattle.thorin_input.specs.NewUnits.{Adding, New, NewUnit, or_held, with_first, with_unit}
 use Rattle.thorin_join.specs.Represents.{meaning_at, units_begun}
 use Rattle.thorin_join.specs.Builder.{differing_begun, differing_in, package_or_new}
 use Rattle.thorin_join.specs.State.{adding, held_units, with_source}
 use Rattle.std.proofs.lemmas.Simd.{map-map}
 use Rattle.dwp_units.specs.Units.{Unit as Header}
-use Rattle.thorin.specs.Differing.{Bytes, differing, differing_by, input_units, object_units}
-use Rattle.thorin.specs.Differing.{or_there, own_bytes, read_bytes}
 use Rattle.thorin_join.proofs.Units.ReadInTurn.{Steps, units-read}
-use Rattle.thorin_join.proofs.Parts.Added.{each-unit}
-use Rattle.thorin_join.proofs.Joined.{with_all_parts}
+use Rattle.thorin_join.proofs.{Joined.with_all_parts, Parts.Added.each-unit}
 
 -- ---- what steps do
 
@@ -70,8 +69,7 @@ source-differs source before now all h k =
     (λ p u us now same. same) (λ p u us now same. same) parted m.new.units in
     ap (λ (p : InProgress). p.differing) (sym m.is) ∙ keep ∙ ap (λ l. before.differing ++ l)
     (steps-differ (adding source before m.parts) (record { units = []; differing = [] }) m.new
-    read.all read.steps
-    ∙ ap (λ l. differing (held_units before) [] (read_bytes l))
+    read.all read.steps ∙ ap (λ l. differing (held_units before) [] (read_bytes l))
     (same-ok read.all all (sym read.is ∙ k)))
 
 -- a package that was begun before, or is new
@@ -103,8 +101,7 @@ taken-differs bytes old new units h k =
           ∙ old-differs t.file old.begun (read_bytes s.0)
           ∙ ap (λ l. differing_in old ++ differing (own_bytes (units_in old)) [] l)
           (same-ok _ units s.2)
-      | inr none ↦
-          ap differing_begun (sym none.1) ∙ sym (append-nil made.differing)
+      | inr none ↦ ap differing_begun (sym none.1) ∙ sym (append-nil made.differing)
           ∙ old-differs t.file old.begun []
           ∙ ap (λ l. differing_in old ++ differing (own_bytes (units_in old)) [] l)
           (same-ok [] units (rw none.0 at read))

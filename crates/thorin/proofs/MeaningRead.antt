@@ -6,23 +6,21 @@ use Terms.{input_meaning, inr, is-false, is-same, is_none, is_some, List, map, M
 use Terms.{Option, option_and_then, own_contribution, ParseFileKind, refl, Result, rules, same-ok}
 use Terms.{same-self, SectionKind, SectionMeaning, Some, Source, source_units, Str, sym, true}
 use Terms.{TypeUnit, UnitRead, Used, [], ℕ, ◌++◌, ◌>>=◌, ◌||◌, ◌∙◌, ◌∷◌, ◌≡◌, ◌⊎◌}
-use Rattle.thorin_input.specs.Used.{elf_in, first, has_info, has_kind, input_file_of, InputFile}
-use Rattle.thorin_input.specs.Used.{opened, used_bytes, used_from, used_kind, with_used}
-use Rattle.dwp_base.specs.Sections.{all_kinds, same_kind}
-use Rattle.dwp_index.specs.Index.{Index, range_in, Ranges}
-use Rattle.dwp_index.specs.Package.{index_in_section, is_outside, Package, package_of, part_of}
-use Rattle.dwp_index.specs.Package.{row_bytes}
+use Rattle.thorin_input.specs.Used.{input_file_of, InputFile, used_bytes, used_from, used_kind}
+use Rattle.thorin_input.specs.Used.{elf_in, first, has_info, has_kind, opened, with_used}
+use Rattle.dwp_index.specs.Package.{index_in_section, is_outside, Package, package_of, row_bytes}
+use Rattle.thorin_join.specs.Meaning.{contributions_by, meaning_by, object_meaning, source_meaning}
+use Rattle.thorin_join.specs.Meaning.{meaning_with, placed_row, shared_kinds, unit_meaning}
+use Rattle.thorin.specs.MeaningRead.{has_index, MeansByReader, unit_of_package, unit_of_row}
+use Rattle.thorin.specs.MeaningRead.{lies_in, unit_with}
+use Rattle.dwp_base.{proofs.KindsRead.read-kind, specs.Sections.all_kinds, specs.Sections.same_kind}
+use Rattle.dwp_index.specs.{Index.Index, Index.range_in, Index.Ranges, Package.part_of}
 use Rattle.thorin_input.specs.Indexes.{index_for, index_in, indexes_of, is_package, version_test}
 use Rattle.dwp_bytes.specs.declared.error.ReadError.{ReadError}
 use Rattle.dwp_base.specs.declared.section.SectionKind.TheVariants.{CuIndex, StrOffsets, TuIndex}
 use Rattle.thorin_join.specs.Strings.{strings_of}
-use Rattle.dwp_base.proofs.KindsRead.{read-kind}
 use Rattle.dwp_index.proofs.HeldContents.{found-passes, named-of}
 use Rattle.dwp_index.specs.Contents.{content, content_among, contents_of, is_of_kind}
-use Rattle.thorin_join.specs.Meaning.{contributions_by, meaning_by, meaning_with, object_meaning}
-use Rattle.thorin_join.specs.Meaning.{placed_row, shared_kinds, source_meaning, unit_meaning}
-use Rattle.thorin.specs.MeaningRead.{has_index, lies_in, MeansByReader, unit_of_package}
-use Rattle.thorin.specs.MeaningRead.{unit_of_row, unit_with}
 use Rattle.std.proofs.lemmas.List.Folds.{find-append}
 use Rattle.thorin_input.proofs.Walking.{kind-full}
 use Rattle.dwp_elf_read.specs.declared.kind.FileKind.{FileKind}
@@ -86,10 +84,6 @@ error-was f r x h = grind rules
 
 -- ---- the input
 
-elf-by : (bytes : List ℕ) (kind : FileKind) (file w : Elf) → elf_in bytes kind ≡ Ok file
-    → elf_of bytes ≡ Ok w → file ≡ w
-elf-by bytes kind file w h k = grind rules
-
 index-same : (order : Endianness) (kind : SectionKind) (bytes : List ℕ) (a b : Option Index)
     → index_in order kind bytes ≡ Ok a → index_in_section order bytes ≡ Ok b → a ≡ b
 unfolding index_in index_in_section
@@ -114,7 +108,8 @@ read-as bytes pack file object encoding indexes h o k l =
     let p3 = bind-was (index_in_section order (content p2.0 CuIndex)) _ pack p2.2 in
     let p4 = bind-was (index_in_section order (content p2.0 TuIndex)) _ pack p3.2 in
     let s = bind-was (as_error ParseFileKind (identification.kind_of bytes)) _ file o in
-    let same = elf-by bytes s.0 file p1.0 s.2 (error-was errors.Elf (elf_of bytes) p1.0 p1.1) in
+    let same : file ≡ p1.0 =
+    grind (rules, s.2, error-was errors.Elf (elf_of bytes) p1.0 p1.1) in
     let t = bind-was (used_from [] p1.0.sections) _ object (rw same at k) in
     let is = same-ok _ object t.2 in
     let each : (kind : SectionKind) → first kind t.0 ≡ content p2.0 kind = λ kind.
@@ -168,15 +163,13 @@ module _ (source : Source) (pack : Package) (alike : IsReadAs source.object sour
   unit-alike : (read : DwarfObject × UnitRead)
       → unit_meaning source read ≡ unit_of_package pack source.encoding read
   unfolding unit_meaning
-  unit-alike read = rw packed (λ i. option_and_then (λ row.
-      row-alike read.1.unit.whole.bytes row i)
+  unit-alike read = rw packed (λ i. option_and_then (λ row. row-alike read.1.unit.whole.bytes row i)
       (placed_row (index-alike read.0 i) read.1.from (own_contribution read.1.unit)))
 
 object-read : (bytes : List ℕ) (pack : Package)
     (meanings : List (DwarfObject × Option Meaning)) (file : Elf) → package_of bytes ≡ Ok pack
     → has_index pack ≡ true → opened bytes ≡ Ok file
-    → (input_file_of file >>= object_meaning) ≡ Ok meanings
-    → MeansByReader bytes pack meanings
+    → (input_file_of file >>= object_meaning) ≡ Ok meanings → MeansByReader bytes pack meanings
 unfolding object_meaning source_meaning
 object-read bytes pack meanings file p some opens h =
     let s1 = bind-was (input_file_of file) _ meanings h in

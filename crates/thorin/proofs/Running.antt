@@ -132,8 +132,7 @@ of-input offer (inputs.ExecutableSkippingNameless path missing) old new outcome 
     rw is (of-executable offer missing named_skeletons_of t.read old new outcome t.accepted t.taken)
 
 pub run-accepts : (offer : Offer) (list : List Input) (old new : State) (outcomes : List Outcome)
-    (accepted : List (List ℕ)) → Ran offer list old outcomes new accepted
-    → Accepts accepted old new
+    (accepted : List (List ℕ)) → Ran offer list old outcomes new accepted → Accepts accepted old new
 run-accepts offer [] old new [] accepted ran = none-accepted ran
 run-accepts offer (i ∷ is) old new (o ∷ os) accepted (s, takes, rest, all) =
     more-accepted s.here s.later accepted old s.middle new all

@@ -2,19 +2,17 @@
 use Rattle.thorin.proofs.Terms
 use Terms.{ap, ArePackedAlone, AreTaken, arith, begun-now, CanBePackedAgain, DwarfObject, Elf}
 use Terms.{elf_of, Encoding, encoding_of, Endianness, Err, ErrorValue, File, find, finish_test}
-use Terms.{IfOk, inl, inr, is_missing, IsFinishedState, IsOfEncoding, IsPlainOf, IsSoundBegun}
-use Terms.{IsWritten, List, names_in, None, Ok, Option, refl, RefusesPackages, Result, Some, start}
-use Terms.{State, sym, taken, taken_each, Writes, written_elf, [], ℕ, ⊎_elim, ◌∙◌, ◌∷◌, ◌≡◌, ◌⊎◌}
+use Terms.{IfOk, inl, input-keeps, inr, is_missing, IsFinishedState, IsOfEncoding, IsPlainOf}
+use Terms.{IsSoundBegun, IsWritten, List, names_in, None, Ok, Option, refl, RefusesPackages, Result}
+use Terms.{Some, start, State, sym, taken, taken_each, Writes, written_elf, [], ℕ, ⊎_elim, ◌∙◌, ◌∷◌}
+use Terms.{◌≡◌, ◌⊎◌}
 use Rattle.thorin.specs.Unfinished.{AreMixed, AreTooLong, IsGroupsError, IsUnfinished, LacksInput}
 use Rattle.thorin_input.specs.Used.{input_file_of, InputFile, opened}
 use Rattle.thorin_errors.specs.declared.error.Error.{Error}
 use Rattle.thorin_join.specs.Builder.{order_of}
-use Rattle.thorin_again.specs.Again.{input_encoding}
-use Rattle.thorin_again.specs.OwnAccepted.{IsAcceptedOnceWritten}
+use Rattle.thorin_again.specs.{Again.input_encoding, OwnAccepted.IsAcceptedOnceWritten}
 use Rattle.thorin_again.specs.OwnRefusals.{IsForeseen, UnlessForeseen}
-use Rattle.thorin.specs.Groups.{IsUnwritten}
-use Rattle.thorin.proofs.GroupJoins.{KeepsSound}
-use Rattle.thorin.proofs.Running.{each-taken, read-text}
+use Rattle.thorin.{proofs.Running.each-taken, proofs.Running.read-text, specs.Groups.IsUnwritten}
 use Rattle.thorin_again.proofs.Opened.Sections.{and-then}
 
 -- of a file that may have been written
@@ -25,16 +23,6 @@ if-written view state P (Ok v) w f = f (view v) w
 if-written view state P (Err e) w f = tt
 
 -- ---- packages of groups
-
-abbrev pub AcceptedLaw : Type 0
-AcceptedLaw = (accepted : List (List ℕ)) (state : State) (file : File)
-    → AreTaken accepted start state → finish_test state ≡ Ok tt → IsFinishedState state file
-    → IsAcceptedOnceWritten state file
-
-abbrev pub OrderLaw : Type 0
-OrderLaw = (bytes : List ℕ) (file : Elf) (old new : State) (order : Endianness)
-    → elf_of bytes ≡ Ok file → taken bytes old ≡ Ok new
-    → order_of new.begun order ≡ order_of old.begun file.order
 
 -- why what a new builder took isn't finished
 abbrev pub UnfinishedLaw : Type 0
@@ -72,11 +60,14 @@ unwritten-why law packages error u = ⊎_elim
       state = u.state;
       taken = u.taken;
       long = inr (large.1, large.0);
-    })))
-    u.refused
+    }))) u.refused
 
-module _ (keeps : KeepsSound) (any : AcceptedLaw) (finishes : UnfinishedLaw) (orders : OrderLaw)
-    (order : Endianness) where
+module _ (any : (accepted : List (List ℕ)) (state : State) (file : File)
+    → AreTaken accepted start state → finish_test state ≡ Ok tt → IsFinishedState state file
+    → IsAcceptedOnceWritten state file) (finishes : UnfinishedLaw)
+    (orders : (bytes : List ℕ) (file : Elf) (old new : State) (order : Endianness)
+    → elf_of bytes ≡ Ok file → taken bytes old ≡ Ok new
+    → order_of new.begun order ≡ order_of old.begun file.order) (order : Endianness) where
   each-foreseen : (groups : List (List (List ℕ))) (packages : List (List ℕ))
       (each : ArePackedAlone groups packages) → CanBePackedAgain order groups packages each
       → (old : State) → IsSoundBegun old.begun → order_of old.begun order ≡ order
@@ -91,7 +82,7 @@ module _ (keeps : KeepsSound) (any : AcceptedLaw) (finishes : UnfinishedLaw) (or
       and-then IsForeseen (taken bytes old) (taken_each files)
       (rw w.text (accepted old sound (rw can.1 same))) (λ next took.
       each-foreseen groups files each.1 can.2 next
-      (keeps bytes old.begun next.begun sound (begun-now bytes old next took))
+      (input-keeps bytes old.begun next.begun sound (begun-now bytes old next took)).sound
       (orders bytes (written_elf w.file) old next order w.read_back took ∙ rw can.1 same))
   each-foreseen _ _ each can old sound same = absurd can
 
@@ -100,8 +91,7 @@ module _ (keeps : KeepsSound) (any : AcceptedLaw) (finishes : UnfinishedLaw) (or
       → CanBePackedAgain order groups refused.packages refused.each
       → IsGroupsError refused.packages error
   groups-left groups error refused can = ⊎_elim
-      (λ h. inl (rw h at (each-foreseen groups refused.packages refused.each can
-      start tt refl)))
+      (λ h. inl (rw h at (each-foreseen groups refused.packages refused.each can start tt refl)))
       (λ u. inr (unwritten-why finishes refused.packages error u)) refused.refused
 
 -- ---- inputs of one encoding

@@ -8,25 +8,23 @@ use Terms.{IndexEntry, inl, InProgress, inr, is_compilation, is_some, IsSound, I
 use Terms.{length-append, length-drop, length-take-le, LieInside, List, names_in, nat_le, nat_tests}
 use Terms.{None, not, Ok, ok_or, Option, refl, Result, SectionKind, Some, start, State, subst}
 use Terms.{takes, tests_under, true, [], ℕ, ◌*◌, ◌+◌, ◌-◌, ◌<◌, ◌>>=◌, ◌^◌, ◌∷◌, ◌≡◌, ◌≤◌, ◌⊎◌}
-use Rattle.std.proofs.lemmas.List.Filters.{length-filter_both}
+use Rattle.thorin.specs.Unfinished.{HasLongSection, IsIndexNumber, IsUnfinished, LacksTarget}
+use Rattle.thorin.specs.Unfinished.{AreMixed, LacksInput}
+use Rattle.thorin_index.specs.EntryTests.{count_test, each, format_test, index_tests, number_test}
+use Rattle.thorin_index.specs.EntryTests.{contributions_test, encoding_test, same_encoding}
+use Rattle.std.proofs.{ByRecursion.all_kept_by, lemmas.List.Filters.length-filter_both}
 use Rattle.dwp_bytes.specs.Input.{Input, number_at, section, split_at}
 use Rattle.dwp_units.specs.Units.{header_at, initial_length_at, Unit as Header, unit_at}
 use Rattle.dwp_units.specs.declared.unit.UnitSection.{UnitSection}
 use Rattle.thorin_join.specs.Laid.{is_at, IsLaid, Lie}
-use Rattle.thorin.specs.Unfinished.{AreMixed, HasLongSection, IsIndexNumber, IsUnfinished}
-use Rattle.thorin.specs.Unfinished.{LacksInput, LacksTarget}
-use Rattle.std.proofs.ByRecursion.{all_kept_by}
 use Rattle.dwp_bytes.specs.Encoding.{index_version_of}
 use Rattle.dwp_elf.specs.Growing.{Contents}
 use Rattle.dwp_table.specs.Columns.{column_of, contribution_kinds}
 use Rattle.thorin_errors.specs.Errors.{MixedInputEncodings, NoOutputObjectCreated, NumberTooLarge}
 use Rattle.thorin_index.specs.Entries.{contribution_to, offset_or_0, size_or_0}
-use Rattle.thorin_index.specs.EntryTests.{contributions_test, count_test, each, encoding_test}
-use Rattle.thorin_index.specs.EntryTests.{format_test, index_tests, number_test, same_encoding}
 use Rattle.thorin_join.specs.Builder.{compilations, indexes_test, targets_test}
 use Rattle.thorin_join.specs.StandApart.{contents_begun, EachRow}
-use Rattle.thorin_join.proofs.Rows.StandApart.{sound-inside}
-use Rattle.thorin_join.proofs.Units.ReadInTurn.{each-all}
+use Rattle.thorin_join.proofs.{Rows.StandApart.sound-inside, Units.ReadInTurn.each-all}
 use Rattle.thorin_again.specs.InFormat.{AreInFormat, HasEncodingOfOne, HaveEncodingsOf, IsInFormat}
 use Rattle.std.proofs.lemmas.List.Sums.{count_by-le-length, length-filter}
 use Rattle.dwp_base.specs.declared.section.SectionKind.TheVariants as kinds
@@ -83,8 +81,7 @@ many-long made laid many =
     let all = length-filter_both (is_at places.Info) (is_at places.Types) (λ row. grind arith)
     made.rows in
     let size = λ (kind : SectionKind). length (content_of kind made.file.contents) in
-    by-bool _ (nat_le (2 ^ 32) (size kinds.Info))
-    (λ long. (kinds.Info, grind (arith, nat_tests)))
+    by-bool _ (nat_le (2 ^ 32) (size kinds.Info)) (λ long. (kinds.Info, grind (arith, nat_tests)))
     (λ short.
     let less : size kinds.Info < 2 ^ 32 = grind (arith, nat_tests) in
     (kinds.Types, omega (arith, less, info, types, all, many)))
@@ -104,16 +101,11 @@ module _ {X : Type 0} (P : X → Type 0) (test : X → Result (Unit {0}) ErrorVa
   each-failed error [] all h = absurd cc
   each-failed error (x ∷ xs) all h = grind (arith, each-failed error xs)
 
-  each-passed : ((x : X) → test x ≡ Ok tt → P x) → (xs : List X) → each test xs ≡ Ok tt
-      → Each P xs
+  each-passed : ((x : X) → test x ≡ Ok tt → P x) → (xs : List X) → each test xs ≡ Ok tt → Each P xs
   each-passed says [] h = tt
   each-passed says (x ∷ xs) h = grind (arith, says x, each-passed says xs)
 
 -- ---- the tests of one row
-
-number-failed : (what : List ℕ) (n : ℕ) (error : ErrorValue) → number_test what n ≡ Err error
-    → (2 ^ 32 ≤ n) × (error ≡ NumberTooLarge what n)
-number-failed what n error h = grind (arith, nat_tests)
 
 -- a number of a range that lies inside a section is no larger than that
 range-long : (c : Contents) (row : IndexEntry) → LieInside c row → (kind : SectionKind)
@@ -129,10 +121,6 @@ no-column : (version : ℕ) (kind : SectionKind) (range : Option Contribution) (
     → (is_some range ≡ true → is_some (column_of version kind) ≡ true)
     → format_test version kind range ≡ Err error → ⊥
 no-column version kind range error has h = grind (arith, has)
-
-same-version : (encoding : Encoding) (row : IndexEntry) → encoding_test encoding row ≡ Ok tt
-    → IsOfVersion encoding row
-same-version encoding row h = grind (arith, nat_tests)
 
 same-self : (encoding : Encoding) → same_encoding encoding encoding ≡ true
 same-self encoding = grind (arith, nat_tests)
@@ -172,8 +160,9 @@ module _ (inputs : List (List ℕ)) (state : State) (error : ErrorValue) where
       let r = each-failed (LieInside contents) (contributions_test test) error rows inside h in
       let k = each-failed (λ kind. Unit {0}) (λ kind. test kind (contribution_to kind r.0)) error
       contribution_kinds (each-all (λ kind. Unit {0}) (λ kind. tt) contribution_kinds) r.2 in
-      let n = number-failed what _ error k.2 in
-      ((k.0, omega (arith, n.0, most r.0 r.1 k.0)), (_, n.1))
+      let fits = most r.0 r.1 k.0 in
+      let n = measure (contribution_to k.0 r.0) in
+      ((k.0, grind (arith, nat_tests, k.2, fits)), (n, grind (arith, nat_tests, k.2)))
 
   format-failed : (encoding : Encoding) (rows : List IndexEntry) → EachRow IsInFormat rows
       → EachRow (IsOfVersion encoding) rows
@@ -215,10 +204,6 @@ module _ (inputs : List (List ℕ)) (state : State) (error : ErrorValue) where
         other.0,
       )
 
-  count-failed : (n : ℕ) → count_test n ≡ Err error
-      → (2 ^ 32 ≤ 3 * n) × (error ≡ NumberTooLarge (codes "unit count") n)
-  count-failed n h = grind (arith, nat_tests)
-
   index-failed : (rows : List IndexEntry) → RowsKnown inputs state rows
       → index_tests rows ≡ Err error → IsRefused inputs state error
   unfolding tests_under
@@ -228,14 +213,16 @@ module _ (inputs : List (List ℕ)) (state : State) (error : ErrorValue) where
       let encoding = row.encoding in
       elim (step-failed (count_test (length all)) _ error h) [
         | inl many ↦
-            let count = count-failed (length all) many in
-            inr (known.many count.0, (length all, inl count.1))
+            inr (
+              known.many (grind (arith, nat_tests, many)),
+              (length all, inl (grind (arith, nat_tests, many))),
+            )
         | inr counted ↦ elim (step-failed (each (encoding_test encoding) all) _ error counted.2) [
           | inl other ↦ inl (mixed row rows known.encodings other)
           | inr same ↦ elim (step-failed _ _ error same.2) [
             | inl outside ↦ absurd (format-failed encoding all known.format
                 (each-passed (IsOfVersion encoding) (encoding_test encoding)
-                (same-version encoding) all same.1) outside)
+                (λ row passed. grind (arith, nat_tests, passed)) all same.1) outside)
             | inr inside ↦ elim (step-failed _ _ error inside.2) [
               | inl far ↦
                   let long = number-long (codes "contribution offset") offset_or_0
@@ -274,19 +261,14 @@ none-taken (bytes ∷ rest) old new are none =
     let t = takes bytes old.begun _ (begun-now bytes (record old { targets = are.0 }) _ are.2) in
     grind (arith, t.does, none-taken rest are.1 new are.3)
 
-target-failed : (state : State) (error : ErrorValue)
-    → targets_test (names_in state.begun) state.targets ≡ Err error → LacksTarget state error
-unfolding targets_test
-target-failed state error h = grind arith
-
 pub unfinished : (inputs : List (List ℕ)) (state : State) (error : ErrorValue)
     → AreTaken inputs start state → IsSoundBegun state.begun → AreInFormat state.begun
     → HaveEncodingsOf inputs state.begun → finish_test state ≡ Err error
     → IsUnfinished inputs state error
-unfolding finish_test indexes_test
+unfolding finish_test indexes_test targets_test
 unfinished inputs state error are sound format encodings h =
     elim (step-failed (targets_test (names_in state.begun) state.targets) _ error h) [
-      | inl missing ↦ inl (target-failed state error missing)
+      | inl missing ↦ inl (grind (arith, missing))
       | inr passed ↦ inr (by state.begun refl passed.2)
     ]
   where

@@ -1,28 +1,22 @@
 //! What packing says of packages that are packed again, and of inputs of one encoding, as laws.
 
-ghost use Rattle.std.specs.Prelude.{◌≡◌, ℕ, true, List, [], Option, Ok, Err, All, IfOk, ◌⊎◌};
+ghost use Rattle.std.specs.Prelude.{All, Err, IfOk, List, Ok, Option, true, [], ℕ, ◌≡◌, ◌⊎◌};
+ghost use Rattle.thorin.specs.Again.{CanBePackedAgain, HasCommonEncoding, IsTakenAgain};
+ghost use Rattle.thorin.specs.Groups.{ArePackedAlone, IsPackageOfAll, IsPackedAlone, taken_each};
+ghost use Rattle.thorin.specs.Groups.{HaveTheirEncodings, IsPackedInGroups, RefusesPackages};
 ghost use Rattle.dwp_base.specs.declared.endian.Endianness.{Endianness};
 ghost use Rattle.dwp_index.specs.Package.{Package, package_of};
 ghost use Rattle.dwp_table.specs.declared.object.DwarfObject.{DwarfObject};
 ghost use Rattle.thorin_errors.specs.Errors.{ErrorValue};
-ghost use Rattle.thorin_again.specs.Again.{HaveEncodingOf};
-ghost use Rattle.thorin_join.specs.Builder.{State, finish_test, start, taken};
-ghost use Rattle.thorin_join.specs.Meaning.{Meaning, input_meaning};
-ghost use Rattle.thorin_again.specs.OneEncoding.{IsOfOneEncoding, AnswersAs};
-ghost use Rattle.thorin_again.specs.Own.{packs_again};
-ghost use Rattle.thorin_again.specs.PlainInputs.{AreTaken};
+ghost use Rattle.thorin_again.specs.{Again.HaveEncodingOf, Own.packs_again, PlainInputs.AreTaken};
+ghost use Rattle.thorin_join.specs.Builder.{finish_test, start, State, taken};
+ghost use Rattle.thorin_join.specs.Meaning.{input_meaning, Meaning};
+ghost use Rattle.thorin_again.specs.OneEncoding.{AnswersAs, IsOfOneEncoding};
 ghost use Rattle.thorin_join.specs.Represents.{IsSoundBegun, units_in};
 ghost use Rattle.thorin_builder.specs.Taking.{Outcome};
-ghost use Rattle.thorin.specs.declared.packing.Input.{Input};
-ghost use Rattle.thorin.specs.declared.packing.Packed.{Packed};
-ghost use Rattle.thorin.specs.Again.{IsTakenAgain, CanBePackedAgain, HasCommonEncoding};
-ghost use Rattle.thorin.specs.Again.{MeansAsRead};
-ghost use Rattle.thorin.specs.Groups.{ArePackedAlone, HaveTheirEncodings, IsPackageOfAll};
-ghost use Rattle.thorin.specs.Groups.{IsPackedAlone, IsPackedInGroups, RefusesPackages, inputs_of};
-ghost use Rattle.thorin.specs.Groups.{taken_each};
-ghost use Rattle.thorin.specs.MeaningRead.{has_index, MeansByReader};
-ghost use Rattle.thorin.specs.Packed.{IsPacked};
-ghost use Rattle.thorin.specs.Run.{Ran, IsWritten};
+ghost use Rattle.thorin.specs.{declared.packing.Input.Input, declared.packing.Packed.Packed};
+ghost use Rattle.thorin.specs.{Again.MeansAsRead, MeaningRead.has_index, MeaningRead.MeansByReader};
+ghost use Rattle.thorin.specs.{Groups.inputs_of, Packed.IsPacked, Run.IsWritten, Run.Ran};
 ghost use Rattle.thorin.specs.Unfinished.{IsGroupsError, IsUnfinished};
 
 use crate::laws::groups_are_packed_alike;
@@ -33,7 +27,6 @@ use thorin_again::{
     the_first_byte_order_stays, written_packages_mean_their_units,
 };
 use thorin_builder::InputReader;
-use thorin_join::{finished_packages_are_read, inputs_are_joined};
 use thorin_sessions::Session;
 
 /// The law of accepted inputs: those of a run were taken one after another. So the laws of
@@ -41,8 +34,7 @@ use thorin_sessions::Session;
 /// nothing.
 pub fn accepted_inputs_are_taken<R: InputReader>(reader: &R)
     ensures ran { (inputs : List Input) (old new : State) (outcomes : List Outcome)
-        (accepted : List (List ℕ))
-        → Ran (R.offer reader.now) inputs old outcomes new accepted
+        (accepted : List (List ℕ)) → Ran (R.offer reader.now) inputs old outcomes new accepted
         → AreTaken accepted old new }
     ensures each { (inputs : List (List ℕ)) (old new : State)
         → taken_each inputs old ≡ Ok new → AreTaken inputs old new }
@@ -55,14 +47,10 @@ pub fn accepted_inputs_are_taken<R: InputReader>(reader: &R)
 /// written package give just its units, with all their strings. It does nothing.
 pub fn written_packages_are_taken_again()
     ensures again { (accepted : List (List ℕ)) (state : State) (bytes : List ℕ)
-        → AreTaken accepted start state
-        → packs_again state ≡ true
-        → IsWritten state bytes
+        → AreTaken accepted start state → packs_again state ≡ true → IsWritten state bytes
         → IsTakenAgain (units_in state) bytes }
     ensures answers { (accepted : List (List ℕ)) (state : State) (bytes : List ℕ)
-        → AreTaken accepted start state
-        → All IsOfOneEncoding accepted
-        → IsWritten state bytes
+        → AreTaken accepted start state → All IsOfOneEncoding accepted → IsWritten state bytes
         → AnswersAs (units_in state) bytes }
 {
     packages_that_pack_again_are_accepted();
@@ -72,12 +60,10 @@ pub fn written_packages_are_taken_again()
 /// The laws of `written_packages_are_taken_again`, of what `pack` gives. It does nothing.
 pub fn packed_files_are_taken_again<Sess: Session<RelocationEntry>>(session: &Sess)
     ensures again { (inputs : List Input) (packed : Packed)
-        (is : IsPacked (Sess.offer session.now) inputs packed)
-        → packs_again is.state ≡ true
+        (is : IsPacked (Sess.offer session.now) inputs packed) → packs_again is.state ≡ true
         → IfOk packed.file (λ bytes. IsTakenAgain (units_in is.state) bytes.items) }
     ensures answers { (inputs : List Input) (packed : Packed)
-        (is : IsPacked (Sess.offer session.now) inputs packed)
-        → All IsOfOneEncoding is.accepted
+        (is : IsPacked (Sess.offer session.now) inputs packed) → All IsOfOneEncoding is.accepted
         → IfOk packed.file (λ bytes. AnswersAs (units_in is.state) bytes.items) }
 {
     written_packages_are_taken_again();
@@ -90,11 +76,9 @@ pub fn packed_files_are_taken_again<Sess: Session<RelocationEntry>>(session: &Se
 /// the format. It does nothing.
 pub fn taken_inputs_are_finished()
     ensures { (accepted : List (List ℕ)) (state : State) (error : ErrorValue)
-        → AreTaken accepted start state
-        → finish_test state ≡ Err error
+        → AreTaken accepted start state → finish_test state ≡ Err error
         → IsUnfinished accepted state error }
 {
-    inputs_are_joined();
     taken_rows_are_in_the_format();
 }
 
@@ -105,14 +89,12 @@ pub fn taken_inputs_are_finished()
 /// encodings; and a section past 32 bits, or a file past what its class can number. It does nothing.
 pub fn packages_of_groups_are_taken_again()
     ensures alone { (inputs : List (List ℕ)) (bytes : List ℕ) (is : IsPackedAlone inputs bytes)
-        → packs_again is.state ≡ true
-        → IsTakenAgain (units_in is.state) bytes }
+        → packs_again is.state ≡ true → IsTakenAgain (units_in is.state) bytes }
     ensures left { (order : Endianness) (groups : List (List (List ℕ))) (error : ErrorValue)
         (refused : RefusesPackages groups error)
         → CanBePackedAgain order groups refused.packages refused.each
         → IsGroupsError refused.packages error }
 {
-    inputs_are_joined();
     packages_that_pack_again_are_accepted();
     written_packages_are_taken_again();
     taken_inputs_are_finished();
@@ -125,13 +107,10 @@ pub fn packages_of_groups_are_taken_again()
 /// groups join at once. It does nothing.
 pub fn groups_of_one_encoding_are_packed_alike()
     ensures encodings { (groups : List (List (List ℕ))) (packages : List (List ℕ))
-        (each : ArePackedAlone groups packages)
-        → All HasCommonEncoding groups
+        (each : ArePackedAlone groups packages) → All HasCommonEncoding groups
         → HaveTheirEncodings groups packages each }
-    ensures joined { (groups : List (List (List ℕ))) (file : List ℕ)
-        → IsPackedInGroups groups file
-        → All HasCommonEncoding groups
-        → IsPackageOfAll (inputs_of groups) file }
+    ensures joined { (groups : List (List (List ℕ))) (file : List ℕ) → IsPackedInGroups groups file
+        → All HasCommonEncoding groups → IsPackageOfAll (inputs_of groups) file }
 {
     packages_have_the_encoding_of_their_inputs();
     groups_are_packed_alike();
@@ -144,21 +123,13 @@ pub fn groups_of_one_encoding_are_packed_alike()
 /// nothing.
 pub fn refused_packages_mean_what_is_read()
     ensures own { (accepted : List (List ℕ)) (state : State) (bytes : List ℕ)
-        → AreTaken accepted start state
-        → packs_again state ≡ true
-        → IsWritten state bytes
+        → AreTaken accepted start state → packs_again state ≡ true → IsWritten state bytes
         → MeansAsRead (units_in state) bytes }
     ensures taken { (accepted : List (List ℕ)) (state : State) (bytes : List ℕ)
-        (before after : State)
-        → AreTaken accepted start state
-        → IsWritten state bytes
-        → HaveEncodingOf bytes (units_in state)
-        → IsSoundBegun before.begun
-        → taken bytes before ≡ Ok after
-        → MeansAsRead (units_in state) bytes }
+        (before after : State) → AreTaken accepted start state → IsWritten state bytes
+        → HaveEncodingOf bytes (units_in state) → IsSoundBegun before.begun
+        → taken bytes before ≡ Ok after → MeansAsRead (units_in state) bytes }
 {
-    inputs_are_joined();
-    finished_packages_are_read();
     written_packages_mean_their_units();
     plain_objects_pack_again();
     packages_have_the_encoding_of_their_inputs();
@@ -172,8 +143,6 @@ pub fn refused_packages_mean_what_is_read()
 /// row, where a range lies outside its section, or where a string can't be read. It does nothing.
 pub fn packages_mean_what_is_read()
     ensures { (bytes : List ℕ) (pack : Package) (meant : List (DwarfObject × Option Meaning))
-        → package_of bytes ≡ Ok pack
-        → has_index pack ≡ true
-        → input_meaning bytes ≡ Ok meant
+        → package_of bytes ≡ Ok pack → has_index pack ≡ true → input_meaning bytes ≡ Ok meant
         → (meant ≡ []) ⊎ MeansByReader bytes pack meant }
 {}

@@ -1,9 +1,8 @@
 //! Packing in groups.
 
 ghost use Rattle.std.specs.Prelude.{IfOk};
-ghost use Rattle.thorin.specs.Groups.{PacksAlone, PacksInGroups, IsPackedInGroups};
-ghost use Rattle.thorin.specs.Groups.{HaveTheirEncodings, IsPackageOfAll, bytes_in, groups_in};
-ghost use Rattle.thorin.specs.Groups.{inputs_of};
+ghost use Rattle.thorin.specs.Groups.{IsPackedInGroups, HaveTheirEncodings, IsPackageOfAll};
+ghost use Rattle.thorin.specs.Groups.{PacksAlone, PacksInGroups, bytes_in, groups_in, inputs_of};
 
 use crate::laws::groups_are_packed_alike;
 use crate::packing::written;
@@ -15,13 +14,10 @@ use thorin_sessions::Session;
 
 /// Packs each group of inputs, given by their bytes, into a package of its own, and then these
 /// packages, in order, into one, whose bytes are the answer (DWARF 5, 7.3.5). The session holds the
-/// groups' packages. No input is passed over: the first refusal ends it.
-///
-/// # Errors
-/// The first error, of each group in order and then of the packages: what
-/// `DwarfPackage::add_object_bytes` answers of an input, then what `finish` and `write` answer
-/// (`NoOutputObjectCreated` for a group without inputs). `Memory` where memory runs out, in the
-/// session too.
+/// groups' packages. No input is passed over: the first refusal ends it. Errors: the first error,
+/// of each group in order and then of the packages: what `DwarfPackage::add_object_bytes` answers
+/// of an input, then what `finish` and `write` answer (`NoOutputObjectCreated` for a group without
+/// inputs). `Memory` where memory runs out, in the session too.
 pub fn pack_groups<'s, Sess: Session<RelocationEntry>>(
     alloc: Global,
     session: &'s Sess,
@@ -55,12 +51,9 @@ fn pack_alone<'s, Sess: Session<RelocationEntry>>(
 {
     let mut builder = DwarfPackage::new(alloc, session);
     for input in inputs {
-        match builder.add_object_bytes(input) {
-            Ok(()) => {}
-            Err(error) => {
-                drop(builder);
-                return Err(error);
-            }
+        if let Err(error) = builder.add_object_bytes(input) {
+            drop(builder);
+            return Err(error);
         }
     }
     let (file, _) = written(builder);

@@ -1,48 +1,41 @@
 //! What runs and packing in groups mean, as laws.
 
-ghost use Rattle.std.specs.Prelude.{◌≡◌, ◌∷◌, ◌++◌, ℕ, List, [], Ok, Option, IsPermutation, ◌^◌};
-ghost use Rattle.std.specs.Prelude.{◌*◌, ◌≤◌, ◌<◌, Err, length, codes};
+ghost use Rattle.dwp_elf_read.specs.declared.error.WriteError.TheVariants as written;
+ghost use Rattle.std.specs.Prelude.{List, Ok, Option, [], ℕ, ◌*◌, ◌++◌, ◌<◌, ◌^◌, ◌∷◌, ◌≡◌, ◌≤◌};
+ghost use Rattle.std.specs.Prelude.{codes, Err, IsPermutation, length};
+ghost use Rattle.thorin.specs.Groups.{HaveTheirEncodings, IsPackageOfAll, IsPackedInGroups};
 ghost use Rattle.std.specs.List.{flat_map};
 ghost use Rattle.dwp_base.specs.declared.class.Class.TheVariants.{Elf32};
 ghost use Rattle.dwp_base.specs.declared.endian.Endianness.{Endianness};
 ghost use Rattle.dwp_elf_read.specs.declared.error.WriteError.{WriteError};
-ghost use Rattle.dwp_elf_read.specs.declared.error.WriteError.TheVariants as written;
-ghost use Rattle.dwp_elf.specs.FileText.{Object, headers_place};
-ghost use Rattle.dwp_elf.specs.Numbers.{Fits};
+ghost use Rattle.dwp_elf.specs.{FileText.headers_place, FileText.Object, Numbers.Fits};
 ghost use Rattle.dwp_elf.specs.Refusals.{RefusesFile, RefusesWriter};
 ghost use Rattle.dwp_bytes.specs.declared.encoding.Encoding.{Encoding};
 ghost use Rattle.dwp_table.specs.declared.object.DwarfObject.{DwarfObject};
 ghost use Rattle.thorin_errors.specs.Errors.{NumberTooLarge};
 ghost use Rattle.dwp_strings.specs.Strings.{offset_of};
 ghost use Rattle.thorin_strings.specs.StringOffsets.{named_at, offset_limit, remapped_entry};
-ghost use Rattle.thorin_index.specs.declared.entry.IndexEntry.{IndexEntry};
-ghost use Rattle.thorin_index.specs.EntryTests.{index_tests};
-ghost use Rattle.thorin_join.specs.Builder.{State, taken, differing_in};
-ghost use Rattle.thorin_join.specs.Join.{JoinAll};
-ghost use Rattle.thorin_join.specs.Meaning.{Meaning, joining, can_join};
-ghost use Rattle.thorin_join.specs.Represents.{units_in};
+ghost use Rattle.thorin_index.specs.{declared.entry.IndexEntry.IndexEntry, EntryTests.index_tests};
+ghost use Rattle.thorin_join.specs.Builder.{differing_in, State, taken};
+ghost use Rattle.thorin_join.specs.{Join.JoinAll, Represents.units_in};
+ghost use Rattle.thorin_join.specs.Meaning.{can_join, joining, Meaning};
 ghost use Rattle.thorin_builder.specs.Taking.{Outcome};
-ghost use Rattle.thorin.specs.declared.packing.Input.{Input};
-ghost use Rattle.thorin.specs.Differing.{differing, own_bytes, input_units};
-ghost use Rattle.thorin.specs.Groups.{AreJoined, HaveTheirEncodings, IsPackedInGroups};
-ghost use Rattle.thorin.specs.Groups.{IsPackageOfAll, inputs_of};
+ghost use Rattle.thorin.specs.{declared.packing.Input.Input, Groups.AreJoined, Groups.inputs_of};
+ghost use Rattle.thorin.specs.Differing.{differing, input_units, own_bytes};
 ghost use Rattle.thorin.specs.Run.{Ran, TakesInput};
 
 use thorin_again::written_packages_mean_their_units;
 use thorin_builder::InputReader;
-use thorin_join::inputs_are_joined;
 
 /// The law of joining in groups, on lists of units alone. Join each group by itself, put each
 /// result into any order, and join the results: this is defined exactly where joining all units at
 /// once is, and gives the same units, perhaps in another order. It does nothing.
 pub fn groups_are_joined_alike()
     ensures defined { (groups results : List (List (DwarfObject × Option Meaning)))
-        → AreJoined groups results
-        → can_join [] (flat_map (λ units. units) groups)
+        → AreJoined groups results → can_join [] (flat_map (λ units. units) groups)
         ≡ can_join [] (flat_map (λ units. units) results) }
     ensures joined { (groups results : List (List (DwarfObject × Option Meaning)))
-        → AreJoined groups results
-        → IsPermutation (joining [] (flat_map (λ units. units) groups))
+        → AreJoined groups results → IsPermutation (joining [] (flat_map (λ units. units) groups))
         (joining [] (flat_map (λ units. units) results)) }
 {}
 
@@ -56,7 +49,6 @@ pub fn groups_are_packed_alike()
         → HaveTheirEncodings groups packed.packages packed.each
         → IsPackageOfAll (inputs_of groups) file }
 {
-    inputs_are_joined();
     written_packages_mean_their_units();
 }
 
@@ -70,8 +62,7 @@ pub fn runs_go_on<R: InputReader>(reader: &R)
         → Ran (R.offer reader.now) (done ++ input ∷ []) old
         (outcomes ++ outcome ∷ []) new (before ++ here) }
     ensures joined { (inputs : List Input) (old new : State) (outcomes : List Outcome)
-        (accepted : List (List ℕ))
-        → Ran (R.offer reader.now) inputs old outcomes new accepted
+        (accepted : List (List ℕ)) → Ran (R.offer reader.now) inputs old outcomes new accepted
         → JoinAll accepted (units_in old) (units_in new) }
 {
     let _ = reader;
@@ -83,8 +74,7 @@ pub fn runs_go_on<R: InputReader>(reader: &R)
 /// input. It does nothing.
 pub fn passed_type_units_are_compared()
     ensures { (bytes : List ℕ) (old new : State) (units : List (DwarfObject × List ℕ))
-        → taken bytes old ≡ Ok new
-        → input_units bytes ≡ Ok units
+        → taken bytes old ≡ Ok new → input_units bytes ≡ Ok units
         → differing_in new ≡ differing_in old ++ differing (own_bytes (units_in old)) [] units }
 {}
 
@@ -97,8 +87,7 @@ pub fn numbers_past_limits_are_refused()
     ensures elf_32_file { (o : Object) → o.class ≡ Elf32
         → 2 ^ 32 ≤ headers_place o.class o.contents → ¬ Fits o }
     ensures elf_32_bytes { (o : Object) (e : WriteError) → o.class ≡ Elf32
-        → 2 ^ 32 ≤ headers_place o.class o.contents → RefusesFile o e
-        → e ≡ written.NumberTooLarge }
+        → 2 ^ 32 ≤ headers_place o.class o.contents → RefusesFile o e → e ≡ written.NumberTooLarge }
     ensures elf_32_writer { (o : Object) (old new : Option (List ℕ)) (e : WriteError)
         → o.class ≡ Elf32 → 2 ^ 32 ≤ headers_place o.class o.contents
         → RefusesWriter o old new e → e ≡ written.NumberTooLarge }

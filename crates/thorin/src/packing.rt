@@ -1,12 +1,9 @@
 //! Whole packages from lists of inputs.
 
-ghost use Rattle.std.specs.Prelude.{◌≡◌, ℕ, List, map, IfOk, IfErr};
-ghost use Rattle.thorin_join.specs.Builder.{differing_in};
-ghost use Rattle.thorin_join.specs.Join.{IsPackageOf};
-ghost use Rattle.thorin.specs.Packed.{IsPacked};
+ghost use Rattle.std.specs.Prelude.{IfErr, IfOk, List, map, ℕ, ◌≡◌};
+ghost use Rattle.thorin_join.specs.{Builder.differing_in, Join.IsPackageOf, Represents.units_in};
+ghost use Rattle.thorin.specs.{Packed.IsPacked, Run.DeclinesInput, Run.Ran, Run.Took, Run.Writes};
 ghost use Rattle.thorin_builder.specs.Reading.{OnDeclined, outcome_of};
-ghost use Rattle.thorin_join.specs.Represents.{units_in};
-ghost use Rattle.thorin.specs.Run.{DeclinesInput, Ran, Took, Writes};
 
 use dwp_bytes::RelocationEntry;
 use dwp_table::DebugTypeSignature;
@@ -42,9 +39,7 @@ pub struct Packed {
     pub differing: Vec<DebugTypeSignature>,
 }
 
-/// Packs inputs in order, passing over those that are refused, and writes the package.
-///
-/// # Errors
+/// Packs inputs in order, passing over those that are refused, and writes the package. Errors:
 /// `Memory` alone, where there is none for the list of outcomes. The errors of refused inputs, and
 /// of a package that can't be written, stand in `Packed`.
 pub fn pack<'s, Sess: Session<RelocationEntry>>(
@@ -95,11 +90,9 @@ fn take_inputs<'o, 's: 'o, Sess: Session<RelocationEntry>>(
 }
 
 /// Adds one input to a builder. The reader reads what a path names, into room that is free again
-/// afterwards.
-///
-/// # Errors
-/// Those of `DwarfPackage::add_input_by`, `add_object_bytes`, `add_executable_by` or
-/// `add_executable_skipping_nameless_by`, by the input; `Declined` where the reader declines a file.
+/// afterwards. Errors: those of `DwarfPackage::add_input_by`, `add_object_bytes`,
+/// `add_executable_by` or `add_executable_skipping_nameless_by`, by the input; `Declined` where the
+/// reader declines a file.
 pub fn take_input<'o, 's: 'o, Sess: Session<RelocationEntry>, R: InputReader>(
     builder: &mut DwarfPackage<'o, 's, Sess>,
     reader: &R,

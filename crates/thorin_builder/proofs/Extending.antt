@@ -1,11 +1,10 @@
 -- A package that loses nothing of what it had.
 use Rattle.thorin_builder.proofs.Terms
-use Terms.{append-nil, arith, Contents, DebugTypeSignature, Extends, false, File, InProgress}
-use Terms.{IsGrown, length, List, map, map-append, New, new_units, Ok, parts_of, refl, Result}
-use Terms.{rules, Source, sym, take, take-append_seam, take-length, true, with_all, with_source, ℕ}
-use Terms.{[], ◌++◌, ◌∷◌, ◌≡◌}
-use Rattle.std.proofs.Common.{length-take, take-take}
-use Rattle.std.specs.Result.{is_err, OnErr, OnOk}
+use Terms.{append-nil, arith, Contents, DebugTypeSignature, Extends, File, InProgress, IsGrown}
+use Terms.{length, List, map, map-append, New, new_units, Ok, parts_of, refl, Result, rules, Source}
+use Terms.{sym, take, take-append_seam, take-length, true, with_all, with_source, ℕ, [], ◌++◌, ◌∷◌}
+use Terms.{◌≡◌}
+use Rattle.std.{proofs.Common.length-take, proofs.Common.take-take, specs.Result.OnOk}
 use Rattle.dwp_elf.specs.Growing.{Begins}
 use Rattle.thorin_join.specs.State.{abbreviations_test, adding}
 
@@ -34,53 +33,33 @@ pub extends-refl : (p : InProgress) → Extends p p
 extends-refl p = let file = is_grown-refl p.file in
     assumption (file, take-length p.strings, take-length p.rows, take-length p.differing)
 
--- a file that grew, and more strings and signatures
-pub grown-extends : {p : InProgress} {f : File} {strings : List (List ℕ)} {differing : List ℕ}
-    → ((before : File) → IsGrown before p.file → IsGrown before f) → take
-    (length p.strings) strings ≡ p.strings → take (length p.differing) differing ≡ p.differing
-    → Extends p (record p { file = f; strings = strings; differing = differing })
-grown-extends {p = p} grown kept more =
-    let file = grown p.file (is_grown-refl p.file) in
-    let rows = take-length p.rows in assumption
-
 -- what keeps those before it keeps those before them
 still-kept : {A : Type 0} (old now new : List A) → take (length old) now ≡ old
     → take (length now) new ≡ now → take (length old) new ≡ old
 still-kept old now new first second =
     grind (arith, length-take (length old) now, take-take (length old) (length now) new)
 
--- the same of what lost nothing of an earlier one
-pub still-extends : {before p : InProgress} {f : File} {differing : List ℕ} → Extends before p
-    → ((b : File) → IsGrown b p.file → IsGrown b f)
-    → take (length p.differing) differing ≡ p.differing
-    → Extends before (record p { file = f; differing = differing })
-still-extends {before = before} {p = p} {differing = differing} h grown more =
-    let kept = still-kept before.differing p.differing differing h.differing more in
-    assumption (grown before.file h.file, kept)
+-- a file that grew, and more strings and signatures
+pub still-extends : {before p : InProgress} {f : File} {strings : List (List ℕ)}
+    {differing : List ℕ} → Extends before p → ((b : File) → IsGrown b p.file → IsGrown b f)
+    → take (length p.strings) strings ≡ p.strings → take (length p.differing) differing
+    ≡ p.differing → Extends before (record p { file = f; strings = strings; differing = differing })
+still-extends {before} {p} {f} {strings} {differing} h grown kept more =
+    let texts = still-kept before.strings p.strings strings h.strings kept in
+    let types = still-kept before.differing p.differing differing h.differing more in
+    assumption (grown before.file h.file, texts, types)
 
 pub strings-extend : {p : InProgress} {strings : List (List ℕ)}
     → take (length p.strings) strings ≡ p.strings → Extends p (record p { strings = strings })
-strings-extend {p = p} kept = grown-extends (λ before h. h) kept (take-length p.differing)
+strings-extend {p = p} kept =
+    still-extends (extends-refl p) (λ b h. h) kept (take-length p.differing)
 
 -- the steps of an input
-pub with_source-is : (source : Source) (p : InProgress) (parts : Contents
-    × List (List ℕ)) (new : New) → parts_of source p.strings ≡ Ok parts
-    → source.object.has_abbreviations ≡ true → new_units (adding source p parts.0) ≡ Ok new
-    → with_source source p ≡ Ok (with_all p parts new)
+pub with_source-is : (source : Source) (p : InProgress) (parts : Contents × List (List ℕ))
+    (new : New) → parts_of source p.strings ≡ Ok parts → source.object.has_abbreviations ≡ true →
+    new_units (adding source p parts.0) ≡ Ok new → with_source source p ≡ Ok (with_all p parts new)
 unfolding with_source abbreviations_test
-with_source-is source p parts new hp ha hn =
-    rw (hp, hn, ha) refl
-
--- what holds of no error
-pub no_err : {T E : Type 0} (P : Type 0) (r : Result T E) → is_err r ≡ false → OnErr r P
-no_err P r h = grind rules
-
--- and what holds of no value
-pub no_ok : {T E : Type 0} (P : Type 0) (r : Result T E) → is_err r ≡ true → OnOk r P
-no_ok P r h = grind rules
-
-pub on_value : {T E : Type 0} (P : Type 0) (r : Result T E) → P → OnOk r P
-on_value P r h = grind rules
+with_source-is source p parts new hp ha hn = rw (hp, hn, ha) refl
 
 -- what follows of two facts of a value
 pub on_ok-both : {T E : Type 0} (r : Result T E) (P Q R : Type 0) → OnOk r P → OnOk r Q

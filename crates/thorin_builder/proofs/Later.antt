@@ -2,22 +2,20 @@
 use Rattle.thorin_builder.proofs.Terms
 use Terms.{[], Bool, Contents, DwarfObject, Err, ErrorValue, first, IndexEntry, kept_bytes}
 use Terms.{kept_more, length, List, lookup, SeenSections, New, new_units, NewUnit, none_met, Ok}
-use Terms.{Option}
-use Terms.{or_held, parts_of, Result, rules, same_name, Some, Source, suc, take, take-append_seam}
-use Terms.{take-length, Used, with_each_read, with_each_section, with_first, with_section, zero, ℕ}
-use Terms.{◌++◌, ◌+◌, ◌∙◌, ◌∷◌, ◌≡◌}
+use Terms.{Option, or_held, parts_of, Result, rules, same_name, Some, Source, suc, take}
+use Terms.{take-append_seam, take-length, Used, with_each_read, with_each_section, with_first}
+use Terms.{with_section, zero, ℕ, ◌++◌, ◌+◌, ◌∙◌, ◌∷◌, ◌≡◌}
 use Rattle.thorin_join.proofs.Terms as Joined
 use Joined.{◌>>=◌, Adding, Contribution, entry_count, name_for, packaged_offsets, ReadError}
 use Joined.{remapped, rewritten, slice_range, Str, unit_section, UnitSection}
 use Joined.{with_each_part, with_offsets, with_part, with_string, with_unit}
-use Rattle.std.proofs.lemmas.Bool.{cond-true}
-use Rattle.std.proofs.lemmas.Grind.{length_at_push}
-use Rattle.thorin_strings.specs.StringOffsets.{remapped_entry, remapped_entries}
+use Rattle.std.proofs.{lemmas.Bool.cond-true, lemmas.Grind.length_at_push}
+use Rattle.thorin_strings.specs.StringOffsets.{remapped_entries, remapped_entry}
 use Rattle.thorin_package_input.specs.PackagedOffsets.{offset_ranges, rewritten_from}
 use Rattle.dwp_strings.specs.Strings.{offset_of}
 use Rattle.dwp_strings.proofs.Named.{there_later, there_once_used}
 use Rattle.dwp_units.specs.Units.{Unit as Header}
-use Rattle.thorin_input.specs.NewUnits.{with_read, once_test, with_section_at, with_section_in}
+use Rattle.thorin_input.specs.NewUnits.{once_test, with_read, with_section_at, with_section_in}
 
 abbrev Strings : Type 0
 Strings = List (List ℕ)
@@ -148,9 +146,8 @@ module _ (source : Source) (whole other : IndexEntry) (held more : List (DwarfOb
   read-alone from (Ok unit) before = named-alone from unit before (name_for source from.kind unit)
   read-alone from (Err error) before = tt
 
-  each-alone : (from : Used) (reads : List (Result Header ReadError)) (before : New)
-      → Alone (λ new. new) before (with_each_read here from before reads)
-      (with_each_read there from before reads)
+  each-alone : (from : Used) (reads : List (Result Header ReadError)) (before : New) → Alone (λ new.
+      new) before (with_each_read here from before reads) (with_each_read there from before reads)
   unfolding with_each_read
   each-alone from [] before = grind rules
   each-alone from (read ∷ rest) before =
@@ -163,16 +160,12 @@ module _ (source : Source) (whole other : IndexEntry) (held more : List (DwarfOb
   section-alone from place before =
       grind (rules, λ (reads : List (Result Header ReadError)). each-alone from reads before.1)
 
-  sections-alone : (sections : List Used) (before : SeenSections × New)
-      → Alone (λ at. at.1) before.1 (with_each_section here before sections)
-      (with_each_section there before sections)
+  sections-alone : (sections : List Used) (before : SeenSections × New) → Alone (λ at. at.1)
+      before.1 (with_each_section here before sections) (with_each_section there before sections)
   unfolding with_each_section with_section
   sections-alone [] before = grind rules
-  sections-alone (from ∷ others) before = grind (
-    rules,
-    section-alone from (unit_section from.kind) before,
-    sections-alone others,
-  )
+  sections-alone (from ∷ others) before =
+      grind (rules, section-alone from (unit_section from.kind) before, sections-alone others)
 
   -- where an input adds no unit, it adds the same to a package that has more units, wherever its
   -- parts come to lie

@@ -1,14 +1,13 @@
 //! Executables as inputs: the executable is read, then each object that it names is read and added,
 //! passed over, or refused (DWARF 5, 3.1.2; the GNU page DebugFission).
 
-ghost use Rattle.std.specs.Prelude.{◌≡◌, ℕ, false, List, Option, OnOk};
-ghost use Rattle.std.specs.Path.{path_bytes};
-ghost use Rattle.thorin_builder.specs.Taking.{TakesExecutable, TakesExecutableSkippingNameless};
-ghost use Rattle.thorin_builder.specs.Taking.{TakesExecutableBy, TakesNamed, TakesSkeleton};
-ghost use Rattle.thorin_builder.specs.Taking.{TakesReferredFile, Takes, IsUnread, came, is_there};
-ghost use Rattle.thorin_builder.specs.Taking.{all_named, nameless_skipped};
+ghost use Rattle.std.specs.Prelude.{false, List, OnOk, Option, ℕ, ◌≡◌};
+ghost use Rattle.thorin_builder.specs.Taking.{nameless_skipped, TakesExecutable, TakesReferredFile};
+ghost use Rattle.thorin_builder.specs.Taking.{all_named, came, IsUnread, TakesNamed, TakesSkeleton};
+ghost use Rattle.thorin_builder.specs.Taking.{TakesExecutableBy, TakesExecutableSkippingNameless};
 ghost use Rattle.thorin_builder.specs.Reading.{DeclinesExecutable, DeclinesNamed, OnDeclined};
-ghost use Rattle.thorin_builder.specs.Reading.{outcome_of};
+ghost use Rattle.std.specs.Path.{path_bytes};
+ghost use Rattle.thorin_builder.specs.{Reading.outcome_of, Taking.is_there, Taking.Takes};
 ghost use Rattle.thorin_builder.specs.Repeated.{AddsAgainTo, AreTaken, IsLaterBegun, Remembers};
 ghost use Rattle.thorin_join.specs.State.{InProgress};
 ghost use Rattle.thorin_executable.specs.Skeletons.{skeletons_by};
@@ -50,13 +49,11 @@ impl<'output, 'session: 'output, Sess: Session<RelocationEntry>> DwarfPackage<
     /// Adds the objects that the executable at a path names, in the order of its units: an object
     /// for each compilation unit that isn't contained yet, and for each type unit. Before the
     /// object is read, the compilation unit joins the targets, which `finish` wants to be
-    /// contained. With `Skip` an object that can't be read is passed over.
-    ///
-    /// # Errors
-    /// `ReadInput` where the executable, or with `Error` an object, can't be read; what `skeletons`
-    /// answers, at its place in the list; what `add_object_bytes` answers of an object; `Memory`.
-    /// An `Err` keeps the objects that were accepted before, and all targets so far, that of the
-    /// refused object included.
+    /// contained. With `Skip` an object that can't be read is passed over. Errors: `ReadInput`
+    /// where the executable, or with `Error` an object, can't be read; what `skeletons` answers, at
+    /// its place in the list; what `add_object_bytes` answers of an object; `Memory`. An `Err`
+    /// keeps the objects that were accepted before, and all targets so far, that of the refused
+    /// object included.
     pub fn add_executable(
         &mut self,
         path: Path<'_>,
@@ -73,11 +70,8 @@ impl<'output, 'session: 'output, Sess: Session<RelocationEntry>> DwarfPackage<
 
     /// Adds the objects that the executable at a path names, as `add_executable` does, but passes
     /// over each compilation unit that names no object: its root entry has neither a DW_AT_dwo_name
-    /// nor a DW_AT_GNU_dwo_name.
-    ///
-    /// # Errors
-    /// Those of `add_executable`, but for `MissingDwoName`, which is never answered of the
-    /// executable.
+    /// nor a DW_AT_GNU_dwo_name. Errors: those of `add_executable`, but for `MissingDwoName`, which
+    /// is never answered of the executable.
     pub fn add_executable_skipping_nameless(
         &mut self,
         path: Path<'_>,
@@ -96,10 +90,8 @@ impl<'output, 'session: 'output, Sess: Session<RelocationEntry>> DwarfPackage<
     /// files: each object into `room`, which is free again afterwards, and the executable into room
     /// of its own. Beside the executable no more than one object and one path are held, and what
     /// those objects add that lack the unit for which they were read: they are read once. The
-    /// executable's relocations are placed in the session.
-    ///
-    /// # Errors
-    /// `Failed` by those of `add_executable`; `Declined` where the reader declines a file.
+    /// executable's relocations are placed in the session. Errors: `Failed` by those of
+    /// `add_executable`; `Declined` where the reader declines a file.
     pub fn add_executable_by<R: InputReader>(
         &mut self,
         reader: &R,
@@ -117,11 +109,8 @@ impl<'output, 'session: 'output, Sess: Session<RelocationEntry>> DwarfPackage<
     }
 
     /// Adds the objects that an executable names, as `add_executable_skipping_nameless` does, but a
-    /// reader reads the files, as for `add_executable_by`.
-    ///
-    /// # Errors
-    /// `Failed` by those of `add_executable_skipping_nameless`; `Declined` where the reader
-    /// declines a file.
+    /// reader reads the files, as for `add_executable_by`. Errors: `Failed` by those of
+    /// `add_executable_skipping_nameless`; `Declined` where the reader declines a file.
     pub fn add_executable_skipping_nameless_by<R: InputReader>(
         &mut self,
         reader: &R,
@@ -225,8 +214,7 @@ impl<'output, 'session: 'output, Sess: Session<RelocationEntry>> DwarfPackage<
         ensures taken { (accepted : List (List ℕ)) × TakesSkeleton (R.offer reader.now) missing
             (named.entry.target, named.entry.path.now) self.old.state
             (came (outcome_of result) self.new.state accepted) }
-        ensures declined { OnDeclined result
-            (R.declines reader.now false named.entry.path.now) }
+        ensures declined { OnDeclined result (R.declines reader.now false named.entry.path.now) }
         ensures unread { IsUnread (R.offer reader.now named.entry.path.now) missing
             known.new.is_unread }
         ensures known { OnOk result (AreTaken (R.offer reader.now) known.new.taken.entries
@@ -278,8 +266,7 @@ impl<'output, 'session: 'output, Sess: Session<RelocationEntry>> DwarfPackage<
             self.old.state.begun }
         ensures taken { TakesReferredFile (R.offer reader.now named.entry.path.now) missing
             self.old.state (outcome_of result) self.new.state }
-        ensures declined { OnDeclined result
-            (R.declines reader.now false named.entry.path.now) }
+        ensures declined { OnDeclined result (R.declines reader.now false named.entry.path.now) }
         ensures unread { IsUnread (R.offer reader.now named.entry.path.now) missing
             known.new.is_unread }
         ensures known { OnOk result (AreTaken (R.offer reader.now) known.new.taken.entries
@@ -311,13 +298,12 @@ impl<'output, 'session: 'output, Sess: Session<RelocationEntry>> DwarfPackage<
         taken: &mut IndexMap<String, UnitlessInput>,
     ) -> Result<(), Error>
         ensures takes { Takes bytes.now self.old.state result self.new.state }
-        ensures later { OnOk result
-            (IsLaterBegun self.old.state.begun self.new.state.begun) }
+        ensures later { OnOk result (IsLaterBegun self.old.state.begun self.new.state.begun) }
         ensures remembers { OnOk result (Remembers bytes.now self.new.state.begun
             named.entry.path.now taken.old.entries taken.new.entries) }
         ensures session { self.new.session ≡ self.old.session }
     {
-        self.add_bytes(bytes)?;
+        self.add_object_bytes(bytes)?;
         if !self.is_there(named.target) {
             if let Some(again) = self.again_of(bytes) {
                 remember(self.alloc, taken, named.path, again);

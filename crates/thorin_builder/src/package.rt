@@ -1,23 +1,19 @@
 //! The package builder: `DwarfPackage`, its calls for objects and packages, and finishing. Its
 //! calls for executables are in `executables`.
 
-ghost use Rattle.std.specs.Prelude.{◌≡◌, ℕ, List, map, filter, length, IsTrue, IfOk, IfErr, OnOk};
-ghost use Rattle.std.specs.Prelude.{true, OnErr, IfSome, Option, []};
+ghost use Rattle.thorin_join.specs.Builder as spec;
+ghost use Rattle.std.specs.Prelude.{filter, IfErr, IfOk, IsTrue, length, List, map, [], ℕ, ◌≡◌};
+ghost use Rattle.std.specs.Prelude.{IfSome, OnErr, OnOk, Option, true};
 ghost use Rattle.dwp_bytes.specs.declared.encoding.Encoding.{Encoding as OwnEncoding};
 ghost use Rattle.thorin_errors.specs.Answers.{Gives};
 ghost use Rattle.std.specs.Path.{path_bytes};
-ghost use Rattle.thorin_join.specs.Builder as spec;
-ghost use Rattle.thorin_join.specs.Builder.{IsFinishedState};
-ghost use Rattle.thorin_join.specs.Join.{Joins, IsPackageOnceWritten};
-ghost use Rattle.thorin_join.specs.Meaning.{keys};
-ghost use Rattle.thorin_join.specs.Represents.{IsSoundBegun, units_in};
+ghost use Rattle.thorin_join.specs.{Builder.IsFinishedState, Join.IsPackageOnceWritten, Join.Joins};
+ghost use Rattle.thorin_join.specs.{Meaning.keys, Represents.IsSoundBegun, Represents.units_in};
 ghost use Rattle.thorin_builder.specs.Missing.{missing_left, without_targets};
-ghost use Rattle.thorin_again.specs.Own.{packs_again};
+ghost use Rattle.thorin_again.specs.{Own.packs_again, OwnUnits.HasOneEncoding};
 ghost use Rattle.thorin_again.specs.OwnAccepted.{IsAcceptedByNewOnceWritten, IsAcceptedOnceWritten};
-ghost use Rattle.thorin_again.specs.OwnUnits.{HasOneEncoding};
-ghost use Rattle.thorin_builder.specs.Reading.{OnDeclined, outcome_of};
+ghost use Rattle.thorin_builder.specs.{Reading.OnDeclined, Reading.outcome_of, StateView.begun_of};
 ghost use Rattle.thorin_builder.specs.Repeated.{AddsAgainTo, IsLaterBegun};
-ghost use Rattle.thorin_builder.specs.StateView.{begun_of};
 ghost use Rattle.thorin_builder.specs.Taking.{Takes, TakesFile, with_target};
 
 use crate::adding::add_input;
@@ -35,13 +31,9 @@ use std::alloc::Global;
 use std::fmt;
 use std::marker::{Model, PhantomData};
 use std::path::Path;
-use thorin_again::{
-    one_encoding_is_kept, own_packages_are_accepted, own_packages_are_accepted_by_a_new_one,
-    plain_packages_are_kept,
-};
 use thorin_errors::Error;
 use thorin_input::common;
-use thorin_join::{finished_packages_are_read, inputs_are_joined};
+use thorin_join::inputs_are_joined;
 use thorin_sessions::Session;
 
 /// A package in the making: it takes one input after another. The session keeps what is read.
@@ -108,11 +100,9 @@ impl<'output, 'session: 'output, Sess: Session<RelocationEntry>> DwarfPackage<
         }
     }
 
-    /// Adds the object that the session reads at a path.
-    ///
-    /// # Errors
-    /// `ReadInput` where the session can't read it, `Memory` where it has none, else those of
-    /// `add_object_bytes`. An `Err` leaves the package as it was.
+    /// Adds the object that the session reads at a path. Errors: `ReadInput` where the session
+    /// can't read it, `Memory` where it has none, else those of `add_object_bytes`. An `Err` leaves
+    /// the package as it was.
     pub fn add_input_object(&mut self, path: Path<'_>) -> Result<(), Error>
         ensures taken { TakesFile (Sess.offer self.old.session (path_bytes path.entry))
             self.old.state result self.new.state }
@@ -124,9 +114,8 @@ impl<'output, 'session: 'output, Sess: Session<RelocationEntry>> DwarfPackage<
     }
 
     /// Adds the object that a reader reads at a path, into room that is free again afterwards.
-    ///
-    /// # Errors
-    /// `Failed` by those of `add_input_object`; `Declined` where the reader declines the file.
+    /// Errors: `Failed` by those of `add_input_object`; `Declined` where the reader declines the
+    /// file.
     pub fn add_input_by<R: InputReader>(
         &mut self,
         reader: &R,
@@ -144,46 +133,30 @@ impl<'output, 'session: 'output, Sess: Session<RelocationEntry>> DwarfPackage<
 
     /// Adds an object or a finished package: its units that aren't contained, with all that belongs
     /// to them (DWARF 5, 7.3.5). An object without `.debug_info.dwo` adds no unit, but begins the
-    /// package.
-    ///
-    /// # Errors
-    /// An `Err` leaves the package as it was. It is `Memory`, or the first error of these steps.
-    /// The file: `ParseFileKind`, `InvalidInputKind`, `ParseObjectFile`. Its used sections:
-    /// `DecompressData`, `ObjectRead`. The first unit: `ParseUnitHeader`, `NoCompilationUnits`. The
-    /// byte order: `MixedInputEncodings`. Both indexes: `ParseIndex`, `IncompatibleIndexVersion`.
-    /// Section by section, the kind: `RepeatedSection`, `SectionOutsideFormat`; and the string
-    /// offsets: `MissingRequiredSection`, `BadStringOffsets`, `OverlappingStringOffsets`,
-    /// `OffsetAtIndex`, `StrAtOffset`, `NumberTooLarge`. The abbreviations:
-    /// `MissingRequiredSection`. The units in file order: a package's second section of units
-    /// (`MultipleDebugInfoSection`, `MultipleDebugTypesSection`), `ParseUnitHeader`, what
-    /// `dwo_identifier_of_unit` answers, `NotSplitUnit`, `DuplicateUnit`, `EmptyUnit`, and in a
-    /// package `UnitNotInIndex`, `RowNotInIndex`, `BadContribution`, `SectionNotInRow`.
+    /// package. Errors: an `Err` leaves the package as it was. It is `Memory`, or the first error
+    /// of these steps. The file: `ParseFileKind`, `InvalidInputKind`, `ParseObjectFile`. Its used
+    /// sections: `DecompressData`, `ObjectRead`. The first unit: `ParseUnitHeader`,
+    /// `NoCompilationUnits`. The byte order: `MixedInputEncodings`. Both indexes: `ParseIndex`,
+    /// `IncompatibleIndexVersion`. Section by section, the kind: `RepeatedSection`,
+    /// `SectionOutsideFormat`; and the string offsets: `MissingRequiredSection`,
+    /// `BadStringOffsets`, `OverlappingStringOffsets`, `OffsetAtIndex`, `StrAtOffset`,
+    /// `NumberTooLarge`. The abbreviations: `MissingRequiredSection`. The units in file order: a
+    /// package's second section of units (`MultipleDebugInfoSection`, `MultipleDebugTypesSection`),
+    /// `ParseUnitHeader`, what `dwo_identifier_of_unit` answers, `NotSplitUnit`, `DuplicateUnit`,
+    /// `EmptyUnit`, and in a package `UnitNotInIndex`, `RowNotInIndex`, `BadContribution`,
+    /// `SectionNotInRow`.
+    #[tactic(auto, unfolding(thorin_join::specs::Builder::taken))]
     pub fn add_object_bytes(&mut self, bytes: &[u8]) -> Result<(), Error>
         ensures meaning { Gives (λ _. self.new.state) result (spec.taken bytes.now self.old.state) }
         ensures joins { OnOk result
             (Joins bytes.now (units_in self.old.state) (units_in self.new.state)) }
         ensures err { OnErr result (self.new.state ≡ self.old.state) }
-        ensures session { self.new.session ≡ self.old.session }
-    {
-        self.add_bytes(bytes)
-    }
-
-    /// Adds an object or a finished package. What the package had is kept.
-    #[tactic(auto, unfolding(thorin_join::specs::Builder::taken))]
-    pub(crate) fn add_bytes(&mut self, bytes: &[u8]) -> Result<(), Error>
-        ensures meaning { Gives (λ _. self.new.state) result (spec.taken bytes.now self.old.state) }
-        ensures joins { OnOk result
-            (Joins bytes.now (units_in self.old.state) (units_in self.new.state)) }
-        ensures err { OnErr result (self.new.state ≡ self.old.state) }
-        ensures later { OnOk result
-            (IsLaterBegun self.old.state.begun self.new.state.begun) }
+        ensures later { OnOk result (IsLaterBegun self.old.state.begun self.new.state.begun) }
         ensures session { self.new.session ≡ self.old.session }
     {
         let is_first = self.in_progress.is_none();
         let units = unit_count(&self.in_progress);
         inputs_are_joined();
-        one_encoding_is_kept();
-        plain_packages_are_kept();
         let encoding = add_input(self.alloc, &mut self.in_progress, bytes)?;
         self.own = if unit_count(&self.in_progress) <= units {
             None
@@ -202,13 +175,10 @@ impl<'output, 'session: 'output, Sess: Session<RelocationEntry>> DwarfPackage<
         requires known { (bytes : List ℕ) × AddsAgainTo bytes again.now self.old.state.begun }
         ensures takes { (bytes : List ℕ) → AddsAgainTo bytes again.now self.old.state.begun
             → Takes bytes self.old.state result self.new.state }
-        ensures later { OnOk result
-            (IsLaterBegun self.old.state.begun self.new.state.begun) }
+        ensures later { OnOk result (IsLaterBegun self.old.state.begun self.new.state.begun) }
         ensures session { self.new.session ≡ self.old.session }
     {
         inputs_are_joined();
-        one_encoding_is_kept();
-        plain_packages_are_kept();
         if let Some(package) = &mut self.in_progress {
             package.add_repeated(again)?;
             self.own = None;
@@ -220,8 +190,7 @@ impl<'output, 'session: 'output, Sess: Session<RelocationEntry>> DwarfPackage<
     /// can't be told. The package stays as it is.
     pub(crate) fn again_of(&mut self, bytes: &[u8]) -> Option<UnitlessInput>
         ensures state { self.new.state ≡ self.old.state }
-        ensures again { IfSome result (λ again.
-            AddsAgainTo bytes.now again self.old.state.begun) }
+        ensures again { IfSome result (λ again. AddsAgainTo bytes.now again self.old.state.begun) }
         ensures session { self.new.session ≡ self.old.session }
     {
         match &mut self.in_progress {
@@ -250,13 +219,10 @@ impl<'output, 'session: 'output, Sess: Session<RelocationEntry>> DwarfPackage<
     /// The object to be written. Where `packs_again` was true, its written bytes can be an input
     /// again, memory aside: a new package accepts them, and has the same units then; any package of
     /// their byte order accepts them, unless a compilation unit is there already (`DuplicateUnit`)
-    /// or the offset of a string doesn't fit (`NumberTooLarge`).
-    ///
-    /// # Errors
-    /// `MissingReferencedUnit` for the first unit that an executable names and that isn't
-    /// contained; `NoOutputObjectCreated` where no input began a package; what `write_index`
-    /// answers of each index (`NumberTooLarge`, `MixedInputEncodings`, `SectionOutsideFormat`);
-    /// `Memory`.
+    /// or the offset of a string doesn't fit (`NumberTooLarge`). Errors: `MissingReferencedUnit`
+    /// for the first unit that an executable names and that isn't contained;
+    /// `NoOutputObjectCreated` where no input began a package; what `write_index` answers of each
+    /// index (`NumberTooLarge`, `MixedInputEncodings`, `SectionOutsideFormat`); `Memory`.
     pub fn finish(self) -> Result<WritableObject, Error>
         ensures refusal { Gives (λ _. tt) result (spec.finish_test self.entry.state) }
         ensures finished { IfOk result (IsFinishedState self.entry.state) }
@@ -278,18 +244,12 @@ impl<'output, 'session: 'output, Sess: Session<RelocationEntry>> DwarfPackage<
         ensures accepted_by_new { IfOk result.0 (IsAcceptedByNewOnceWritten self.entry.state) }
         ensures differing { map (λ s. s.0) result.1.items ≡ spec.differing_in self.entry.state }
     {
-        finished_packages_are_read();
-        own_packages_are_accepted();
-        own_packages_are_accepted_by_a_new_one();
         let tested = self.test_targets();
         let DwarfPackage {
             alloc,
-            session: _,
             in_progress,
-            no_units: _,
             targets,
-            own: _,
-            output: _,
+            ..
         } = self;
         finished_begun(alloc, in_progress, &targets, tested)
     }
@@ -382,11 +342,8 @@ fn finished_begun(
         (spec.targets_test (spec.names_in (begun_of in_progress)) targets.now.keys) }
     ensures refusal { (own : Option OwnEncoding) → Gives (λ _. tt) result.0 (spec.finish_test
         (record { begun = begun_of in_progress; targets = targets.now.keys; own = own })) }
-    ensures finished { (own : Option OwnEncoding) → IfOk result.0 (IsFinishedState (record {
-      begun = begun_of in_progress;
-      targets = targets.now.keys;
-      own = own;
-    })) }
+    ensures finished { (own : Option OwnEncoding) → IfOk result.0 (IsFinishedState
+        (record { begun = begun_of in_progress; targets = targets.now.keys; own = own })) }
     ensures differing { map (λ s. s.0) result.1.items
         ≡ spec.differing_begun (begun_of in_progress) }
 {

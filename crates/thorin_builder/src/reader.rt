@@ -1,11 +1,10 @@
 //! What reads the inputs that paths name, and why an input isn't taken.
 
-ghost use Rattle.std.specs.Prelude.{◌≡◌, ℕ, Bool, false, List, Result, IfErr};
-ghost use Rattle.std.specs.Path.{path_bytes};
-ghost use Rattle.std.specs.declared.io.Error.{Error as IoError};
-ghost use Rattle.thorin_sessions.specs.Sessions.{IsNoWantOfMemory};
 ghost use Rattle.thorin_errors.specs.declared.error.InputError.TheVariants as input;
 ghost use Rattle.thorin_builder.specs.declared.reader.NotTaken.TheVariants as not_taken;
+ghost use Rattle.std.specs.Prelude.{Bool, false, IfErr, List, Result, ℕ, ◌≡◌};
+ghost use Rattle.std.specs.{declared.io.Error.Error as IoError, Path.path_bytes};
+ghost use Rattle.thorin_sessions.specs.Sessions.{IsNoWantOfMemory};
 ghost use Rattle.thorin_builder.specs.Reading.{IsRead, OnDeclined, OnFailed, outcome_of};
 ghost use Rattle.thorin_builder.specs.Reading as spec;
 
@@ -92,11 +91,8 @@ pub trait InputReader {
     ghost declines: { Self → (own : Bool) → List ℕ → Self.Refusal → Type 0 };
 
     /// Reads the file at a path, into the room or elsewhere: at an input's own path, or else at one
-    /// that an executable names.
-    ///
-    /// # Errors
-    /// `Failed` where the file couldn't be read; where memory ran out, it is always
-    /// `InputError::Memory`. `Declined` where it could, and isn't to be taken.
+    /// that an executable names. Errors: `Failed` where the file couldn't be read; where memory ran
+    /// out, it is always `InputError::Memory`. `Declined` where it could, and isn't to be taken.
     fn read_into<'b>(
         &'b self,
         is_own: bool,
@@ -108,10 +104,7 @@ pub trait InputReader {
         ensures memory { OnFailed result IsNoWantOfMemory };
 
     /// Whether an object may be added once more, or a path tried that no system opens. A reader may
-    /// set bounds to what small files ask for.
-    ///
-    /// # Errors
-    /// Why it declines the object.
+    /// set bounds to what small files ask for. Errors: why it declines the object.
     fn admit(&self, repetition: Repetition<'_>) -> Result<(), Self::Refusal>
         ensures { IfErr result (declines self.now false (path_bytes repetition.entry.path)) };
 
@@ -158,10 +151,7 @@ impl<S: Session<RelocationEntry>> InputReader for S {
 }
 
 /// Whether a path may be tried that an executable names: its reader is asked where no system opens
-/// one as long.
-///
-/// # Errors
-/// Why the reader declines it.
+/// one as long. Errors: why the reader declines it.
 pub fn admit_path<R: InputReader>(reader: &R, path: &str) -> Result<(), R::Refusal>
     ensures { IfErr result (R.declines reader.now false path.now) }
 {

@@ -1,20 +1,17 @@
 //! A package while it is made: adding a source's units, taking them back, and finishing with
 //! strings and indexes.
 
-ghost use Rattle.std.specs.Prelude.{◌≡◌, ℕ, ◌<◌, ◌^◌, List, map, take, Some};
-ghost use Rattle.std.specs.Prelude.{IfOk, IfErr, OnOk, OnErr, true};
+ghost use Rattle.thorin_join.specs.State as spec;
+ghost use Rattle.std.specs.Prelude.{IfErr, IfOk, List, map, OnOk, Some, take, ℕ, ◌<◌, ◌^◌, ◌≡◌};
+ghost use Rattle.std.specs.Prelude.{OnErr, true};
 ghost use Rattle.dwp_table.specs.Objects.{identifier_of};
 ghost use Rattle.thorin_errors.specs.Answers.{Gives};
-ghost use Rattle.thorin_index.specs.EntryTests.{index_tests};
-ghost use Rattle.thorin_index.specs.IndexText.{IsIndexOf};
+ghost use Rattle.thorin_index.specs.{EntryTests.index_tests, IndexText.IsIndexOf};
 ghost use Rattle.dwp_strings.specs.Marks.{mark_of};
 ghost use Rattle.dwp_elf_read.specs.View.{elf};
-ghost use Rattle.thorin_join.specs.Builder.{begun_by, IsFinished, indexes_test, IdentifiersFit};
-ghost use Rattle.thorin_input.specs.Encodings.{are_alike};
-ghost use Rattle.thorin_input.specs.Names.{is_compilation};
-ghost use Rattle.thorin_input.specs.NewUnits.{new_units};
+ghost use Rattle.thorin_join.specs.Builder.{begun_by, IdentifiersFit, indexes_test, IsFinished};
+ghost use Rattle.thorin_input.specs.{Encodings.are_alike, Names.is_compilation, NewUnits.new_units};
 ghost use Rattle.thorin_again.specs.Own.{has_sections};
-ghost use Rattle.thorin_join.specs.State as spec;
 ghost use Rattle.thorin_builder.specs.RowsByIndex.{is_of_compilations, rows_in};
 ghost use Rattle.thorin_builder.specs.StateView.{amount_in, in_progress_of};
 ghost use Rattle.thorin_input.specs.UnitView.{new_of};
@@ -106,11 +103,13 @@ impl InProgressDwarfPackage {
             (spec.Extends (in_progress_of self.old) (in_progress_of self.new)) }
     {
         let mark = self.mark()?;
-        let added = self.try_add(source);
-        if added.is_err() {
-            self.restore(&mark);
+        match self.try_add(source) {
+            Ok(alike) => Ok(alike),
+            Err(error) => {
+                self.restore(&mark);
+                Err(error)
+            }
         }
-        added
     }
 
     /// Adds the units of an input, but an `Err` may leave more than there was.
@@ -139,10 +138,8 @@ impl InProgressDwarfPackage {
     /// leave more than there was.
     fn add_all(&mut self, parts: Vec<Part<'_>>, new: &NewUnits<'_>) -> Result<(), Error>
         ensures meaning { OnOk result (in_progress_of self.new
-            ≡ spec.with_all (in_progress_of self.old) (
-              map view.part parts.entry.items,
-              (in_progress_of self.old).strings,
-            ) (new_of new.now)) }
+            ≡ spec.with_all (in_progress_of self.old)
+            (map view.part parts.entry.items, (in_progress_of self.old).strings) (new_of new.now)) }
         ensures refused { IfErr result (λ e. e ≡ Error.Memory) }
         ensures extends { (before : spec.InProgress) → spec.Extends before (in_progress_of self.old)
             → spec.Extends before (in_progress_of self.new) }
@@ -177,9 +174,8 @@ impl InProgressDwarfPackage {
         place: UnitSection,
         bytes: &[u8],
     ) -> Result<(), Error>
-        ensures meaning { OnOk result (in_progress_of self.new
-            ≡ spec.with_new_unit (in_progress_of self.old)
-            (row.id, record { place = place; bytes = bytes.now; row = row })) }
+        ensures meaning { OnOk result (in_progress_of self.new ≡ spec.with_new_unit (in_progress_of
+            self.old) (row.id, record { place = place; bytes = bytes.now; row = row })) }
         ensures refused { IfErr result (λ e. e ≡ Error.Memory) }
         ensures extends { (before : spec.InProgress) → spec.Extends before (in_progress_of self.old)
             → spec.Extends before (in_progress_of self.new) }
@@ -269,12 +265,8 @@ pub(crate) fn finished(
 ) -> Result<WritableObject, Error>
     ensures refusal { (differing : List ℕ) → Gives (λ _. tt) result (indexes_test
         (record { file = object; strings = strings; rows = rows.now; differing = differing })) }
-    ensures finished { (differing : List ℕ) → IfOk result (IsFinished (record {
-      file = object;
-      strings = strings;
-      rows = rows.now;
-      differing = differing;
-    })) }
+    ensures finished { (differing : List ℕ) → IfOk result (IsFinished
+        (record { file = object; strings = strings; rows = rows.now; differing = differing })) }
     ensures identifiers { OnOk result (IdentifiersFit rows.now) }
 {
     let order = object.endianness();
@@ -310,7 +302,6 @@ fn are_all(rows: &IndexRows, index: Index) -> bool
     true
 }
 
-/// The rows that stand in the given index.
 fn rows_in(alloc: Global, rows: &IndexRows, index: Index) -> Result<IndexRows, Error>
     ensures rows { IfOk result (λ chosen. chosen ≡ rows_in index rows.now) }
     ensures identifiers { OnOk result (IdentifiersFit rows.now) }

@@ -1,30 +1,21 @@
 -- The rows that units get, put together of the contributions that are read for each kind of
 -- section.
-use Rattle.std.proofs.Common.{ap, cond, Err, map-id, None, Ok, Option, refl, Result, slice_get}
-use Rattle.std.proofs.Common.{Some, sym, ◌∙◌, ◌≡◌}
-use Rattle.std.proofs.lemmas.Option.{get_or_from_slice_get}
+use Rattle.dwp_dwarf.proofs.Terms.{ap, by-bool, cond, Encoding, Err, None, Ok, Option, ◌∙◌, ◌≡◌}
+use Rattle.dwp_dwarf.proofs.Terms.{refl, Result, slice_get, Some, sym}
+use Rattle.std.proofs.{Common.map-id, lemmas.Option.get_or_from_slice_get}
 use Rattle.dwp_base.specs.ByKind.{ReadsEach, value_of, values_of}
-use Rattle.dwp_base.specs.Reading.{Answers}
-use Rattle.dwp_base.specs.Sections.{all_kinds, rank_of}
-use Rattle.dwp_base.specs.declared.by_kind.ByKind.{ByKind}
-use Rattle.dwp_base.specs.declared.section.Contribution.{Contribution}
-use Rattle.dwp_base.specs.declared.section.SectionKind.{SectionKind}
-use Rattle.dwp_base.proofs.Bools.{by-bool}
-use Rattle.dwp_base.proofs.EveryKind.{same-each}
-use Rattle.dwp_base.proofs.KindsRead.{answers-each}
-use Rattle.dwp_base.proofs.Steps.{bind-err, bind-ok, each-read}
-use Rattle.dwp_bytes.specs.declared.encoding.Encoding.{Encoding}
+use Rattle.dwp_base.specs.{declared.by_kind.ByKind.ByKind, declared.section.SectionKind.SectionKind}
+use Rattle.dwp_base.specs.{Reading.Answers, Sections.all_kinds, Sections.rank_of}
+use Rattle.dwp_base.{proofs.EveryKind.same-each, specs.declared.section.Contribution.Contribution}
+use Rattle.dwp_base.proofs.{KindsRead.answers-each, Steps.bind-err, Steps.bind-ok, Steps.each-read}
 use Rattle.dwp_table.specs.declared.object.DwarfObject.{DwarfObject}
 use Rattle.dwp_table.specs.declared.object.DwarfObject.TheVariants.{Compilation}
-use Rattle.thorin_errors.specs.Errors.{error_of, ErrorValue}
-use Rattle.thorin_errors.specs.declared.error.Error.{Error}
+use Rattle.thorin_errors.specs.{declared.error.Error.Error, Errors.error_of, Errors.ErrorValue}
 use Rattle.thorin_index.specs.Entries.{contribution_to, entry_by}
 use Rattle.thorin_index.specs.declared.entry.IndexEntry.{IndexEntry}
 use Rattle.thorin_input.specs.Adjusting.{adjusted, GivesExactly}
-use Rattle.thorin_input.specs.Format.{is_shared}
+use Rattle.thorin_input.specs.{Format.is_shared, Indexes.Indexes, Parts.joined_parts}
 use Rattle.dwp_elf.specs.Growing.{Contents, contribution_put}
-use Rattle.thorin_input.specs.Parts.{joined_parts}
-use Rattle.thorin_input.specs.Indexes.{Indexes}
 use Rattle.thorin_input.specs.Rows.{EndFits, EndsFit, unit_contribution, unit_row, whole_row}
 
 -- ---- where whole sections come to lie
@@ -45,10 +36,9 @@ range_of_whole before parts kind =
     cond (is_shared kind) (contribution_put kind (joined_parts kind parts) before) None
 
 pub whole-is : (encoding : Encoding) (before parts : Contents)
-    (ranges : ByKind (Option Contribution))
-    → AreKnown (λ kind range. range ≡ range_of_whole before parts kind) ranges → (row : IndexEntry)
-    → row ≡ entry_by encoding (Compilation (record { 0 = 0 })) (value_of None (values_of ranges))
-    → row ≡ whole_row encoding before parts
+    (ranges : ByKind (Option Contribution)) → AreKnown (λ kind range. range ≡ range_of_whole
+    before parts kind) ranges → (row : IndexEntry) → row ≡ entry_by encoding (Compilation
+    (record { 0 = 0 })) (value_of None (values_of ranges)) → row ≡ whole_row encoding before parts
 unfolding whole_row
 whole-is encoding before parts ranges read row is =
     is ∙ (λ i. entry_by encoding (Compilation (record { 0 = 0 })) (λ kind.
@@ -66,15 +56,13 @@ whole-fits encoding id ranges read row is = rw is (λ kind shared.
 -- ---- a unit's row
 
 -- where an input has no index
-pub plain-row : (indexes : Indexes) (whole : IndexEntry) (name : DwarfObject)
-    → indexes.compilations ≡ None → indexes.types ≡ None
-    → unit_row indexes whole name ≡ Ok (record whole { id = name })
+pub plain-row : (indexes : Indexes) (whole : IndexEntry) (name : DwarfObject) → indexes.compilations
+    ≡ None → indexes.types ≡ None → unit_row indexes whole name ≡ Ok (record whole { id = name })
 unfolding unit_row adjusted
-plain-row indexes whole name compilations types =
-    bind-ok _ _ (λ ranges. Ok (entry_by whole.encoding name (value_of None ranges)))
-    (each-read (λ kind. unit_contribution indexes name kind (contribution_to kind whole))
-    (λ kind. contribution_to kind whole) (λ kind. by-bool _ (is_shared kind)
-    (λ e. rw (e, compilations, types) refl) (λ e. rw e refl)) all_kinds)
+plain-row indexes whole name compilations types = bind-ok _ _ (λ ranges.
+    Ok (entry_by whole.encoding name (value_of None ranges))) (each-read (λ kind. unit_contribution
+    indexes name kind (contribution_to kind whole)) (λ kind. contribution_to kind whole) (λ kind.
+    by-bool _ (is_shared kind) (λ e. rw (e, compilations, types) refl) (λ e. rw e refl)) all_kinds)
 
 module _ (indexes : Indexes) (whole : IndexEntry) (name : DwarfObject) where
   abbrev range : SectionKind → Result (Option Contribution) ErrorValue
@@ -99,15 +87,13 @@ module _ (indexes : Indexes) (whole : IndexEntry) (name : DwarfObject) where
       → unit_row indexes whole name
       ≡ Ok (entry_by whole.encoding name (value_of None (values_of ranges)))
   unfolding unit_row ErrorRead
-  row-read ranges read = bind-ok _ (values_of ranges) (λ values.
-      Ok (entry_by whole.encoding name (value_of None values)))
-      (answers-each (λ range. range) range ErrorRead answers (Ok ranges) read
-      ∙ ap Ok (map-id (values_of ranges)))
+  row-read ranges read = bind-ok _ (values_of ranges)
+      (λ values. Ok (entry_by whole.encoding name (value_of None values))) (answers-each
+      (λ range. range) range ErrorRead answers (Ok ranges) read ∙ ap Ok (map-id (values_of ranges)))
 
   pub row-refused : (e : Error) → ReadsEach RangeRead (Err e) → unit_row indexes whole name
       ≡ Err (error_of e)
   unfolding unit_row ErrorRead
-  row-refused e read = bind-err _ (error_of e) (λ values.
-      Ok (entry_by whole.encoding name (value_of None values)))
-      (answers-each (λ range. range) range ErrorRead answers (Err (error_of e))
-      (read.0, read.1, read.2, (e, refl, read.3), read.4))
+  row-refused e read = bind-err _ (error_of e) (λ values. Ok (entry_by whole.encoding name
+      (value_of None values))) (answers-each (λ range. range) range ErrorRead answers
+      (Err (error_of e)) (read.0, read.1, read.2, (e, refl, read.3), read.4))

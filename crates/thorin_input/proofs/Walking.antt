@@ -1,24 +1,21 @@
 -- One walk over the sections of an input: what is known of those so far, with those that are left.
-use Rattle.std.proofs.Common.{◌≡◌, ◌∙◌, ℕ, Bool, true, false, not, eqb, ◌||◌, ◌&&◌, List, [], ◌∷◌}
-use Rattle.std.proofs.Common.{map, Option, Some, None, Result, Ok, Err, refl, sym, ap, find}
-use Rattle.std.proofs.Common.{arith, is_some, option_and_then}
-use Rattle.std.specs.Result.{result_err}
-use Rattle.std.specs.List.{list_any}
-use Rattle.std.proofs.Math.Bool.{or_assoc, or-false}
-use Rattle.std.proofs.lemmas.Bool.{false≢true}
-use Rattle.dwp_base.specs.declared.endian.Endianness.{Endianness}
 use Rattle.dwp_base.specs.declared.section.SectionKind.TheVariants as kinds
-use Rattle.dwp_base.specs.Sections.{name_of, kind_named, all_kinds}
-use Rattle.dwp_elf_read.specs.Elf.{Elf, SectionMeaning, SHT_NOBITS, has_name, is_named}
+use Rattle.thorin_input.specs.View as view
+use Rattle.std.proofs.Common.{Bool, eqb, false, List, not, true, [], ℕ, ◌&&◌, ◌||◌, ◌∙◌, ◌∷◌, ◌≡◌}
+use Rattle.std.proofs.Common.{arith, is_some, None, Ok, Option, option_and_then, refl, Result, Some}
+use Rattle.std.proofs.Common.{ap, Err, find, map, sym}
+use Rattle.std.proofs.lemmas.Bool.{false≢true}
+use Rattle.std.specs.{List.list_any, Result.result_err}
+use Rattle.std.proofs.Math.Bool.{or-false, or_assoc}
+use Rattle.dwp_base.specs.declared.endian.Endianness.{Endianness}
+use Rattle.dwp_base.specs.Sections.{all_kinds, kind_named, name_of}
+use Rattle.dwp_elf_read.specs.Elf.{Elf, has_name, is_named, SectionMeaning, SHT_NOBITS}
 use Rattle.dwp_elf_read.specs.View.{Placed, placed_sections}
 use Rattle.dwp_index.specs.Contents.{is_of_kind}
-use Rattle.thorin_errors.specs.Errors.{ErrorValue, error_of}
+use Rattle.thorin_errors.specs.{declared.error.Error.Error, Errors.error_of, Errors.ErrorValue}
 use Rattle.thorin_errors.specs.Answers.{Gives, MemoryAside}
-use Rattle.thorin_errors.specs.declared.error.Error.{Error}
 use Rattle.thorin_input.specs.Encodings.{is_index, is_plain}
-use Rattle.thorin_input.specs.Used.{Used, used_kind, has_kind, with_used}
-use Rattle.thorin_input.specs.Used.{used_from, input_file_of}
-use Rattle.thorin_input.specs.View as view
+use Rattle.thorin_input.specs.Used.{has_kind, input_file_of, Used, used_from, used_kind, with_used}
 use Rattle.thorin_input.specs.declared.object.InputObject.{InputObject}
 use Rattle.thorin_input.specs.declared.object.UsedSection.{UsedSection}
 use Rattle.thorin_input.specs.declared.walk.UsedSections.{UsedSections}
@@ -76,9 +73,8 @@ map-placed e [] = refl
 map-placed e (s ∷ ss) = rw (map-placed e ss) refl
 
 -- a test of a section so far, or of one of those that are left
-pub any-step : (test : SectionMeaning → Bool) (b : Bool) (l rest : List Placed)
-    (p : Placed) → l ≡ p ∷ rest
-    → ((b || test p.section) || list_any test (those rest)) ≡ (b || list_any test (those l))
+pub any-step : (test : SectionMeaning → Bool) (b : Bool) (l rest : List Placed) (p : Placed) → l ≡ p
+    ∷ rest → ((b || test p.section) || list_any test (those rest)) ≡ (b || list_any test (those l))
 any-step test b l rest p h = rw h (or_assoc b (test p.section) (list_any test (those rest)))
 
 pub any-end : (test : SectionMeaning → Bool) (b : Bool) (l : List Placed)
@@ -97,10 +93,9 @@ GoesOn (Some e) t rest all = MemoryAside e (all ≡ Err (error_of e))
 
 -- one more section, where none so far has an error
 pub used-next : (fault : Option Error) (t n : UsedSections) (answer : Result (Unit {0}) Error)
-    (l rest : List Placed) (p : Placed) (all : Result (List Used) ErrorValue)
-    → is_some fault ≡ false → l ≡ p ∷ rest
-    → Gives (λ _. used_in n) answer (with_used (used_in t) p.section (used_kind p.section))
-    → GoesOn fault t (those l) all → GoesOn (result_err answer) n (those rest) all
+    (l rest : List Placed) (p : Placed) (all : Result (List Used) ErrorValue) → is_some fault ≡
+    false → l ≡ p ∷ rest → Gives (λ _. used_in n) answer (with_used (used_in t) p.section (used_kind
+    p.section)) → GoesOn fault t (those l) all → GoesOn (result_err answer) n (those rest) all
 unfolding used_from
 used-next None t n (Ok _) l rest p all none h next goes = rw (h, next) at goes
 used-next None t n (Err e) l rest p all none h next goes = λ aside.
@@ -115,12 +110,11 @@ used-kept None t rest left all some goes = absurd (false≢true some)
 used-kept (Some e) t rest left all some goes = goes
 
 -- what the whole walk gives
-pub walk-gives : (t : UsedSections) (order : Endianness) (strings abbreviations : Bool)
-    (l : List Placed) (file : Elf) → order ≡ file.order
-    → strings ≡ list_any (is_named (name_of kinds.Str)) file.sections
+pub walk-gives : (t : UsedSections)
+    (order : Endianness) (strings abbreviations : Bool) (l : List Placed) (file : Elf)
+    → order ≡ file.order → strings ≡ list_any (is_named (name_of kinds.Str)) file.sections
     → abbreviations ≡ list_any (is_named (name_of kinds.Abbrev)) file.sections → l ≡ []
-    → GoesOn None t (those l) (used_from [] file.sections)
-    → input_file_of file ≡ Ok (record {
+    → GoesOn None t (those l) (used_from [] file.sections) → input_file_of file ≡ Ok (record {
       order = order;
       sections = used_in t;
       has_strings = strings;
@@ -138,8 +132,7 @@ walk-gives t order strings abbreviations l file ho hs ha h goes =
       found-any (is_named (name_of kinds.Abbrev)) file.sections,
     ) refl
 
-pub walk-fails : (e : Error) (file : Elf)
-    → MemoryAside e (used_from [] file.sections ≡ Err (error_of e))
-    → Gives view.object (Err e) (input_file_of file)
+pub walk-fails : (e : Error) (file : Elf) → MemoryAside e
+    (used_from [] file.sections ≡ Err (error_of e)) → Gives view.object (Err e) (input_file_of file)
 unfolding input_file_of
 walk-fails e file used = λ aside. rw (used aside) refl

@@ -1,10 +1,9 @@
 //! Which sections of an input are used, what they hold, and the encoding of its units.
 
-ghost use Rattle.std.specs.Prelude.{◌≡◌, ◌&&◌, ◌||◌, not, find, option_map, Some, None};
-ghost use Rattle.std.specs.Prelude.{if◌then◌else◌};
-ghost use Rattle.std.specs.List.{list_any};
-ghost use Rattle.dwp_base.specs.Sections.{same_kind};
 ghost use Rattle.dwp_base.specs.declared.section.SectionKind.TheVariants as kinds;
+ghost use Rattle.std.specs.Prelude.{find, not, option_map, Some, if◌then◌else◌, ◌&&◌, ◌||◌, ◌≡◌};
+ghost use Rattle.std.specs.{List.list_any, Prelude.None};
+ghost use Rattle.dwp_base.specs.Sections.{same_kind};
 ghost use Rattle.dwp_elf_read.specs.View.{elf};
 ghost use Rattle.thorin_errors.specs.Answers.{Gives};
 ghost use Rattle.thorin_input.specs.Encodings as encodings;
@@ -44,10 +43,8 @@ pub struct InputObject<'a> {
         || same_kind s.kind kinds.TuIndex) sections.items) },
 }
 
-/// The ELF file that an input is.
-///
-/// # Errors
-/// `ParseFileKind`, `InvalidInputKind` for an archive, `ParseObjectFile`.
+/// The ELF file that an input is. Errors: `ParseFileKind`, `InvalidInputKind` for an archive,
+/// `ParseObjectFile`.
 #[tactic(auto, unfolding(crate::specs::Used::opened))]
 pub fn opened(bytes: &[u8]) -> Result<ElfFile<'_>, Error>
     ensures { Gives elf result (spec.opened bytes.now) }
@@ -80,10 +77,8 @@ impl<'a> InputObject<'a> {
         self.find(kind).map(|section| section.bytes).unwrap_or(&[])
     }
 
-    /// The encoding of the input: that of its first unit.
-    ///
-    /// # Errors
-    /// `NoCompilationUnits` where there is none, `ParseUnitHeader` where its header can't be read.
+    /// The encoding of the input: that of its first unit. Errors: `NoCompilationUnits` where there
+    /// is none, `ParseUnitHeader` where its header can't be read.
     #[tactic(auto, unfolding(crate::specs::Encodings::encoding_of))]
     pub fn encoding(&self) -> Result<Encoding, Error>
         ensures { Gives (λ encoding. encoding) result (encodings.encoding_of (object self.now)) }

@@ -1,17 +1,15 @@
 //! What an input adds to the sections of a package beside its units: contents that are copied, and
 //! string offsets that are rewritten.
 
-ghost use Rattle.std.specs.Prelude.{◌≡◌, length, take, map, OnOk, IfErr};
-ghost use Rattle.dwp_base.specs.declared.section.SectionKind.TheVariants.{Str};
-ghost use Rattle.dwp_elf.specs.FileText.{Object};
-ghost use Rattle.dwp_elf.specs.Growing.{IsGrown, with_bytes};
-ghost use Rattle.thorin_errors.specs.Answers.{Gives};
-ghost use Rattle.thorin_strings.specs.Known.{AreKnown};
 ghost use Rattle.thorin_input.specs.Format as formats;
 ghost use Rattle.thorin_input.specs.InputStrings as input_strings;
 ghost use Rattle.thorin_input.specs.Parts as spec;
-ghost use Rattle.thorin_input.specs.Parts.{with_parts};
-ghost use Rattle.thorin_input.specs.Used.{first};
+ghost use Rattle.std.specs.Prelude.{IfErr, length, map, OnOk, take, ◌≡◌};
+ghost use Rattle.dwp_base.specs.declared.section.SectionKind.TheVariants.{Str};
+ghost use Rattle.dwp_elf.specs.{FileText.Object, Growing.IsGrown, Growing.with_bytes};
+ghost use Rattle.thorin_errors.specs.Answers.{Gives};
+ghost use Rattle.thorin_strings.specs.Known.{AreKnown};
+ghost use Rattle.thorin_input.specs.{Parts.with_parts, Used.first};
 ghost use Rattle.thorin_input.specs.View as view;
 
 use crate::object::UsedSection;
@@ -91,7 +89,6 @@ pub(crate) fn is_shared(kind: SectionKind) -> bool
     is_copied(kind) || kind.is(SectionKind::StrOffsets)
 }
 
-/// Whether a part of a kind is there.
 fn has_part(parts: &[Part<'_>], kind: SectionKind) -> bool
     ensures { result ≡ spec.has_part kind (map view.part parts.now) }
 {
@@ -151,10 +148,8 @@ fn add_part<'a>(
     requires named { named.now ≡ first Str (view.source source.now).object.sections }
     requires known { AreKnown named.now strings.old gathering.old.repeats }
     ensures meaning { Gives (λ _. (map view.part gathering.new.parts.items, strings.new)) result
-        (spec.with_part (view.source source.now) (
-          map view.part gathering.old.parts.items,
-          strings.old,
-        ) (view.used section.entry)) }
+        (spec.with_part (view.source source.now)
+        (map view.part gathering.old.parts.items, strings.old) (view.used section.entry)) }
     ensures kept { take (length strings.old) strings.new ≡ strings.old }
     ensures known { AreKnown named.now strings.new gathering.new.repeats }
 {
@@ -190,12 +185,9 @@ fn add_part<'a>(
 }
 
 /// What an input adds to sections beside its units, in file order, its string offsets rewritten
-/// over the strings of the package.
-///
-/// # Errors
-/// The first error of its sections in file order: `RepeatedSection`, `SectionOutsideFormat`,
-/// `MissingRequiredSection`, and what rewriting string offsets answers; `Memory`. An `Err` may
-/// leave strings behind those before.
+/// over the strings of the package. Errors: the first error of its sections in file order:
+/// `RepeatedSection`, `SectionOutsideFormat`, `MissingRequiredSection`, and what rewriting string
+/// offsets answers; `Memory`. An `Err` may leave strings behind those before.
 #[tactic(auto, unfolding(crate::specs::Parts::with_each_part))]
 pub fn parts_of<'a>(
     alloc: Global,
@@ -235,10 +227,8 @@ fn put_part(file: &mut WritableObject, part: Part<'_>) -> Result<(), Error>
     Ok(())
 }
 
-/// Adds the parts to the contents of a package, in order.
-///
-/// # Errors
-/// `Memory` alone, which may leave bytes behind those before.
+/// Adds the parts to the contents of a package, in order. Errors: `Memory` alone, which may leave
+/// bytes behind those before.
 #[tactic(auto, unfolding(crate::specs::Parts::with_parts))]
 pub fn put_parts(file: &mut WritableObject, parts: Vec<Part<'_>>) -> Result<(), Error>
     ensures contents { OnOk result (file.new ≡ record file.old {

@@ -1,21 +1,17 @@
 //! The rows that units get: each unit's contribution to each section of its input, tested, and put
 //! where the section comes to lie in the package.
 
-ghost use Rattle.std.specs.Prelude.{◌≡◌, take, drop, map, None, IfOk, IfErr};
-ghost use Rattle.std.specs.Prelude.{if◌then◌else◌};
+ghost use Rattle.thorin_input.specs.Rows as spec;
+ghost use Rattle.std.specs.Prelude.{drop, IfErr, IfOk, map, None, take, if◌then◌else◌, ◌≡◌};
 ghost use Rattle.dwp_base.specs.declared.section.SectionKind.TheVariants.{Abbrev};
 ghost use Rattle.dwp_units.specs.Units.{unit_of};
 ghost use Rattle.dwp_elf.specs.Growing.{contribution_put};
 ghost use Rattle.dwp_table.specs.Objects.{identifier_of};
 ghost use Rattle.thorin_errors.specs.Answers.{Gives};
-ghost use Rattle.thorin_input.specs.Adjusting.{GivesExactly};
+ghost use Rattle.thorin_input.specs.{Adjusting.GivesExactly, Indexes.index_for, Parts.joined_parts};
+ghost use Rattle.thorin_input.specs.{Format.is_shared, Indexes.looked_up, Used.first};
 ghost use Rattle.thorin_index.specs.Entries.{contribution_to};
-ghost use Rattle.thorin_input.specs.Format.{is_shared};
-ghost use Rattle.thorin_input.specs.Indexes.{index_for, looked_up};
-ghost use Rattle.thorin_input.specs.Parts.{joined_parts};
-ghost use Rattle.thorin_input.specs.Rows as spec;
 ghost use Rattle.thorin_input.specs.Rows.{EndFits, EndsFit};
-ghost use Rattle.thorin_input.specs.Used.{first};
 ghost use Rattle.thorin_input.specs.View as view;
 
 use crate::parts::{Part, is_shared};
@@ -36,8 +32,6 @@ pub struct Whole {
     /// The row; its identifier says nothing, and it has no range of info or types.
     pub row: IndexEntry,
     ghost fits: { EndsFit row },
-    ghost no_info: { row.debug_info ≡ None },
-    ghost no_types: { row.debug_types ≡ None },
 }
 
 /// Where the whole of a section that units share comes to lie once parts are put; None for any
@@ -47,9 +41,8 @@ fn whole_contribution(
     parts: &[Part<'_>],
     kind: SectionKind,
 ) -> Result<Option<Contribution>, Error>
-    ensures range { IfOk result (λ range. range ≡ (if is_shared kind
-        then contribution_put kind (joined_parts kind (map view.part parts.now)) file.now.contents
-        else None)) }
+    ensures range { IfOk result (λ range. range ≡ (if is_shared kind then contribution_put kind
+        (joined_parts kind (map view.part parts.now)) file.now.contents else None)) }
     ensures fits { IfOk result EndFits }
     ensures refused { IfErr result (λ e. e ≡ Error.Memory) }
 {
@@ -77,10 +70,7 @@ fn whole_contribution(
 
 impl Whole {
     /// Where the whole of each section comes to lie once parts are put behind the contents of a
-    /// file.
-    ///
-    /// # Errors
-    /// `Memory` alone.
+    /// file. Errors: `Memory` alone.
     pub fn of(encoding: Encoding, file: &WritableObject, parts: &[Part<'_>]) -> Result<Whole, Error>
         ensures row { IfOk result (λ whole.
             whole.row ≡ spec.whole_row encoding file.now.contents (map view.part parts.now)) }
@@ -114,11 +104,9 @@ fn unit_contribution(
     ContributionAdjustor::new(compilations, types, kind).adjust_row(name, number, all)
 }
 
-/// The row of a unit but for its own bytes: its contribution to each section that units share.
-/// `number` is what looking the unit up gave (`test_row`).
-///
-/// # Errors
-/// Those of `ContributionAdjustor::adjust`, of the sections in the order of a row.
+/// The row of a unit but for its own bytes: its contribution to each section that units share, or
+/// the first error of `ContributionAdjustor::adjust` in the order of a row. `number` is what
+/// looking the unit up gave (`test_row`).
 pub fn unit_row(
     indexes: &Indexes<'_>,
     whole: &Whole,
@@ -159,17 +147,13 @@ fn own_contribution<'a>(header: &UnitHeader<SliceReader<'a>>) -> Contribution
 /// The rows by place of both indexes of an input, in a section of a kind.
 #[derive(Drop)]
 pub struct PlacedRows<'i, 'a> {
-    /// Those of the compilation index.
     pub compilations: RowPlaces<'i, 'a>,
-    /// Those of the type index.
     pub types: RowPlaces<'i, 'a>,
 }
 
-/// The row number that looking a unit up gives, in a package that of the unit's row by place; none
-/// in an input without an index.
-///
-/// # Errors
-/// `UnitNotInIndex` where, in a package, the two rows are not the same or one is not there.
+/// The row number that looking a unit up gives, in a package that of the unit's row by place:
+/// `UnitNotInIndex` where these aren't the same or one isn't there. None in an input without an
+/// index.
 #[tactic(auto, unfolding(crate::specs::Rows::row_test))]
 pub fn test_row<'a>(
     indexes: &Indexes<'_>,
@@ -180,10 +164,8 @@ pub fn test_row<'a>(
 ) -> Result<Option<u32>, Error>
     requires compilations { placed.now.compilations
         ≡ record { index = (view.indexes indexes.now).compilations; section = kind } }
-    requires types { placed.now.types ≡ record {
-      index = (view.indexes indexes.now).types;
-      section = kind;
-    } }
+    requires types { placed.now.types ≡
+        record { index = (view.indexes indexes.now).types; section = kind } }
     ensures meaning { Gives (λ _. tt) result (spec.row_test (view.indexes indexes.now) kind name
         (unit_of ⟦<SliceReader<'a> as Reader>⟧.input header.now)) }
     ensures number { IfOk result (λ number.
@@ -206,8 +188,6 @@ pub fn test_row<'a>(
 
 /// Where the part of the first section of abbreviations begins and ends that a unit's identity is
 /// read with: all of it, or for a compile unit of a package the range of its row by place.
-///
-/// # Errors
 /// `UnitNotInIndex` where there is no such row, `RowNotInIndex` where its number is past the rows,
 /// `BadContribution` where they are outside the section.
 #[tactic(auto, using(crate::proofs::Ends::part_of_range), unfolding(crate::specs::Rows::abbreviations_for, crate::specs::Rows::numbered_abbreviations, crate::specs::Rows::row_abbreviations))]
@@ -221,9 +201,8 @@ pub fn abbreviations_for<'a>(
     requires placed { placed.now.compilations
         ≡ record { index = (view.source source.now).indexes.compilations; section = kind } }
     requires bytes { bytes.now ≡ first Abbrev (view.source source.now).object.sections }
-    ensures { Gives (λ range. drop range.0 (take range.1 bytes.now)) result
-        (spec.abbreviations_for (view.source source.now) kind
-        (unit_of ⟦<SliceReader<'a> as Reader>⟧.input header.now)) }
+    ensures { Gives (λ range. drop range.0 (take range.1 bytes.now)) result (spec.abbreviations_for
+        (view.source source.now) kind (unit_of ⟦<SliceReader<'a> as Reader>⟧.input header.now)) }
 {
     if source.indexes.is_package() && matches!(header.unit_type(), UnitType::Compilation) {
         let number = placed.compilations.find(own_contribution(header));

@@ -73,10 +73,8 @@ fn test_version(
 }
 
 impl<'a> Indexes<'a> {
-    /// The indexes of an input.
-    ///
-    /// # Errors
-    /// `ParseIndex` of each, then `IncompatibleIndexVersion` of each, the compilation index first.
+    /// The indexes of an input. Errors: `ParseIndex` of each, then `IncompatibleIndexVersion` of
+    /// each, the compilation index first.
     #[tactic(auto, unfolding(crate::specs::Indexes::indexes_of))]
     pub fn read(object: &InputObject<'a>, encoding: Encoding) -> Result<Indexes<'a>, Error>
         ensures { Gives view.indexes result (spec.indexes_of (view.object object.now) encoding) }
@@ -155,9 +153,7 @@ impl<'i, 'a> ContributionAdjustor<'i, 'a> {
     /// section lies there; it is None where the input lacks the section. Without an index the
     /// answer is `whole` itself. Else it is the range of the unit's row, moved by the place where
     /// `whole` begins. It is None where the range has no bytes, and where the unit's index has no
-    /// column for the section, unless that is an error (`SectionNotInRow`).
-    ///
-    /// # Errors
+    /// column for the section, unless that is an error (`SectionNotInRow`). Errors:
     /// `UnitNotInIndex` where the unit's index is missing, or doesn't name the unit;
     /// `RowNotInIndex` where a row number is past the rows; `BadContribution` where a range lies
     /// outside the section, or the input lacks the section; `SectionNotInRow` where the section is
@@ -180,10 +176,7 @@ impl<'i, 'a> ContributionAdjustor<'i, 'a> {
 
     /// What `adjust` answers, of a unit that was looked up before: `number` is that of its row in
     /// the index of its kind, and None where that index is missing, or doesn't name the unit. So a
-    /// unit is looked up once for all sections of an input.
-    ///
-    /// # Errors
-    /// Those of `adjust`.
+    /// unit is looked up once for all sections of an input. Errors: those of `adjust`.
     #[tactic(auto, unfolding(crate::specs::Adjusting::adjusted, crate::specs::Adjusting::row_of, crate::specs::Adjusting::moved))]
     pub fn adjust_row(
         &self,

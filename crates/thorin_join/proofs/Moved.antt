@@ -3,25 +3,23 @@ use Rattle.thorin_join.proofs.Terms
 use Terms.{after, ap, arith, Bool, cond, drop, drop-append-le, Encoding, Endianness, entry_identity}
 use Terms.{Err, first_identifier, Format, Header, identity, Input, is_address_size, is_some, length}
 use Terms.{length-append, List, nat_tests, number_front, offset_size, Ok, ReadError, refl, Result}
-use Terms.{root_identity, suc, sym, take, take-append-drop, take-append-le, true, type_signature}
-use Terms.{unit_takes, UnitSection, zero, [], ℕ, ◌++◌, ◌+◌, ◌-◌, ◌>>=◌, ◌∙◌, ◌∷◌, ◌≡◌, ◌≤◌, ◌⊎◌}
+use Terms.{root_identity, suc, sym, take-append-drop, take-append-le, true, type_signature}
+use Terms.{unit_takes, UnitSection, zero, [], ℕ, ◌++◌, ◌+◌, ◌-◌, ◌>>=◌, ◌∙◌, ◌∷◌, ◌≡◌, ◌⊎◌}
+use Rattle.dwp_units.proofs.Readings.{bind-bind, bind_alike, reads_byte, reads_sleb, reads_uleb}
+use Rattle.dwp_units.proofs.Readings.{Answer, by-result, more, Reads}
+use Rattle.dwp_dwarf.specs.Forms.{block_length_at, named_form_at, named_within, past_value, text_at}
+use Rattle.dwp_units.specs.Units.{address_size_at, initial_length_at, older_type_at, unit_code_at}
+use Rattle.dwp_units.specs.Units.{header_at, newer_at, older_at, type_at, unit_at, unit_type_at}
+use Rattle.std.proofs.Common.{add_assoc, length-take-le, ℤ}
 use Rattle.dwp_bytes.specs.Input.{byte_at, number_at, offset_at, relocated_at, skip_at, split_at}
 use Rattle.dwp_bytes.specs.Leb.{sleb_at, uleb_at}
-use Rattle.dwp_units.proofs.Readings.{Answer, bind-bind, bind_alike, by-result, more, Reads}
-use Rattle.dwp_units.proofs.Readings.{reads_byte, reads_sleb, reads_uleb}
 use Rattle.dwp_bytes.specs.declared.error.ReadError.TheVariants.{AddressSize, UnknownForm}
-use Rattle.dwp_dwarf.specs.Abbreviations.{Specification}
+use Rattle.dwp_dwarf.specs.{Abbreviations.Specification, Forms.layout_of, Forms.value_at}
 use Rattle.dwp_dwarf.specs.Entries.{attribute_at, attributes, DebugAttribute, number_of}
 use Rattle.dwp_units.specs.AbbreviationCodes.{code_at, root_code_at}
-use Rattle.dwp_dwarf.specs.Forms.{block_length_at, layout_of, named_form_at, named_within}
-use Rattle.dwp_dwarf.specs.Forms.{past_value, text_at, value_at}
-use Rattle.std.specs.Prelude.{is_ok}
+use Rattle.std.specs.{Option.ok_or, Prelude.is_ok}
 use Rattle.dwp_bytes.specs.declared.encoding.Format.TheVariants.{Dwarf32, Dwarf64}
-use Rattle.dwp_units.specs.Units.{address_size_at, header_at, initial_length_at, newer_at, older_at}
-use Rattle.dwp_units.specs.Units.{older_type_at, type_at, unit_at, unit_code_at, unit_type_at}
 use Rattle.dwp_units.specs.declared.unit.UnitSection.TheVariants.{Types}
-use Rattle.std.proofs.Common.{add_assoc, length-take-le, ℤ}
-use Rattle.std.specs.Option.{ok_or}
 use Rattle.dwp_units.specs.declared.unit.UnitType.{UnitType}
 pub use Rattle.dwp_index.proofs.TwoPlaces.{plain}
 
@@ -65,8 +63,7 @@ module _ (d : ℕ) (by : (ℕ → ℕ → ℕ) → ℕ → ℕ → ℕ) where
   -- what is read alike anywhere
   reads-there : {n : ℕ} {A : Type 0} {read : Input → Answer A} → Reads n A read → Shifts A read
   unfolding there
-  reads-there {read = read} r i = by-result _ (read i)
-      (λ x is. let t = (r.reads i).gives x is in
+  reads-there {read = read} r i = by-result _ (read i) (λ x is. let t = (r.reads i).gives x is in
       rw (is, t.goes.is, ← add_assoc) (rw take-append-drop at
       (t.anyway (there i) (drop t.goes.taken i.bytes))))
       (λ e is. rw is (r.fails i (there i) refl e is))
@@ -135,8 +132,7 @@ module _ (d : ℕ) where
       (attributes encoding specs (away i)) ≡ first_identifier (attributes encoding specs i)
   unfolding number_of
   first-same encoding [] i = refl
-  first-same encoding (s ∷ ss) i =
-      grind (arith, readings, attribute-shifts, first-same encoding ss)
+  first-same encoding (s ∷ ss) i = grind (arith, readings, attribute-shifts, first-same encoding ss)
 
   -- the identity in a root entry
   root-same : (section : Input) (unit other : Header) → IsShifted d unit other
@@ -200,8 +196,7 @@ module _ (d : ℕ) where
   unit-shifts : (place : UnitSection) (i : Input) → unit_at place (there d by i)
       ≡ moved (λ x. (unit_there x.0, there d by x.1)) (unit_at place i)
   unfolding unit_at header_at
-  unit-shifts place i =
-      grind (arith, length-shifts, readings, there-is, newer-shifts, older-shifts)
+  unit-shifts place i = grind (arith, length-shifts, readings, there-is, newer-shifts, older-shifts)
 
 -- with more behind them
 module _ (rest : List ℕ) where
@@ -239,13 +234,8 @@ pub record Moved (order : Endianness) (place : UnitSection) (own more : List ℕ
   pub unit : Header
   pub read : unit_at place (plain order d (own ++ more))
       ≡ Ok (unit, after (length u.whole.bytes) (plain order d (own ++ more)))
-  pub encoding : u.encoding ≡ unit.encoding
-  pub type : u.unit_type ≡ unit.unit_type
   pub whole : unit.whole ≡ plain order d u.whole.bytes
-  pub fits : length u.whole.bytes ≤ length own
-  pub front : take (length u.whole.bytes) own ≡ u.whole.bytes
-  pub offset : unit.abbrev_offset ≡ u.abbrev_offset
-  pub entries : unit.entries ≡ shifted d u.entries
+  pub shifted : IsShifted d u unit
 
 -- a unit of some bytes alone is read alike at another place, with more behind them
 pub unit-moves : (order : Endianness) (place : UnitSection) (own more : List ℕ) (d : ℕ) (u : Header)
@@ -262,13 +252,8 @@ unit-moves order place own rest d u r h =
     record {
       unit = unit_there d u;
       read = grind (arith, read, t.goes.is, size, drop-append-le k own rest t.goes.enough);
-      encoding = refl;
-      type = refl;
       whole = grind (arith, t.whole);
-      fits = rw size t.goes.enough;
-      front = grind (arith, size, t.whole);
-      offset = refl;
-      entries = grind (arith, t.inside.is, t.whole);
+      shifted = grind (arith, t.inside.is, t.whole);
     }
 
 -- the same of both sections: units of version 5

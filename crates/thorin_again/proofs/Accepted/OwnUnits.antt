@@ -14,28 +14,25 @@ use Terms.{range-none, range_in, ReadError, refl, Result, row_of, row_test, rows
 use Terms.{same_name, same_name-sym, same_place, section, SectionKind, slice_get, slice_get_within}
 use Terms.{Some, sound-inside, Source, StrOffsets, subst, sym, true, unit_section, units}
 use Terms.{UnitSection, Used, written_used, [], ℕ, ◌++◌, ◌+◌, ◌<◌, ◌>>=◌, ◌∙◌, ◌∷◌, ◌≡◌, ◌≤◌, ◌⊎◌}
-use Rattle.thorin_join.proofs.Rows.OfUnits.{adjustor, own-index, some-index, whole-part}
-use Rattle.thorin_join.proofs.Files.Finished.{finished-grows}
 use Rattle.std.proofs.Common.{Bool, eqb, is_some, le-leb, ◌||◌, ◌≢◌}
+use Rattle.thorin_input.specs.Adjusting.{has_column_for, moved_range, other_index, without_column}
+use Rattle.thorin_again.proofs.Opened.Sections.{and-then, rest-differ, section_of, then-fares}
+use Rattle.thorin_again.proofs.Opened.Sections.{answered, behind, Fares, front, Unless}
+use Rattle.thorin_input.specs.NewUnits.{is_met, with_each_section, with_section_at, with_section_in}
+use Rattle.thorin_input.specs.NewUnits.{kept_bytes, SeenSections, with_each_read, with_section}
+use Rattle.thorin_input.specs.NewUnits.{none_met, once_test, with_first, with_read, with_unit}
+use Rattle.thorin_again.proofs.Meant.RowByRow.{IsUnitOf, of-section, read-alone, row-there}
+use Rattle.thorin_again.proofs.Meant.RowByRow.{place-eq, place-is}
+use Rattle.thorin_again.proofs.Meant.OneRow.{found-range, found-row, named-again, parts, row-tested}
+use Rattle.thorin_join.proofs.Rows.OfUnits.{adjustor, own-index, some-index, whole-part}
+use Rattle.thorin_join.proofs.{Files.Finished.finished-grows, Parts.Added.copied-or-offsets}
 use Rattle.dwp_base.specs.Reading.{read_each}
-use Rattle.thorin_input.specs.Adjusting.{Adjustor, has_column_for, moved_range, other_index}
-use Rattle.thorin_input.specs.Adjusting.{own_index, without_column}
+use Rattle.thorin_input.specs.{Adjusting.Adjustor, Adjusting.own_index, NewUnits.with_met}
 use Rattle.thorin_input.specs.Rows.{adjusted_contribution, unit_contribution, unit_row}
 use Rattle.thorin_again.proofs.Offsets.RewrittenAgain.{at-row, by-passing, used-chosen}
-use Rattle.thorin_again.proofs.Opened.Sections.{and-then, answered, behind, Fares, front}
-use Rattle.thorin_again.proofs.Opened.Sections.{rest-differ, section_of, then-fares, Unless}
-use Rattle.thorin_input.specs.NewUnits.{is_met, kept_bytes, none_met, once_test, SeenSections}
-use Rattle.thorin_input.specs.NewUnits.{with_each_read, with_each_section, with_first, with_met}
-use Rattle.thorin_input.specs.NewUnits.{with_read, with_section, with_section_at, with_section_in}
-use Rattle.thorin_input.specs.NewUnits.{with_unit}
-use Rattle.thorin_again.proofs.Meant.RowByRow.{IsUnitOf, of-section, place-eq, place-is, read-alone}
-use Rattle.thorin_again.proofs.Meant.RowByRow.{row-there}
 use Rattle.thorin_again.proofs.Opened.Indexes.{finished-shared, IsReadOf, lie-kept}
-use Rattle.thorin_again.proofs.Meant.OneRow.{found-range, found-row, named-again, parts, row-lies}
-use Rattle.thorin_again.proofs.Meant.OneRow.{row-tested}
-use Rattle.thorin_again.proofs.Kept.Names.{keep-names}
+use Rattle.thorin_again.proofs.{Kept.Names.keep-names, Meant.OneRow.row-lies}
 use Rattle.thorin_join.proofs.Parts.ReadAlike.{parts-first, rows-read}
-use Rattle.thorin_join.proofs.Parts.Added.{copied-or-offsets}
 use Rattle.std.proofs.Math.Bool.{and-false}
 use Rattle.thorin_errors.specs.Errors.{DuplicateUnit}
 
@@ -92,9 +89,9 @@ module _ {encoding : Encoding} {file : File} {indexes : Indexes} {made : InProgr
       let i = inside.inside kind r there in (omega (arith, i, long), inside.some kind r there)) in
       let used = λ (some : 0 < length x). used-chosen kind made.rows (plain.named kind shared
       (rw (← finished-shared made file is.finished kind shared) (omega (arith, some, long)))) in
-      let compilations = column-there kind true a.compilation is.again.compilations in
-      let types = column-there kind false a.types is.again.types in
-      rw (some-index indexes.compilations indexes.types is.again.packed, own)
+      let compilations = column-there kind true a.compilation is.compilations in
+      let types = column-there kind false a.types is.types in
+      rw (some-index indexes.compilations indexes.types is.packed, own)
       (by-bool _ (has_column_for kind (own_index a row.id)) (λ mine. rw mine moved)
       (λ none. by-bool _ (has_column_for kind (other_index a row.id))
       (λ others. rw (none, others) tt) (λ no. rw (none, no) (none-fine kind x before (λ some.
@@ -170,8 +167,7 @@ module _ (Fresh : Type 0) (E : ErrorValue → Type 0)
 
   -- in a package without units there is one more then
   abbrev Added : DwarfObject → New → New → Type 0
-  Added name new next = Fresh → (unit : NewUnit)
-      × (next.units ≡ new.units ++ (name, unit) ∷ [])
+  Added name new next = Fresh → (unit : NewUnit) × (next.units ≡ new.units ++ (name, unit) ∷ [])
 
   -- and the names of rows in sections that weren't met are free
   abbrev Open : SeenSections → New → Type 0
@@ -217,13 +213,12 @@ module _ (Fresh : Type 0) (E : ErrorValue → Type 0)
         (identity-shifted _ u.offset u.alone h u.shifted ∙ alone.1)) in
         let parts_long = copied-or-offsets
         (λ k. length (joined_parts k parts_taken) ≡ length (content_of k file.contents))
-        (λ k copied. ap length (parts-first source is.again.packed before.strings parts_taken after
-        parts_are k copied ∙ is.again.held k))
-        ((rows-read source is.again.packed before.strings parts_taken after table
-        parts_are).size ∙ ap length (is.again.held StrOffsets)) in
+        (λ k copied. ap length (parts-first source is.packed before.strings parts_taken after
+        parts_are k copied ∙ is.held k))
+        ((rows-read source is.packed before.strings parts_taken after table
+        parts_are).size ∙ ap length (is.held StrOffsets)) in
         let given = row-given is plain u add.whole (λ k. joined_parts k parts_taken)
-        before.file.contents parts_long
-        (whole-part encoding before.file.contents parts_taken) in
+        before.file.contents parts_long (whole-part encoding before.file.contents parts_taken) in
         let free = λ (f : Fresh). left f place_at r at (ap (λ p. is_met p met) (sym (place-is u))
         ∙ unmet) (λ here. omega (arith, long)) in
         then-fares E (Added r.id new) _ (with_read add from new (Ok h))
@@ -242,8 +237,7 @@ module _ (Fresh : Type 0) (E : ErrorValue → Type 0)
     unfolding with_each_read
     section-taken new opened = subst (λ l. Fares E (Open (with_met place met))
         (with_each_read add from new (units place (section file.order l)))) (sym bytes)
-        (of-section file.order file.contents place made.rows TakesRows
-        (λ new left f n row at free.
+        (of-section file.order file.contents place made.rows TakesRows (λ new left f n row at free.
         grind (arith, left f n row at, met-with place (place_of row.id row.debug_types) met))
         (λ r rs reads not_here later new left. later new (λ f n row at to_come last.
         left f n row at to_come (λ here. omega (arith, last here))))

@@ -11,31 +11,28 @@ use Terms.{list_any-append, list_any_none, lookup, Meaning, Members, nat_tests, 
 use Terms.{new_units, None, Ok, Option, own_encoding, own_source, package_or_new, Parts, parts_of}
 use Terms.{refl, rewritten, same_name, same_name-self, same_name-true, SectionKind, Some, subst}
 use Terms.{sym, true, units_begun, units_in, units_of, with_source, written_elf, written_object, []}
-use Terms.{ℕ, ◌++◌, ◌<◌, ◌∙◌, ◌∷◌, ◌≡◌}
-use Rattle.thorin_again.proofs.Lists.{answers-whole, AreEncoded, Finds, first-of, input-order}
-use Rattle.thorin_again.proofs.Lists.{meant_or, own-encoded, there-back}
+use Terms.{IsSound, ℕ, ◌++◌, ◌<◌, ◌∙◌, ◌∷◌, ◌≡◌}
+use Rattle.thorin_again.proofs.Lists.{answers-whole, AreEncoded, Finds, input-order, rows-encoded}
 use Rattle.std.proofs.Common.{Bool, cond, filter, IsPermutation, ltb-true, nat_lt, not, ◌||◌}
-use Rattle.thorin_join.specs.Builder.{begun_by, finish_test, IsFinishedState, order_of, start}
-use Rattle.thorin_join.specs.Builder.{State, taken, with_source_or_new}
+use Rattle.thorin_join.specs.Builder.{begun_by, finish_test, IsFinishedState, with_source_or_new}
+use Rattle.thorin_join.specs.Builder.{order_of, start, State, taken}
+use Rattle.thorin_again.proofs.Opened.Indexes.{in-format, lie-kept, lie-used, own-made, up-to-parts}
+use Rattle.thorin_again.proofs.Opened.Indexes.{finished-shared, own-offsets, own-offsets-alone}
+use Rattle.thorin_again.proofs.Opened.Sections.{and-then, info-written, object-written, opened-elf}
+use Rattle.thorin_again.proofs.Opened.Sections.{input-encoding, own-parts-tried, present-written}
+use Rattle.thorin_again.proofs.{Accepted.OwnUnits.taken-all, Kept.OneEncoding.begun-now}
+use Rattle.thorin_again.proofs.{Accepted.OwnUnits.flips, Lists.there-back, Opened.Sections.answered}
+use Rattle.thorin_again.proofs.{Lists.first-of, Opened.Indexes.OwnMade, Opened.Indexes.read-of}
+use Rattle.thorin_again.proofs.{Lists.meant_or, Meant.Package.again-is, Opened.Sections.Unless}
 use Rattle.std.proofs.lemmas.List.Sorted.{IsPermutation-middle, sum_by-IsPermutation}
 use Rattle.std.specs.List.{IsDistinct}
-use Rattle.std.proofs.lemmas.Simd.{map-map}
+use Rattle.std.proofs.{lemmas.List.Sums.length-filter, lemmas.Simd.map-map}
 use Rattle.std.proofs.lemmas.Map.Keys.{IsDistinct-from_apart, IsDistinct-IsPermutation}
 use Rattle.indexmap.proofs.MapLemmas.{lookup_permutation}
 use Rattle.thorin_join.specs.Join.{IsPackageOf, limit_of, look_limit, same_sort}
-use Rattle.thorin_again.proofs.Accepted.OwnUnits.{flips, taken-all}
 use Rattle.thorin_again.specs.OwnAccepted.{IsAccepted, IsAcceptedByNew}
-use Rattle.thorin_again.proofs.Opened.Indexes.{finished-shared, in-format, lie-kept, lie-used}
-use Rattle.thorin_again.proofs.Opened.Indexes.{own-made, own-offsets, own-offsets-alone, OwnMade}
-use Rattle.thorin_again.proofs.Opened.Indexes.{read-of, up-to-parts}
-use Rattle.thorin_again.proofs.Opened.Sections.{and-then, answered, info-written, input-encoding}
-use Rattle.thorin_again.proofs.Opened.Sections.{object-written, opened-elf, own-parts-tried}
-use Rattle.thorin_again.proofs.Opened.Sections.{present-written, Unless}
-use Rattle.thorin_again.proofs.Kept.OneEncoding.{begun-now}
-use Rattle.thorin_again.proofs.Meant.Package.{again-is}
 use Rattle.thorin_again.specs.Again.{all_meant, HaveEncodingOf}
 use Rattle.thorin_again.specs.Own.{has_content, has_sections, packs_again}
-use Rattle.std.proofs.lemmas.List.Sums.{length-filter}
 use Rattle.dwp_base.specs.declared.section.SectionKind.TheVariants as kinds
 use Rattle.dwp_units.specs.declared.unit.UnitSection.TheVariants as places
 
@@ -85,9 +82,8 @@ alone-units : (bytes : List ℕ) (us now : Members) → IsDistinct same_name (ke
     → input_meaning bytes ≡ Ok meant → IsPermutation (all_meant us) meant) → IsPermutation us now
 alone-units bytes us now distinct joins means =
     let perm = means joins.units joins.meaning in
-    let apart = apart-again (all_meant us) joins.units perm (rw map-map distinct) in
-    let units : joins.units ≡ all_meant joins.added = sym (joining-apart [] joins.units apart)
-    ∙ joins.joined in
+    let units : joins.units ≡ all_meant joins.added = sym (joining-apart [] joins.units (apart-again
+    (all_meant us) joins.units perm (rw map-map distinct))) ∙ joins.joined in
     let full = IsPermutation-map meant_or (all_meant us) _ (rw units at perm) in
     rw joins.is (rw (there-back us, there-back joins.added) at full)
 
@@ -95,10 +91,9 @@ alone-units bytes us now distinct joins means =
 alone-finds : (us vs : Members) (bytes : List ℕ) → IsPermutation us vs → IsDistinct same_name
     (keys us) → (p : IsPackageOf vs bytes) → Finds p.pack us
 alone-finds us vs bytes perm distinct p name =
-    let same = found-again us vs distinct perm name in
     let limit : look_limit us name ≡ look_limit vs name =
     ap limit_of (count-again (λ u. same_sort name u.0) us vs perm) in
-    rw (limit, same) (p.finds name)
+    rw (limit, found-again us vs distinct perm name) (p.finds name)
 
 -- what the state of a written file has
 data-there : (strings : List (List ℕ)) → 0 < length strings → 0 < length (data_of strings)
@@ -130,7 +125,10 @@ module _ (state : State) (file : File) (sound : IsSoundBegun state.begun) (holds
   all = subst (λ b. AllOf encoding (units_begun b)) f.begun (holds.all encoding there.1)
 
   encoded : AreEncoded f.made.file.order (units_of f.made)
-  encoded = own-encoded f.made encoding (rw f.begun at sound) plain all
+  encoded =
+      let fine : IsSound f.made = rw f.begun at sound in
+      rows-encoded f.made.file.order encoding f.made.file.contents f.made.strings f.made.rows
+      fine.units.rows plain.units all
 
   abbrev own : IsOwn state encoding file
   own =
@@ -191,9 +189,8 @@ module _ (state : State) (file : File) (sound : IsSoundBegun state.begun) (holds
         offsets = λ some. (strings-there some, given.0);
       }) in
       let opens = opened-elf (file_text file) (written_elf file) back in
-      let object = object-written file differ in
-      rw (t.is, opens, info-written file info, object, own.first) (and-then E _ _
-      (and-then E _ _ (and-then E _ _ parts (λ p e. rw abbreviations-tested
+      rw (t.is, opens, info-written file info, object-written file differ, own.first)
+      (and-then E _ _ (and-then E _ _ (and-then E _ _ parts (λ p e. rw abbreviations-tested
       (and-then E _ _ (given.1 p e) (λ new h. tt)))) (λ m h. tt)) (λ now h. tt))
 
   -- a package of its byte order takes them, unless it is foreseen otherwise

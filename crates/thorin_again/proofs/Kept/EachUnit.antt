@@ -13,18 +13,16 @@ use Terms.{recursion_from_All, refl, row_at, rows_begun, same-begun, same-ok, sa
 use Terms.{section, section_has, SectionKind, sections-are, slice_get_within, Source, source-made}
 use Terms.{subst, sym, takes, true, UnitRead, units, UnitSection, Used, WasRead, with_all_parts}
 use Terms.{with_input, with_new_units, with_unit_added, [], ℕ, ◌++◌, ◌<◌, ◌∙◌, ◌∷◌, ◌≡◌}
-use Rattle.thorin_join.proofs.Parts.Added.{content-with_bytes, content-with_parts}
-use Rattle.thorin_join.proofs.Parts.Added.{each-unit as unit-by-unit, joined_parts-other, step}
+use Rattle.thorin_join.proofs.Parts.Added.{content-with_bytes, each-unit as unit-by-unit, step}
+use Rattle.thorin_join.proofs.Parts.Added.{content-with_parts, joined_parts-other}
+use Rattle.thorin_join.proofs.Rows.OfUnits.{adjusted-plain, is-unit_row, whole-else, whole-part}
 use Rattle.thorin_join.proofs.Units.ReadInTurn.{AllSo, IsAdded, News, units-joined, UnitsJoined}
-use Rattle.thorin_join.proofs.Rows.OfUnits.{adjusted-plain, is-unit_row, IsUnitRow, whole-else}
-use Rattle.thorin_join.proofs.Rows.OfUnits.{whole-part}
-use Rattle.thorin_join.proofs.Rows.OneAdded.{row-part}
-use Rattle.std.proofs.ByRecursion.{All-append}
+use Rattle.thorin_join.proofs.{Rows.OfUnits.IsUnitRow, Rows.OneAdded.row-part}
+use Rattle.std.proofs.{ByRecursion.All-append, lemmas.List.Sums.AllPass-from_list_all}
 use Rattle.std.proofs.Common.{eqb, eqb-true, is_some}
 use Rattle.thorin_join.proofs.Units.Whole.{Goes, IsKnown, known-in, units-go}
 use Rattle.thorin_again.specs.InFormat.{IsInFormat}
 use Rattle.thorin_input.specs.Parts.{with_each_part, with_part}
-use Rattle.std.proofs.lemmas.List.Sums.{AllPass-from_list_all}
 
 -- encodings that are alike are one
 pub encoding-eq : (a b : Encoding) → same_encoding a b ≡ true → a ≡ b
@@ -32,8 +30,7 @@ encoding-eq a b h = grind (arith, nat_tests)
 
 -- what is known of a unit of an input of one encoding
 abbrev pub OfOne : Source → UnitSection → Header → Type 0
-OfOne source place unit =
-    IsKnown source.object.order place unit × (unit.encoding ≡ source.encoding)
+OfOne source place unit = IsKnown source.object.order place unit × (unit.encoding ≡ source.encoding)
 
 pub of-one : (source : Source) (sections : List Used)
     → list_all (section_has source.encoding source.object.order) sections ≡ true
@@ -265,8 +262,7 @@ input-rows P bytes begun now new h old =
           let u = w.1 in
           let read : input_encoding bytes ≡ Ok u.source.encoding =
           rw (t.opens, u.object_is, u.encoding_is) refl in
-          let kept = rows-kept (source-made u.source before u.made u.with) P
-          (λ row format encoding. new row format (read ∙ ap (λ e. Ok e) (sym encoding))) was in
-          subst (λ b. EachRow P (rows_begun b)) u.is kept
+          subst (λ b. EachRow P (rows_begun b)) u.is (rows-kept (source-made u.source before u.made
+          u.with) P (λ row format encoding. new row format (read ∙ ap Ok (sym encoding))) was)
       | inr none ↦ subst (λ b. EachRow P (rows_begun b)) none.1 was
     ]

@@ -13,8 +13,7 @@ use Terms.{Source, source-made, source_units, subst, sym, Takes, takes, TakesUni
 use Terms.{UnitRead, units_begun, units_of, Used, with_input, [], ℕ, ◌<◌, ◌↔◌, ◌∙◌, ◌∷◌, ◌≡◌}
 use Rattle.thorin_again.proofs.Kept.EachUnit.{encoding-eq, named-kept}
 use Rattle.thorin_again.proofs.Kept.Names.{info-there, names-kept}
-use Rattle.thorin_again.proofs.Offsets.RewrittenAgain.{no-turn}
-use Rattle.thorin_again.proofs.Offsets.Tiled.{tiled-kept}
+use Rattle.thorin_again.proofs.{Offsets.RewrittenAgain.no-turn, Offsets.Tiled.tiled-kept}
 use Rattle.thorin_join.specs.Meaning.{meant, object_meaning, source_meaning, unit_meaning}
 use Rattle.thorin_join.specs.Builder.{names_in, State, taken}
 
@@ -112,10 +111,8 @@ pub record AddsOwn (bytes : List ℕ) (old new : State) (e : Encoding) : Type 0 
 pub own-adds : (bytes : List ℕ) (old new : State) (e : Encoding) → taken bytes old ≡ Ok new
     → (new.own ≡ Some e) ↔ AddsOwn bytes old new e
 unfolding taken
-own-adds bytes old new e h = (
-  λ k. grind (arith, nat_tests, encoding-eq),
-  λ a. grind (arith, nat_tests, a),
-)
+own-adds bytes old new e h =
+    (λ k. grind (arith, nat_tests, encoding-eq), λ a. grind (arith, nat_tests, a))
 
 pub units-names : (begun : Option InProgress) → length (units_begun begun) ≡ length (names_in begun)
 units-names begun = grind (arith, length-map)
@@ -129,9 +126,8 @@ taken-holds bytes old new sound holds h = record {
       let now = begun-now bytes old new h in
       let t = takes bytes old.begun new.begun now in
       let a = (own-adds bytes old new e h).0 k in
-      let keeps = input-keeps bytes old.begun new.begun sound now in
-      units-hold (λ unit. unit.encoding ≡ e) keeps.joins t
-      (λ u all read. each-all _ (λ r unit made. made.0 ∙ (own-units a.found t u).is) all)
+      units-hold (λ unit. unit.encoding ≡ e) (input-keeps bytes old.begun new.begun sound now).joins
+      t (λ u all read. each-all _ (λ r unit made. made.0 ∙ (own-units a.found t u).is) all)
       (begun-all (λ unit. unit.encoding ≡ e) old.begun
       (λ made is. rw is at (holds.all e (a.before made is))));
 }

@@ -12,20 +12,19 @@ use Terms.{Ok, Option, range-front, range_bytes, range_with_len, recursion_from_
 use Terms.{SectionKind, slice_get, slice_get_within, Some, StrOffsets, subst, suc, sym, Tile, true}
 use Terms.{UnlessStringOffset, zero, [], ℕ, ◌++◌, ◌+◌, ◌<◌, ◌>>=◌, ◌∙◌, ◌∷◌, ◌≡◌, ◌≤◌, ◌⊎◌}
 use Rattle.std.proofs.Common.{add-mul, Bool, drop, is_some, length-drop, slice_range, ⊎_elim, ◌*◌}
+use Rattle.thorin_package_input.specs.PackagedOffsets.{offset_ranges, ranges_test, rewritten_from}
+use Rattle.thorin_package_input.specs.PackagedOffsets.{place_cmp, with_ranges, with_rows}
+use Rattle.thorin_strings.specs.StringOffsets.{fitting_offset, remapped_entries, remapped_entry}
+use Rattle.thorin_strings.specs.StringOffsets.{entry_bytes, named_at, offset_at, remapped}
 use Rattle.std.specs.BTreeSet.{insert_key}
 use Rattle.std.proofs.lemmas.List.FromFn.{get_or-map-range_with_len, length-map-range_with_len}
 use Rattle.std.proofs.lemmas.List.Sorted.{IsPermutation-filter_both, list_any-IsPermutation}
-use Rattle.thorin_package_input.specs.PackagedOffsets.{offset_ranges, place_cmp, ranges_test}
-use Rattle.thorin_package_input.specs.PackagedOffsets.{rewritten_from, with_ranges, with_rows}
 use Rattle.thorin_package_input.specs.RowPlaces.{is_range, range_of_row, ranges_of}
 use Rattle.thorin_package_input.proofs.FirstRow.{range_is, range_of_found}
 use Rattle.thorin_package_input.proofs.RowRanges.{compilation_there, type_there}
-use Rattle.std.proofs.lemmas.Nat.{row_fits}
+use Rattle.std.proofs.{lemmas.Nat.row_fits, Math.Seq.drop-append-add}
 use Rattle.dwp_base.specs.Numbers.{number}
-use Rattle.thorin_strings.specs.StringOffsets.{entry_bytes, fitting_offset, named_at, offset_at}
-use Rattle.thorin_strings.specs.StringOffsets.{remapped, remapped_entries, remapped_entry}
 use Rattle.dwp_bytes.specs.StringOffsets.{entry_in, header_size, string_at, string_in}
-use Rattle.std.proofs.Math.Seq.{drop-append-add}
 use Rattle.std.proofs.lemmas.Option.{slice_get_cases, slice_get_read}
 
 -- the rows of compilation units and those of type units
@@ -74,12 +73,10 @@ ranges-there compilations types rows r c t some h =
     ⊎_elim (λ u. by-passing _ (has-range r) compilations _ c u (λ index n row is at has parts.
     rw is (compilation_there index (n + 1) parts.row r parts.there
     (grind (arith, nat_tests, parts.contributions StrOffsets, range_is r row.debug_str_offsets has))
-    types)))
-    (λ u. by-passing _ (has-range r) types _ t u (λ index n row is at has parts.
+    types))) (λ u. by-passing _ (has-range r) types _ t u (λ index n row is at has parts.
     rw is (type_there index (n + 1) parts.row r parts.there
     (grind (arith, nat_tests, parts.contributions StrOffsets, range_is r row.debug_str_offsets has))
-    compilations)))
-    (any-chosen (has-range r) rows (some-has r rows h))
+    compilations))) (any-chosen (has-range r) rows (some-has r rows h))
 
 -- ranges in the order of others, of which some may be left out
 abbrev IsPartOf : List Contribution → List Contribution → Type 0
@@ -183,10 +180,9 @@ module _ (order : Endianness) (encoding : Encoding) where
   unfolding ranges_test
   tile-tested size at end last [] tile inside behind = refl
   tile-tested size at end last (y ∷ ys) tile inside behind =
-      let within = tile-end (at + y.size) end ys tile.2 in
       let rest = tile-tested size (at + y.size) end (y.offset.0 + y.size) ys tile.2 inside
       (omega (arith, tile.0)) in
-      grind (arith, nat_tests, tile.0, tile.1.long, within, rest)
+      grind (arith, nat_tests, tile.0, tile.1.long, tile-end (at + y.size) end ys tile.2, rest)
 
   -- a whole range has its entries behind its header
   pub whole-remapped : (section bytes : List ℕ) (size : ℕ) (strings : List (List ℕ))
@@ -240,11 +236,10 @@ module _ (order : Endianness) (encoding : Encoding) where
   all-rewritten section bytes at [] strings can = tt
   all-rewritten section bytes at (r ∷ rs) strings can =
       let here = can r (inl refl) in
-      let is = whole-remapped section (range_bytes bytes r) r.size strings here.0 in
       let one = entries-rewritten section _ here.0.count strings here.1 in
       let rest = λ (after : List (List ℕ)). all-rewritten section bytes (r.offset.0 + r.size) rs
       after (λ x h. can x (inr h)) in
-      grind (arith, is, one, rest)
+      grind (arith, whole-remapped section (range_bytes bytes r) r.size strings here.0, one, rest)
 
   -- so many entries, rewritten from these strings on, give those
   abbrev pub Lead : (section bytes : List ℕ) → ℕ → (before after : List (List ℕ)) → Type 0

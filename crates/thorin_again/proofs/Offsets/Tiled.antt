@@ -5,7 +5,7 @@ use Terms.{Added, All-weaker, ap, arith, by-bool, content_of, Contents, Contribu
 use Terms.{contribution_put, count-again, data_of, EachRow, Encoding, Endianness, entry_count}
 use Terms.{eqb-false, false, first, GiveStrings, has_part, HasOneOf, HasTiledOffsets, IndexEntry}
 use Terms.{inl, InProgress, inr, is-same, is_package, IsAmong, IsOfSome, IsTable, IsWholeRange}
-use Terms.{joined_parts, length, length-append, List, names-same, no_header, none-some, offset_size}
+use Terms.{joined_parts, length, length-append, List, no_header, none-some, offset_size}
 use Terms.{Ok, own-bytes, Parts, parts_of, place-put, range-of, range_for, refl, same_Some, Some}
 use Terms.{Source, source-made, stands_once, Str, StrOffsets, subst, sym, take-length, Tile, true}
 use Terms.{Used, with_source, [], ℕ, ◌++◌, ◌+◌, ◌<◌, ◌∙◌, ◌∷◌, ◌≡◌, ◌⊎◌}
@@ -20,7 +20,7 @@ use Rattle.thorin_join.proofs.Parts.ReadAlike.{has-more, has-other}
 use Rattle.thorin_again.proofs.Kept.EachUnit.{content-added, once-more, order-added, parted}
 use Rattle.thorin_again.proofs.Kept.EachUnit.{row_with, RowHas, rows-share, with-any, with-each}
 use Rattle.std.proofs.ByRecursion.{All-append}
-use Rattle.thorin_strings.proofs.RemapLemmas.{kept_more}
+use Rattle.thorin_strings.proofs.{NamedEntries.range_named, RemapLemmas.kept_more}
 use Rattle.dwp_bytes.specs.StringOffsets.{header_size}
 
 -- the part of string offsets that a plain object makes is whole
@@ -70,7 +70,7 @@ module _ (source : Source) (plain : is_package source.indexes ≡ false) (start 
             let count = ap (entry_count encoding) none.0 ∙ no-entries encoding in
             rw (← none.1) (inl (refl, count), ([], rw count refl))
         | inr r ↦
-            let law = names-same _ _ _ _ _ strings written.0 written.1 table h in
+            let law = range_named _ _ _ _ _ strings written table h in
             let long = law.long (eqb-false (length bytes) 0 r.some) in
             (inr (long, r.header, r.header_is), (r.entries.0, grind (arith, r.entries_are, r.is)))
       ]
@@ -90,7 +90,7 @@ module _ (source : Source) (plain : is_package source.indexes ≡ false) (start 
       let m = entry_count encoding (length bytes) in
       let rewrites : remapped order encoding section bytes (length bytes) before.1 ≡ Ok w.written =
       sym (rewritten-plain source bytes before.1 plain) ∙ w.rewrites in
-      let law = names-same _ _ _ _ _ _ own strings so_far.table rewrites in
+      let law = range_named _ _ _ _ _ _ w.written so_far.table rewrites in
       let one = one-fills bytes before.1 w.written so_far.table rewrites in
       let alone : Again own m before.1 strings = λ final table kept.
       let same = entries-alike order encoding (data_of final) section own bytes m before.1
@@ -109,8 +109,7 @@ module _ (source : Source) (plain : is_package source.indexes ≡ false) (start 
         so_far.count + m,
         inr (size, [], rw (lt-ltb encoding.version 5 old) refl),
         λ final table kept. leads-joined order encoding old _ new own _ long m start _ _
-            (so_far.again final table (kept_more _ _ final law.kept kept))
-            (alone final table kept),
+            (so_far.again final table (kept_more _ _ final law.kept kept)) (alone final table kept),
       )) in
       let more = joined_parts-more StrOffsets before.0 StrOffsets own in
       rw (w.is, has-more before.0 own, more) (record {
@@ -138,8 +137,7 @@ module _ (source : Source) (plain : is_package source.indexes ≡ false) (start 
       → parts_of source start ≡ Ok (parts, after) → MadeBy (parts, after)
   unfolding remapped_entries
   part-made parts after table h = each-part source (λ before ss now. MadeBy before → MadeBy now)
-      (λ now so_far. so_far)
-      (λ before s next ss now made rest later so_far.
+      (λ now so_far. so_far) (λ before s next ss now made rest later so_far.
       later (made-step before s next so_far made.once made.adds))
       source.object.sections ([], start) (parts, after) h (record {
         table = table;
@@ -157,8 +155,7 @@ module _ (source : Source) (plain : is_package source.indexes ≡ false) (start 
       → (written : List ℕ) × (remapped order encoding (data_of final) new (length new) start
       ≡ Ok (written, after))))
   unfolding remapped_entries
-  made-fills new after has made = by-bool _ (eqb (length new) 0)
-      (λ none.
+  made-fills new after has made = by-bool _ (eqb (length new) 0) (λ none.
       let empty = eqb-true (length new) 0 none in
       let again = count-again encoding.format (length new) (header_size encoding) made.count in
       let none : made.count ≡ 0 = grind (arith, made.fills, empty, no-entries encoding, again) in
@@ -226,8 +223,7 @@ module _ (source : Source) (before now : InProgress) (plain : is_package source.
       → IsAmong r ranges) → ((r : Contribution) → IsAmong r ranges → IsOfSome r now.rows)
       → ((final : List (List ℕ)) → IsTable final → take (length a.after) final ≡ a.after
       → InTurn now_order source.encoding (data_of final) (old ++ joined) (length old) ranges
-      before.strings a.after)
-      → HasTiledOffsets source.encoding now
+      before.strings a.after) → HasTiledOffsets source.encoding now
   made-so ranges tile new named gives =
       let all = tiled.ranges ++ ranges in
       let content : content_of StrOffsets now.file.contents ≡ old ++ joined =
@@ -276,8 +272,7 @@ module _ (source : Source) (before now : InProgress) (plain : is_package source.
             (λ p u has. (any-append is_some p.rows (row_with p.file.contents u ∷ [])).0
             (inr (inl (has p.file.contents))))
             (rows-share a plain StrOffsets refl (λ part. part ≡ Some range) put)))
-            (λ k. absurd k) h)
-            (λ final table front.
+            (λ k. absurd k) h) (λ final table front.
             let one = whole.1 final table front in
             let again = subst (λ o. remapped o source.encoding (data_of final) joined
             (length joined) before.strings ≡ Ok (one.0, a.after)) same one.1 in

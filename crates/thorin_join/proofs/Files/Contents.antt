@@ -4,14 +4,13 @@ use Terms.{another_kind, AreDistinct, arith, Bool, by-bool, codes, content_of, c
 use Terms.{Endianness, entry_ids, Err, file_text, HasContent, IdentifiersFit, Index, index_tests}
 use Terms.{index_version_of, IndexEntry, inl, inr, is-same, IsIndexOf, KindsDiffer, length}
 use Terms.{length-KindsDiffer, List, None, Ok, Option, refl, rows_of, same_kind, SectionKind}
-use Terms.{slice_index, Some, [], ℕ, ◌+◌, ◌<◌, ◌^◌, ◌∷◌, ◌≡◌, ◌≤◌}
+use Terms.{nat_tests, nil_from_length, slice_index, Some, [], ℕ, ◌+◌, ◌<◌, ◌^◌, ◌∷◌, ◌≡◌, ◌≤◌}
 use Rattle.dwp_base.specs.declared.class.Class.TheVariants.{Elf32, Elf64}
 use Rattle.dwp_base.specs.declared.section.SectionKind.TheVariants.{CuIndex, TuIndex}
 use Rattle.dwp_elf_read.specs.Layout.{word_size}
 use Rattle.dwp_elf.specs.FileText.{headers_place, name_table, Object}
-use Rattle.dwp_elf.specs.Numbers.{Fits}
-use Rattle.dwp_elf.specs.Written.{written_elf, written_sections}
-use Rattle.dwp_index.proofs.HeldContents.{empty, foreign, index_missing, index_there, package_is}
+use Rattle.dwp_elf.specs.{Numbers.Fits, Written.written_elf, Written.written_sections}
+use Rattle.dwp_index.proofs.HeldContents.{empty, foreign, index_missing, package_is}
 use Rattle.dwp_elf.proofs.ReadingBack.{elf_of-file_text}
 use Rattle.thorin_join.specs.WrittenPackage.{IsIndexIn, package_with}
 use Rattle.dwp_index.specs.IndexBytes.{index_of, version_of}
@@ -53,10 +52,8 @@ held_from kind number names ((k, b ∷ bs) ∷ cs) h =
 
 -- these bytes are read as the package of a file's contents
 abbrev pub IsReadAs : List ℕ → Object → Type 0
-IsReadAs bytes o = (compilations types : Option Index)
-    → IsIndexIn o CuIndex compilations
-    → IsIndexIn o TuIndex types
-    → package_of bytes ≡ Ok (package_with o compilations types)
+IsReadAs bytes o = (compilations types : Option Index) → IsIndexIn o CuIndex compilations
+    → IsIndexIn o TuIndex types → package_of bytes ≡ Ok (package_with o compilations types)
 
 -- so are any bytes that mean the written file
 pub package_held : (bytes : List ℕ) (o : Object) → KindsDiffer o.contents
@@ -87,14 +84,10 @@ pub no-bytes : (order : Endianness) → index_of order [] ≡ Err UnexpectedEof
 unfolding index_of version_of
 no-bytes order = refl
 
-some-bytes : (order : Endianness) (bytes : List ℕ) (index : Index) → index_of order bytes ≡ Ok index
-    → 0 < length bytes
-some-bytes order [] index h = let none = no-bytes order in absurd cc
-some-bytes order (b ∷ bs) index h = omega arith
-
 pub index-read : (order : Endianness) (rows : List IndexEntry) (bytes : List ℕ)
     → IsIndexOf order rows bytes → index_tests rows ≡ Ok tt → AreDistinct (entry_ids rows)
     → ((r : ℕ) → slice_index (entry_ids rows) r < 2 ^ 64) → IndexRead order rows bytes
+unfolding index_in_section
 index-read order [] bytes text tested distinct fit =
     record { index = None; read = index_missing order bytes text; has = refl }
 index-read order (row ∷ rows) bytes text tested distinct fit =
@@ -103,7 +96,7 @@ index-read order (row ∷ rows) bytes text tested distinct fit =
     read in
     record {
       index = Some _;
-      read = index_there order bytes _ (some-bytes order bytes _ read) read;
+      read = grind (arith, nat_tests, read, no-bytes order, nil_from_length bytes);
       has = (index_version_of row.encoding.version, entries, omega arith);
     }
 

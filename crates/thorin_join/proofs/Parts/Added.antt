@@ -25,10 +25,6 @@ use Rattle.thorin_join.specs.FirstUse.{named_by_ranges, named_by_section, named_
 use Rattle.thorin_join.proofs.Parts.Ranges.{count-fits, count-none, range-of}
 use Rattle.thorin_join.proofs.Units.ReadInTurn.{News}
 use Rattle.thorin_join.specs.Strings.{each_from, offset_of_entry, strings_at}
-use Rattle.std.proofs.lemmas.Bool.{false_from_ne_true}
-
-pub differ : (a b : SectionKind) → (a ≡ b → ⊥) → same_kind a b ≡ false
-differ a b apart = false_from_ne_true _ (λ same. apart (is-same a b same))
 
 -- bytes that are added to a section
 pub content-appended : (kind k : SectionKind) (bytes : List ℕ) (c : Contents) → content_of kind
@@ -219,8 +215,7 @@ string-more : (section : List ℕ) (f : ℕ → ℕ) (i n j : ℕ) (l : List (Li
 unfolding strings_at
 string-more section f i zero j l string at h k =
     let here : i ≡ j = omega arith in grind arith
-string-more section f i (suc n) j l string at h k =
-    grind (arith, string-more section f (i + 1) n j)
+string-more section f i (suc n) j l string at h k = grind (arith, string-more section f (i + 1) n j)
 
 pub no-entries : (encoding : Encoding) → entry_count encoding 0 ≡ 0
 no-entries encoding = count-none encoding.format 0 (header_size encoding) (omega arith)
@@ -291,8 +286,7 @@ module _ (source : Source) where
       (strings : List (List ℕ)) (out : List ℕ × List (List ℕ)) → at + left ≡ length bytes
       → ranges_test source.encoding (length bytes) at ranges ≡ Ok tt
       → rewritten_from source.object.order source.encoding strings_in bytes at ranges
-      strings ≡ Ok out
-      → Brings strings_in strings (named_by_ranges source bytes ranges) left out.1
+      strings ≡ Ok out → Brings strings_in strings (named_by_ranges source bytes ranges) left out.1
       × (length out.0 ≤ left)
   unfolding rewritten_from
   ranges-bring bytes at left [] strings out ends t h = rw (← same-ok {E = ErrorValue} _ out h)
@@ -356,9 +350,8 @@ pub each-unit : (P : InProgress → News → InProgress → Type 0) → ((p : In
 unfolding with_new_units with_new_unit
 each-unit P none passed added p [] = none p
 each-unit P none passed added p (u ∷ us) =
-    let old = each-unit P none passed added p us in
     let new = each-unit P none passed added (with_unit_added p u) us in
-    grind (arith, passed p u us _ old, added p u us _ new)
+    grind (arith, passed p u us _ (each-unit P none passed added p us), added p u us _ new)
 
 -- units bring no strings
 pub units-strings : (p : InProgress) (us : News) → (with_new_units p us).strings ≡ p.strings

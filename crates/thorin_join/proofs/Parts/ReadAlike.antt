@@ -2,13 +2,13 @@
 -- package those of each row, where each kind of section has one part at most.
 use Rattle.thorin_join.proofs.Terms
 use Terms.{append-nil, append_assoc, arith, Bool, by-bool, Contents, Contribution, data_of}
-use Terms.{Encoding, entry_count, false, first, has_part, Index, Indexes, inl, InputFile, inr}
+use Terms.{Encoding, entry_count, false, first, has_part, Index, inl, InputFile, inr}
 use Terms.{is-same, is_copied, is_package, IsTable, joined_offsets, joined_parts, joined_read}
 use Terms.{kept_more, length, length-append, List, no_header, offset_size, Ok, Parts, parts_of}
 use Terms.{range_in, range_named, Ranges, ReadsAlike, refl, row_in, same-self, same_kind}
 use Terms.{SectionKind, Some, Source, Str, strings_again, StrOffsets, sym, take, true, Used}
 use Terms.{whole_entries, with_each_part, [], ℕ, ◌*◌, ◌++◌, ◌+◌, ◌-◌, ◌<◌, ◌∙◌, ◌∷◌, ◌≡◌, ◌≤◌, ◌⊎◌}
-use Rattle.thorin_join.proofs.Parts.Ranges.{count-none, empty-alike, names-same, reads-alike}
+use Rattle.thorin_join.proofs.Parts.Ranges.{count-none, empty-alike}
 use Rattle.thorin_join.proofs.Parts.Ranges.{whole-long, whole-read}
 use Rattle.thorin_join.proofs.Parts.Added.{each-brings, each-part, has_part-more, joined_parts-more}
 use Rattle.thorin_join.proofs.Parts.Added.{joined_parts-other, Rewritten, rewritten-package}
@@ -103,22 +103,18 @@ module _ (source : Source) (plain : is_package source.indexes ≡ false) where
             let joined = joined_parts-other StrOffsets before.0 s.kind s.bytes o in
             rw o (later old (rw (is, has-other before.0 s.kind s.bytes o, joined) so_far))
         | inr (inr (o, c, is)) ↦ rw o (later old (rw is so_far))
-      ])
-      object.sections ([], strings) (parts, after) h []
+      ]) object.sections ([], strings) (parts, after) h []
       (grind (arith, empty-alike object.order encoding section))).read
-
--- one of the indexes
-abbrev pub IsOneOf : Index → Indexes → Type 0
-IsOneOf index indexes = (indexes.compilations ≡ Some index) ⊎ (indexes.types ≡ Some index)
 
 -- the string offsets of a package were rewritten: each row's range reads alike
 pub record RowsRead (source : Source) (old new : List ℕ) (after : List (List ℕ)) : Type 0 where
   pub size : length new ≡ length old
-  pub rows : (index : Index) → IsOneOf index source.indexes → (number : ℕ) (row : Ranges)
-      (range : Contribution) → row_in index number ≡ Ok row → range_in row StrOffsets ≡ Some range
-      → range.offset.0 + range.size ≤ length old → 0 < range.size → (final : List (List ℕ))
-      → IsTable final → take (length after) final ≡ after → (k : ℕ)
-      → ReadsAlike source.object.order source.encoding (first Str source.object.sections)
+  pub rows : (index : Index)
+      → (source.indexes.compilations ≡ Some index) ⊎ (source.indexes.types ≡ Some index)
+      → (number : ℕ) (row : Ranges) (range : Contribution) → row_in index number ≡ Ok row
+      → range_in row StrOffsets ≡ Some range → range.offset.0 + range.size ≤ length old
+      → 0 < range.size → (final : List (List ℕ)) → IsTable final → take (length after) final ≡ after
+      → (k : ℕ) → ReadsAlike source.object.order source.encoding (first Str source.object.sections)
       (range_bytes old range) (data_of final) (range_bytes new range) k
 
 module _ (source : Source) (packed : is_package source.indexes ≡ true) where
@@ -150,13 +146,12 @@ module _ (source : Source) (packed : is_package source.indexes ≡ true) where
       each-part source (λ before ss after. IsTable before.1 → joined_parts StrOffsets before.0 ≡ []
       → RowsRead source (first StrOffsets ss) (joined_parts StrOffsets after.0) after.1)
       (λ parts table none. rw none (grind arith))
-      (λ before s next ss last made rest rows table none.
-      by-bool _ (same_kind s.kind StrOffsets)
+      (λ before s next ss last made rest rows table none. by-bool _ (same_kind s.kind StrOffsets)
       (λ same. let w : Rewritten source before s.bytes next = grind (arith, made.adds) in
       let end = ended StrOffsets ss next last rest in
       let joined : joined_parts StrOffsets last.0 ≡ w.written.0 =
       grind (arith, end, has_part-more StrOffsets, joined_parts-more StrOffsets before.0) in
-      let reads = package_reads_alike names-same reads-alike _ _ _ _ _ _ _ w.written.0 w.written.1
+      let reads = package_reads_alike _ _ _ _ _ _ _ w.written.0 w.written.1
       table (sym (rewritten-package source s.bytes before.1 packed) ∙ w.rewrites) in
       let later = (each-brings source ss _ last (rw w.is at rest)).0.follows reads.table in
       rw (same, joined) (record {

@@ -9,23 +9,20 @@ use Terms.{is_shared, is_some, IsTable, joined_parts, length, LieInside, List, l
 use Terms.{None, Ok, Option, part_of, parts_of, range_in, Ranges, read_each, ReadsAlike, refl}
 use Terms.{row_in, SectionKind, Shares, Some, Source, Str, StrOffsets, sym, take, take-length, true}
 use Terms.{UnitRead, with_parts, [], ℕ, ◌&&◌, ◌+◌, ◌||◌, ◌∙◌, ◌∷◌, ◌≡◌, ◌≤◌}
-use Rattle.dwp_base.specs.ByKind.{value_of}
-use Rattle.dwp_base.proofs.KindsRead.{read-kind}
-use Rattle.dwp_base.specs.declared.section.SectionKind.TheVariants.{Abbrev, Info, Types}
-use Rattle.thorin_input.specs.Adjusting.{adjusted, Adjustor, contribution_by_row, has_column_for}
-use Rattle.thorin_input.specs.Adjusting.{other_index, own_index, row_of}
-use Rattle.thorin_input.specs.Indexes.{index_for}
-use Rattle.thorin_join.specs.Meaning.{contribution_by, contributions_by, lie_inside, meaning_by}
-use Rattle.thorin_join.specs.Meaning.{offsets_by, placed_row, shared_kinds, unit_meaning}
-use Rattle.thorin_input.specs.Rows.{adjusted_contribution, own_contribution, row_test}
-use Rattle.thorin_input.specs.Rows.{unit_contribution, unit_row, whole_row}
-use Rattle.thorin_join.proofs.Parts.ReadAlike.{parts-first, parts-read, rows-read, RowsRead}
-use Rattle.thorin_join.proofs.Rows.OneAdded.{Lies, lies-whole, not-outside, part-inside, Placed}
-use Rattle.thorin_join.proofs.Rows.OneAdded.{placed-by, range-none, range-some}
-use Rattle.thorin_join.proofs.Parts.Ranges.{empty-alike, strings-there}
+use Rattle.thorin_input.specs.Adjusting.{adjusted, contribution_by_row, has_column_for, other_index}
+use Rattle.thorin_input.specs.Adjusting.{Adjustor, own_index, row_of}
+use Rattle.thorin_join.specs.Meaning.{contribution_by, contributions_by, shared_kinds, unit_meaning}
+use Rattle.thorin_join.specs.Meaning.{lie_inside, meaning_by, offsets_by, placed_row}
+use Rattle.thorin_input.specs.Rows.{adjusted_contribution, own_contribution, unit_contribution}
+use Rattle.thorin_join.proofs.Rows.OneAdded.{Lies, lies-whole, not-outside, part-inside, range-none}
+use Rattle.thorin_join.proofs.Rows.OneAdded.{Placed, placed-by, range-some}
 use Rattle.thorin_join.proofs.Parts.Added.{content-with_parts, copied-or-offsets, parts-copied}
-use Rattle.thorin_join.proofs.Parts.Added.{parts-follow}
-use Rattle.thorin_join.specs.StandApart.{LieBehind}
+use Rattle.dwp_base.{proofs.KindsRead.read-kind, specs.ByKind.value_of}
+use Rattle.dwp_base.specs.declared.section.SectionKind.TheVariants.{Abbrev, Info, Types}
+use Rattle.thorin_input.specs.{Indexes.index_for, Rows.row_test, Rows.unit_row, Rows.whole_row}
+use Rattle.thorin_join.proofs.Parts.ReadAlike.{parts-first, parts-read, rows-read, RowsRead}
+use Rattle.thorin_join.proofs.Parts.Ranges.{empty-alike, strings-there}
+use Rattle.thorin_join.{proofs.Parts.Added.parts-follow, specs.StandApart.LieBehind}
 
 -- an entry by parts has each of those that it can have
 entry-part : (encoding : Encoding) (id : DwarfObject) (part : SectionKind → Option Contribution)
@@ -135,8 +132,7 @@ pub record RowShares (source : Source) (before parts : Contents) (after : List (
 none-found : {X : Type 0} (other test : X → Bool) → ((x : X) → other x ≡ true → test x ≡ false)
     → (xs : List X) → list_all other xs ≡ true → is_none (find test xs) ≡ true
 none-found other test fails [] pass = refl
-none-found other test fails (x ∷ xs) pass =
-    grind (arith, fails x, none-found other test fails xs)
+none-found other test fails (x ∷ xs) pass = grind (arith, fails x, none-found other test fails xs)
 
 module _ (source : Source) (before parts : Contents) (read : DwarfObject × UnitRead)
     (row : IndexEntry) (made : IsUnitRow source.indexes (whole_row source.encoding before parts)
@@ -147,8 +143,7 @@ module _ (source : Source) (before parts : Contents) (read : DwarfObject × Unit
   -- a kind of which it has a range is shared
   has-shared : (kind : SectionKind) (range : Contribution) → contribution_to kind row ≡ Some range
       → is_shared kind ≡ true
-  has-shared kind range h =
-      grind (arith, whole-else source.encoding before parts)
+  has-shared kind range h = grind (arith, whole-else source.encoding before parts)
 
   -- the unit by these ranges, which has these parts
   shares-by : (after : List (List ℕ)) (ranges : Option Ranges) (part : SectionKind → List ℕ)
@@ -159,10 +154,9 @@ module _ (source : Source) (before parts : Contents) (read : DwarfObject × Unit
       → RowShares source before parts after read row
   unfolding meaning_by
   shares-by after ranges part table is lies copied inside reads =
-      let old = first Str source.object.sections in
-      let offsets = offsets_by source ranges in
-      let strings = strings-there source.object.order source.encoding old offsets (λ i.
-      (reads after table (take-length after) i).readable) in
+      let strings = strings-there source.object.order source.encoding
+      (first Str source.object.sections) (offsets_by source ranges)
+      (λ i. (reads after table (take-length after) i).readable) in
       record {
         unit = record {
           bytes = read.1.unit.whole.bytes;
@@ -202,8 +196,7 @@ module _ (source : Source) (before parts : Contents) (read : DwarfObject × Unit
     unfolding row_test row_of
     own =
         let part = made.parts Abbrev refl in
-        let found = adjusted-packed source.indexes name packed Abbrev _ _ part in
-        grind (arith, test, packed, found.1)
+        grind (arith, test, packed, (adjusted-packed source.indexes name packed Abbrev _ _ part).1)
 
     each-placed : (kind : SectionKind) → is_shared kind ≡ true → Placed (content_of kind before)
         (joined_parts kind parts) (range_in own.row kind) (contribution_to kind row)
@@ -267,8 +260,7 @@ module _ (source : Source) (before parts : Contents) (read : DwarfObject × Unit
       (λ kind copied. ap (λ v. part_of v (range_in has.row kind)) (firsts kind copied))
       (none-found is_shared _ (λ kind shared. not-outside (first kind source.object.sections)
       (joined_parts kind parts) (range_in has.row kind) (longs kind shared)
-      (placed kind shared).within) shared_kinds refl)
-      (packed-reads test packed after reads))
+      (placed kind shared).within) shared_kinds refl) (packed-reads test packed after reads))
       (λ plain. by None (λ kind. joined_parts kind parts) (rw plain refl) (plain-lies plain)
       (parts-copied source strings parts after h) refl
       (parts-read source plain strings parts after table h))

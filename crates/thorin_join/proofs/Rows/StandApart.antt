@@ -4,13 +4,12 @@ use Terms.{adding, append-nil, append_assoc, AreRowsOf, arith, content_of, Conte
 use Terms.{IndexEntry, inl, InProgress, inr, IsSound, IsSoundBegun, kind_of, LieInside, List, map}
 use Terms.{Members, Ok, Option, package_or_new, refl, row_at, same_Some, Some, Source, subst, sym}
 use Terms.{with_input, with_new_units, with_unit_added, [], ℕ, ◌++◌, ◌∙◌, ◌∷◌, ◌≡◌}
+use Rattle.thorin_join.proofs.Rows.OneAdded.{front-long, grows-trans, grows-with_bytes, lies-whole}
+use Rattle.thorin_join.proofs.Joined.{grows-with_parts, input-keeps, same-begun, source-made, takes}
 use Rattle.thorin_join.specs.StandApart.{contents_begun, EachRow, LieBehind, rows_begun, StandApart}
 use Rattle.thorin_join.proofs.Units.ReadInTurn.{AreAdded, News, Reads, units-joined}
-use Rattle.thorin_join.proofs.Rows.OneAdded.{front-long, Grows, grows-trans, grows-with_bytes}
-use Rattle.thorin_join.proofs.Rows.OneAdded.{lies-whole, row-part}
-use Rattle.thorin_join.proofs.Rows.OfUnits.{is-unit_row, row-behind}
-use Rattle.thorin_join.proofs.Joined.{grows-with_parts, new-sound, same-begun, source-made, takes}
-use Rattle.thorin_join.proofs.Parts.Added.{each-unit}
+use Rattle.thorin_join.proofs.{Joined.new-sound, Rows.OfUnits.is-unit_row, Rows.OfUnits.row-behind}
+use Rattle.thorin_join.proofs.{Parts.Added.each-unit, Rows.OneAdded.Grows, Rows.OneAdded.row-part}
 
 -- units that are added
 abbrev EachNew : Contents → News → Type 0
@@ -33,8 +32,7 @@ Appended base rows now =
 units-behind : (base : Contents) (p : InProgress) (us : News) → Grows base p.file.contents
     → EachNew base us → Appended base p.rows (with_new_units p us).rows
 units-behind base = each-unit (λ p us now. Grows base p.file.contents → EachNew base us
-    → Appended base p.rows now.rows)
-    (λ p grows all. ([], sym (append-nil p.rows), tt))
+    → Appended base p.rows now.rows) (λ p grows all. ([], sym (append-nil p.rows), tt))
     (λ p u us now later grows all. later grows all.1)
     (λ p u us now later grows all. let c = p.file.contents in
     let more = later (grows-trans base c (with_unit_added p u).file.contents grows
@@ -60,9 +58,9 @@ sound-inside made sound = each-inside made.file.order made.file.contents made.st
     sound.units.rows
 
 pub stand-apart : (bytes : List ℕ) (begun : Option InProgress) (now : InProgress)
-    → IsSoundBegun begun → IsSound now → with_input bytes begun ≡ Ok (Some now)
-    → StandApart begun now
-stand-apart bytes begun now sound fine h =
+    → IsSoundBegun begun → with_input bytes begun ≡ Ok (Some now) → StandApart begun now
+stand-apart bytes begun now sound h =
+    let fine : IsSound now = (input-keeps bytes begun (Some now) sound h).sound in
     let t = takes bytes begun (Some now) h in
     let before = package_or_new t.file begun in
     let from = λ (n : InProgress). Appended before.file.contents before.rows n.rows in

@@ -1,11 +1,10 @@
 use Rattle.thorin_builder.proofs.Terms
-use Terms.{[], accepted_of, AreTaken, came, Err, err_from_is_err_and, inl, inr, Io, IsTaken, List}
-use Terms.{Memory, Ok, on_ok_weaker, Outcome, refl, rules, State, TakesReferredFile, TakesSkeleton}
-use Terms.{ℕ}
-use Rattle.thorin_builder.proofs.AddedAgain.{are-taken-later, target-kept, taken-found}
+use Terms.{accepted_of, err_from_is_err_and, Memory, on_ok_weaker, TakesReferredFile, TakesSkeleton}
+use Terms.{[], AreTaken, came, Err, inl, inr, Io, IsTaken, List, Ok, Outcome, refl, rules, State, ℕ}
+use Rattle.thorin_builder.proofs.AddedAgain.{are-taken-later, taken-found, target-kept}
 use Rattle.thorin_builder.proofs.Running.{on-ok-taken}
 use Rattle.thorin_builder.proofs.package.DwarfPackage.add_skeleton.Given.{Over}
-use Rattle.thorin_builder.proofs.package.DwarfPackage.add_skeleton.Goals.{In_ok-add_target, In-Some}
+use Rattle.thorin_builder.proofs.package.DwarfPackage.add_skeleton.Goals.{In-Some, In_ok-add_target}
 use Rattle.thorin_builder.proofs.package.DwarfPackage.add_skeleton.Goals as goal
 
 pub returns-in_err-add_target-clause-taken : goal.returns-in_err-add_target-clause-taken
@@ -17,10 +16,9 @@ returns-in_err-add_target-clause-taken g c =
 -- what comes of the object, once the unit is among the targets
 took : (g : Over) (c : goal.In_ok-add_target g) (outcome : Outcome) (new : State)
     → TakesReferredFile (g.R.InputReader.offer c.args.reader.now c.args.named.path.now)
-    c.args.missing c.add_target.new.self.state outcome new
-    → (accepted : List (List ℕ)) × TakesSkeleton (g.R.InputReader.offer c.args.reader.now)
-    c.args.missing (c.args.named.target, c.args.named.path.now) c.args.self.now.state
-    (came outcome new accepted)
+    c.args.missing c.add_target.new.self.state outcome new → (accepted : List (List ℕ))
+    × TakesSkeleton (g.R.InputReader.offer c.args.reader.now) c.args.missing
+    (c.args.named.target, c.args.named.path.now) c.args.self.now.state (came outcome new accepted)
 took g c outcome new file =
     let moved = rw c.in_ok-add_target.ensures.target at file in (
       moved.accepted,
@@ -42,9 +40,8 @@ returns-then-known-clause-taken g c =
     })
 
 -- what is known of the object
-found : (g : Over) (c : goal.In-Some g)
-    → IsTaken (g.R.InputReader.offer c.args.reader.now c.args.named.path.now) c.in-Some.again.now
-    c.add_target.new.self.state.begun
+found : (g : Over) (c : goal.In-Some g) → IsTaken (g.R.InputReader.offer
+    c.args.reader.now c.args.named.path.now) c.in-Some.again.now c.add_target.new.self.state.begun
 found g c = taken-found (g.R.InputReader.offer c.args.reader.now)
     c.args.known.now.taken.entries c.add_target.new.self.state.begun c.args.named.path.now
     c.in-Some.again.now (rw (← target-kept c.args.named.target c.args.self.now.state
@@ -57,9 +54,8 @@ add_again-requires g c =
     record { known = (found.bytes, found.adds) }
 
 pub returns-in-Err-clause-taken : goal.returns-in-Err-clause-taken
-returns-in-Err-clause-taken g c =
-    took g (goal.at.returns-in-Err-clause-taken g c).In_ok-add_target _ _
-    (record { read = Err Memory; within = tt; accepted = []; taken = (refl, (refl, refl)) })
+returns-in-Err-clause-taken g c = took g (goal.at.returns-in-Err-clause-taken g c).In_ok-add_target
+    _ _ (record { read = Err Memory; within = tt; accepted = []; taken = (refl, (refl, refl)) })
 
 pub returns-in-Ok-clause-taken : goal.returns-in-Ok-clause-taken
 returns-in-Ok-clause-taken g c =
@@ -76,19 +72,15 @@ pub returns-in-Ok-clause-known : goal.returns-in-Ok-clause-known
 returns-in-Ok-clause-known g c =
     let offer = g.R.InputReader.offer c.args.reader.now in
     let entries = c.args.known.now.taken.entries in
-    on-ok-taken c.tried.result c.add_again.result c.tried.ensures.outcome
-    (AreTaken offer entries c.add_again.new.self.state.begun)
-    (on_ok_weaker c.add_again.result (λ later. are-taken-later offer entries
-    c.add_target.new.self.state.begun c.add_again.new.self.state.begun later
-    (rw (← target-kept c.args.named.target c.args.self.now.state c.add_target.new.self.state
-    c.in_ok-add_target.ensures.target) c.requires.known))
-    c.add_again.ensures.later)
+    on-ok-taken c.tried.result c.add_again.result c.tried.ensures.outcome (AreTaken
+    offer entries c.add_again.new.self.state.begun) (on_ok_weaker c.add_again.result (λ later.
+    are-taken-later offer entries c.add_target.new.self.state.begun c.add_again.new.self.state.begun
+    later (rw (← target-kept c.args.named.target c.args.self.now.state c.add_target.new.self.state
+    c.in_ok-add_target.ensures.target) c.requires.known)) c.add_again.ensures.later)
 
 pub returns-in-Err-clause-declined : goal.returns-in-Err-clause-declined
-returns-in-Err-clause-declined g c =
-    rw (c.repetition.ensures, c.new.ensures) at c.in-Err.ensures
+returns-in-Err-clause-declined g c = rw (c.repetition.ensures, c.new.ensures) at c.in-Err.ensures
 
 pub returns-in-None-clause-taken : goal.returns-in-None-clause-taken
-returns-in-None-clause-taken g c =
-    took g (goal.at.returns-in-None-clause-taken g c).In_ok-add_target _ _
-    c.add_referred.ensures.taken
+returns-in-None-clause-taken g c = took g
+    (goal.at.returns-in-None-clause-taken g c).In_ok-add_target _ _ c.add_referred.ensures.taken

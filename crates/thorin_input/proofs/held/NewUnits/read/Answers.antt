@@ -1,33 +1,25 @@
-use Rattle.std.proofs.Common.{[], ap, drop, Err, get_or, length, List, map, refl, sym, ℕ, ◌<◌, ◌∙◌}
-use Rattle.std.proofs.Common.{◌≡◌}
-use Rattle.std.proofs.lemmas.List.{drop_more}
-use Rattle.std.proofs.lemmas.Result.{err_from_is_err_and}
+use Rattle.dwp_dwarf.proofs.Terms.{ap, drop, drop_more, Err, length, List, [], ℕ, ◌<◌, ◌∙◌, ◌≡◌}
+use Rattle.dwp_dwarf.proofs.Terms.{err_from_is_err_and, map, refl, sym}
+use Rattle.thorin_input.specs.NewUnits.{new_units, SeenSections, with_each_section, with_section}
+use Rattle.thorin_input.specs.NewUnits.{New, none_met}
+use Rattle.std.proofs.Common.{get_or}
 use Rattle.dwp_base.proofs.Steps.{bind-err}
 use Rattle.thorin_errors.specs.Errors.{ErrorValue}
-use Rattle.thorin_input.specs.NewUnits.{SeenSections, New, new_units, none_met, with_each_section}
-use Rattle.thorin_input.specs.NewUnits.{with_section}
-use Rattle.thorin_input.specs.View.{used}
+use Rattle.thorin_input.specs.{declared.units.Adding.Adding, UnitView.adding_of, View.used}
 use Rattle.thorin_input.specs.declared.object.UsedSection.{UsedSection}
-use Rattle.thorin_input.specs.UnitView.{adding_of}
-use Rattle.thorin_input.specs.declared.units.Adding.{Adding}
 use Rattle.thorin_input.proofs.held.NewUnits.read.Goals as goal
 
 -- the first error of a section is that of all
-stopped : (adding : Adding) (sections : List UsedSection) (i : ℕ) (d : UsedSection)
-    (before : SeenSections × New) (error : ErrorValue)
-    → sections ≡ adding.source.now.object.sections.items
-    → i < length sections → with_each_section (adding_of adding) before
-    (map used (drop i adding.source.now.object.sections.items))
+stopped : (adding : Adding) (sections : List UsedSection)
+    (i : ℕ) (d : UsedSection) (before : SeenSections × New) (error : ErrorValue)
+    → sections ≡ adding.source.now.object.sections.items → i < length sections → with_each_section
+    (adding_of adding) before (map used (drop i adding.source.now.object.sections.items))
     ≡ with_each_section (adding_of adding) (none_met, record { units = []; differing = [] })
-    (map used adding.source.now.object.sections.items)
-    → with_section (adding_of adding) before (used (get_or sections i d)) ≡ Err error
-    → new_units (adding_of adding) ≡ Err error
+    (map used adding.source.now.object.sections.items) → with_section (adding_of adding) before
+    (used (get_or sections i d)) ≡ Err error → new_units (adding_of adding) ≡ Err error
 unfolding new_units with_each_section
-stopped adding sections i d before error all inside left first =
-    bind-err _ error _ (sym left ∙ rw (
-      ap (drop i) (sym all) ∙ drop_more sections i d inside,
-      first,
-    ) refl)
+stopped adding sections i d before error all inside left first = bind-err _ error _
+    (sym left ∙ rw (ap (drop i) (sym all) ∙ drop_more sections i d inside, first) refl)
 
 pub returns-in_err-add_section-clause-meaning : goal.returns-in_err-add_section-clause-meaning
 returns-in_err-add_section-clause-meaning c =
