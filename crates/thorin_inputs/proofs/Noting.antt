@@ -1,11 +1,9 @@
 -- Files, looked up among those that were read.
-use Rattle.std.proofs.Common.{◌≡◌, ◌∙◌, ℕ, List, [], ◌∷◌, Some, eqb, ◌&&◌, cond, refl, sym, arith}
-use Rattle.std.specs.BTreeMap.{BTreeMap, is_at, Updates}
-use Rattle.std.specs.Map.{lookup}
+use Rattle.std.proofs.Common.{arith, cond, eqb, List, refl, Some, sym, [], ℕ, ◌&&◌, ◌∙◌, ◌∷◌, ◌≡◌}
+use Rattle.std.specs.{BTreeMap.BTreeMap, BTreeMap.is_at, BTreeMap.Updates, Map.lookup}
 use Rattle.std.specs.Ordering.{is_eq, nat_cmp, ordering_then}
 use Rattle.std.proofs.lemmas.Bool.Decides.{nat_tests}
-use Rattle.thorin_inputs.specs.Repetitions.{File, is_file}
-use Rattle.thorin_inputs.specs.RepetitionFields.{file_cmp}
+use Rattle.thorin_inputs.specs.{RepetitionFields.file_cmp, Repetitions.File, Repetitions.is_file}
 
 same : (a b c d e f : ℕ)
     → is_eq (ordering_then (ordering_then (nat_cmp a b) (nat_cmp c d)) (nat_cmp e f))
@@ -22,8 +20,7 @@ looked_up (e ∷ es) file = rw (file_test file e.0, looked_up es file) refl
 
 -- one more
 pub noted_at : (old new : BTreeMap File ℕ) (key : File) (input : ℕ)
-    → Updates file_cmp old new key (Some input) → (file : File)
-    → lookup (is_file file) new.entries
+    → Updates file_cmp old new key (Some input) → (file : File) → lookup (is_file file) new.entries
     ≡ cond (is_file key file) (Some input) (lookup (is_file file) old.entries)
 noted_at old new key input updates file =
     sym (looked_up new.entries file) ∙ updates.0 file

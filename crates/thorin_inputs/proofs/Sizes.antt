@@ -1,8 +1,7 @@
 -- Sizes of sections that are added up.
-use Rattle.std.proofs.Common.{◌≡◌, ℕ, ◌+◌, ◌-◌, ◌^◌, ◌≤◌, List, length, drop, min, sum_by, Some}
-use Rattle.std.proofs.Common.{slice_get, ap, ◌∙◌, arith}
-use Rattle.std.proofs.lemmas.List.{drop_all}
-use Rattle.std.proofs.lemmas.List.Sums.{sum_by-cons}
+use Rattle.std.proofs.Common.{ap, drop, length, List, min, sum_by, ℕ, ◌+◌, ◌-◌, ◌^◌, ◌∙◌, ◌≡◌, ◌≤◌}
+use Rattle.std.proofs.Common.{arith, slice_get, Some}
+use Rattle.std.proofs.{lemmas.List.drop_all, lemmas.List.Sums.sum_by-cons}
 use Rattle.dwp_elf_read.specs.Elf.{SectionMeaning}
 use Rattle.dwp_decompress.proofs.Sections.{drop_step}
 use Rattle.thorin_inputs.specs.Overlaps.{each_size}
@@ -19,6 +18,5 @@ each_step sections i size here more section at h m =
     ∙ sum_by-cons each_size section (drop (i + 1) sections) in
     omega (arith, all, h, m)
 
-pub each_end : (sections : List SectionMeaning) (i : ℕ) → length sections ≤ i
-    → left sections i ≡ 0
+pub each_end : (sections : List SectionMeaning) (i : ℕ) → length sections ≤ i → left sections i ≡ 0
 each_end sections i h = ap (sum_by each_size) (drop_all i sections h)

@@ -1,11 +1,10 @@
 //! Small files that could ask for a package of any size.
 
-ghost use Rattle.std.specs.Prelude.{◌≡◌, None, IfOk, OnOk, OnErr};
+ghost use Rattle.std.specs.Prelude.{IfOk, None, OnErr, OnOk, ◌≡◌};
+ghost use Rattle.thorin_inputs.specs.Repetitions.{bytes_more, is_admitted, none_read, with_added};
+ghost use Rattle.thorin_inputs.specs.Repetitions.{is_added_within, object_counted, own_counted};
+ghost use Rattle.thorin_inputs.specs.Repetitions.{begun, File, last, last_of, noted, plus};
 ghost use Rattle.thorin_inputs.specs.Growth.{growth_text};
-ghost use Rattle.thorin_inputs.specs.Repetitions.{File, none_read, plus, begun, with_added};
-ghost use Rattle.thorin_inputs.specs.Repetitions.{bytes_more, is_added_within, own_counted};
-ghost use Rattle.thorin_inputs.specs.Repetitions.{object_counted, is_admitted, last, last_of};
-ghost use Rattle.thorin_inputs.specs.Repetitions.{noted};
 
 use std::alloc::{AllocError, Global};
 use std::collections::BTreeMap;
@@ -61,13 +60,11 @@ impl Growth {
     }
 }
 
-/// What the objects that an input names add once more, beside how many bytes of it were read; and
-/// how often files are read again.
+/// What was read of an input, what its objects add once more, and how often files are read again.
 #[derive(Drop)]
 pub struct Repetitions {
-    /// The files that were read: the device and the number of each there, and its size, since not
-    /// every file system numbers its files. Each with the number of the input for which it was read
-    /// last.
+    /// The files that were read, by device, number and size, since not every file system numbers
+    /// its files; each with the number of the input for which it was read last.
     files: BTreeMap<(u64, u64, usize), usize>,
     input: usize,
     /// How many bytes of the input were read, and added once more.
@@ -107,21 +104,16 @@ impl Repetitions {
 
     /// Begins an input.
     pub fn begin(&mut self)
-        ensures { self.new ≡ record self.old {
-          input = plus self.old.input 1;
-          counts = begun
-              self.old.counts;
-        } }
+        ensures { self.new
+            ≡ record self.old { input = plus self.old.input 1; counts = begun self.old.counts } }
     {
         self.input = self.input.saturating_add(1);
         self.read = 0;
         self.added = 0;
     }
 
-    /// Counts the input's own file, which was read.
-    ///
-    /// # Errors
-    /// Want of memory; then nothing was counted.
+    /// Counts the input's own file, which was read. Errors: want of memory; then nothing was
+    /// counted.
     pub fn count_own(&mut self, identity: Option<(u64, u64)>, size: usize) -> Result<(), AllocError>
         ensures counted { OnOk result (self.new.counts
             ≡ own_counted self.old.counts (last_of self.old identity size) size) }
@@ -140,10 +132,7 @@ impl Repetitions {
 
     /// Whether an object that was read may be added. One that was read before counts with its size:
     /// by another path for the same input as what is added once more, and in any case as what is
-    /// read again.
-    ///
-    /// # Errors
-    /// Want of memory; then nothing was counted.
+    /// read again. Errors: want of memory; then nothing was counted.
     pub fn admits_object(
         &mut self,
         identity: Option<(u64, u64)>,
@@ -177,10 +166,8 @@ impl Repetitions {
     /// Whether an object may be added once more that isn't read again: how many bytes of sections
     /// it adds, and how many type units it has that differ from those kept.
     pub fn admits(&mut self, bytes: usize, differing: usize) -> bool
-        ensures counted { self.new ≡ record self.old {
-          counts = with_added self.old.counts
-              (bytes_more bytes differing);
-        } }
+        ensures counted { self.new
+            ≡ record self.old { counts = with_added self.old.counts (bytes_more bytes differing) } }
         ensures admitted { result ≡ is_added_within self.new.counts }
     {
         let differing = differing.saturating_mul(DIFFERING_SIZE);
@@ -189,8 +176,7 @@ impl Repetitions {
         self.added <= LEAST_ROOM || self.added <= self.read
     }
 
-    /// Notes that a file was read for the present input: the one for which it was read before, if
-    /// it was; that is the present one then.
+    /// Notes that a file was read for the present input: that for which it was read before, if any.
     fn note(
         &mut self,
         identity: Option<(u64, u64)>,

@@ -51,10 +51,8 @@ pub(crate) fn shown_text(alloc: Global, name: &[u8]) -> Result<String, AllocErro
     shown_briefly(alloc, name.as_str())
 }
 
-/// Why a file can't be read or written, in the system's words without its number for them.
-///
-/// # Errors
-/// Want of memory.
+/// Why a file can't be read or written, in the system's words without its number for them. Errors:
+/// want of memory.
 pub fn reason(alloc: Global, cause: &io::Error) -> Result<String, AllocError> {
     if cause.kind() == io::ErrorKind::Unsupported {
         return String::from_str(alloc, "not a regular file");
@@ -150,8 +148,7 @@ pub fn note_refused<E: Write>(place: &str, error: &Error, left: Compression, err
     };
 }
 
-/// Prints the note on an input that has a unit which the package has already, and on what brought
-/// that.
+/// Prints the note on an input with a unit that the package has, and on what brought that before.
 pub fn note_before<E: Write>(unit: u64, place: &str, before: &str, err: &mut E) {
     let _ = writeln!(
         err,
@@ -241,9 +238,7 @@ impl AbsentUnits {
 
     /// Adds a unit, where it wasn't absent before: with the object that an executable names for it
     /// (none where that is the one before), and why that couldn't be read, unless it was read.
-    ///
-    /// # Errors
-    /// Want of memory.
+    /// Errors: want of memory.
     pub fn add(
         &mut self,
         unit: u64,
@@ -259,8 +254,7 @@ impl AbsentUnits {
         Ok(())
     }
 
-    /// Keeps the object that is looked for, unless it is the last one, and why it brings no unit:
-    /// it couldn't be read, or lacks it.
+    /// Keeps the object that is looked for, unless it is the last one, and why it brings no unit.
     fn look_for(
         &mut self,
         executable: &str,

@@ -1,27 +1,23 @@
 //! Files whose sections overlap (ELF gABI, "Sections"), or strings: of these a few bytes of string
 //! offsets could ask for as many copies of one long string.
 
-ghost use Rattle.std.specs.Prelude.{◌≡◌, ◌≤◌, ◌<◌, ◌+◌, ◌-◌, ◌*◌, ◌^◌, ℕ, ◌||◌, ◌&&◌, ◌==◌, nat_lt};
-ghost use Rattle.std.specs.Prelude.{IfOk, OnOk, if◌then◌else◌, false, length, take, drop, min, find};
-ghost use Rattle.std.specs.Prelude.{sum_by, option_map};
-ghost use Rattle.std.specs.List.{list_any};
-ghost use Rattle.std.specs.Option.{option_copied};
-ghost use Rattle.dwp_base.specs.declared.section.SectionKind.TheVariants.{CuIndex, Info, Str};
-ghost use Rattle.dwp_base.specs.declared.section.SectionKind.TheVariants.{StrOffsets, TuIndex};
 ghost use Rattle.dwp_decompress.specs.Sizes as decompressing;
-ghost use Rattle.dwp_decompress.specs.declared.asked.Asked.TheVariants.{OfUnits};
-ghost use Rattle.dwp_elf_read.specs.Elf.{elf_of, is_of, holds};
 ghost use Rattle.dwp_elf_read.specs.View as view;
-ghost use Rattle.dwp_elf_read.specs.View.{elf};
-ghost use Rattle.dwp_index.specs.Index.{row_in};
-ghost use Rattle.dwp_index.specs.IndexBytes.{index_of};
-ghost use Rattle.thorin_inputs.specs.InnerPlaces.{Counts, IsSummed, IsWithin, is_counted};
-ghost use Rattle.thorin_inputs.specs.InnerStrings.{begins_inside, first_content, has_inner_strings};
-ghost use Rattle.thorin_inputs.specs.InnerStrings.{has_row_between, has_word, is_inner};
-ghost use Rattle.thorin_inputs.specs.InnerStrings.{is_row_between, most_inner, or_nothing};
-ghost use Rattle.thorin_inputs.specs.InnerStrings.{plain_content, sizes_at, step_by, string_size};
-ghost use Rattle.thorin_inputs.specs.InnerStrings.{word_count};
-ghost use Rattle.thorin_inputs.specs.Overlaps.{each_size, first_size, used_size, overlaps};
+ghost use Rattle.std.specs.Prelude.{if◌then◌else◌, ◌&&◌, ◌*◌, ◌+◌, ◌-◌, ◌<◌, ◌==◌, ◌||◌, ◌≡◌, ◌≤◌};
+ghost use Rattle.std.specs.Prelude.{drop, false, IfOk, length, min, nat_lt, OnOk, take, ℕ, ◌^◌};
+ghost use Rattle.std.specs.Prelude.{find, option_map, sum_by};
+ghost use Rattle.dwp_base.specs.declared.section.SectionKind.TheVariants.{CuIndex, Str, StrOffsets};
+ghost use Rattle.dwp_base.specs.declared.section.SectionKind.TheVariants.{Info, TuIndex};
+ghost use Rattle.thorin_inputs.specs.InnerStrings.{has_inner_strings, has_row_between, string_size};
+ghost use Rattle.thorin_inputs.specs.InnerStrings.{has_word, most_inner, or_nothing, plain_content};
+ghost use Rattle.thorin_inputs.specs.InnerStrings.{begins_inside, first_content, is_row_between};
+ghost use Rattle.thorin_inputs.specs.InnerStrings.{is_inner, sizes_at, step_by, word_count};
+ghost use Rattle.std.specs.{List.list_any, Option.option_copied};
+ghost use Rattle.dwp_decompress.specs.declared.asked.Asked.TheVariants.{OfUnits};
+ghost use Rattle.dwp_elf_read.specs.{Elf.elf_of, Elf.holds, Elf.is_of, View.elf};
+ghost use Rattle.dwp_index.specs.{Index.row_in, IndexBytes.index_of};
+ghost use Rattle.thorin_inputs.specs.InnerPlaces.{Counts, is_counted, IsSummed, IsWithin};
+ghost use Rattle.thorin_inputs.specs.Overlaps.{each_size, first_size, overlaps, used_size};
 ghost use Rattle.thorin_inputs.specs.UsedSections.{met};
 
 use crate::growth::LEAST_ROOM;
@@ -50,16 +46,14 @@ pub fn has_overlap(bytes: &[u8]) -> bool
     }
 }
 
-/// Whether the compressed sections of a file that `decompress` would make plain have more bytes
-/// than the file.
+/// Whether the compressed sections that `decompress` makes plain have more bytes than their file.
 pub fn has_compressed_overlap(bytes: &[u8]) -> bool
     ensures exact { result ≡ decompressing.overlaps OfUnits bytes.now (elf_of bytes.now) }
 {
     dwp_decompress::overlaps(bytes, Asked::OfUnits)
 }
 
-/// How many bytes the sections of an object or a package have that are used, up to the most that a
-/// `u64` can say.
+/// How many bytes the used sections of an object or a package have, at most what a `u64` can say.
 #[tactic(auto, unfolding(crate::specs::Overlaps::used_size))]
 fn used_size(file: &ElfFile<'_>) -> u64
     ensures { result ≡ min (used_size (elf file.now).sections) (2 ^ 64 - 1) }
@@ -144,10 +138,7 @@ struct InnerStrings<'a> {
 
 /// Whether an object's or a package's strings that begin inside others have more than 16 times the
 /// bytes of the file, and more than `LEAST_ROOM`. All words of its string offsets are looked at,
-/// those of headers too.
-///
-/// # Errors
-/// Want of memory.
+/// those of headers too. Errors: want of memory.
 pub fn has_inner_strings(alloc: Global, bytes: &[u8]) -> Result<bool, AllocError>
     ensures exact { IfOk result (λ has. has ≡ has_inner_strings bytes.now (elf_of bytes.now)) }
 {
@@ -199,6 +190,7 @@ fn step_of(used: UsedSections<'_>, order: Endianness) -> usize
 }
 
 /// Whether the string offsets of some row of an index, if it is one, begin between words.
+#[tactic(auto, using(crate::proofs::InnerPlaces::row_passed))]
 fn has_row_between(index: &[u8], order: Endianness) -> bool
     ensures { result ≡ has_row_between (index_of order index.now) }
 {
@@ -217,13 +209,10 @@ fn has_row_between(index: &[u8], order: Endianness) -> bool
 fn is_row_between(index: &UnitIndex<'_>, number: u32) -> bool
     ensures { result ≡ is_row_between (row_in index.now number) }
 {
-    match index.row(number) {
-        Ok(row) => match row.range(SectionKind::StrOffsets) {
-            Some(range) => range.offset.0 % 4 != 0,
-            None => false,
-        },
-        Err(_) => false,
-    }
+    let Ok(row) = index.row(number) else {
+        return false;
+    };
+    matches!(row.range(SectionKind::StrOffsets), Some(range) if range.offset.0 % 4 != 0)
 }
 
 impl InnerStrings<'_> {
@@ -267,8 +256,7 @@ impl InnerStrings<'_> {
         Ok(false)
     }
 
-    /// Counts the one that begins at a place, unless it is counted. Answers whether they are too
-    /// large then.
+    /// Counts the one that begins at a place, once. Answers whether they are too large then.
     #[inline(never)]
     fn add(&mut self, place: u32) -> Result<bool, AllocError>
         requires { IsWithin self.old }
@@ -305,10 +293,7 @@ fn word_count(size: usize, step: usize) -> usize
 fn begins_inside(strings: &[u8], place: u32) -> bool
     ensures { result ≡ begins_inside strings.now place }
 {
-    match strings.get((place as usize).wrapping_sub(1)) {
-        Some(before) => *before != 0,
-        None => false,
-    }
+    matches!(strings.get((place as usize).wrapping_sub(1)), Some(before) if *before != 0)
 }
 
 /// How many bytes a string has that begins at a place, with the zero byte at its end; those to the
@@ -338,12 +323,10 @@ struct UsedSections<'a> {
 impl<'a> UsedSections<'a> {
     /// Those of a file.
     fn of(file: &ElfFile<'a>) -> UsedSections<'a>
-        ensures strings { option_copied result.strings
-            ≡ first_content Str (elf file.now).sections }
+        ensures strings { option_copied result.strings ≡ first_content Str (elf file.now).sections }
         ensures compilations { option_copied result.compilations
             ≡ first_content CuIndex (elf file.now).sections }
-        ensures types { option_copied result.types
-            ≡ first_content TuIndex (elf file.now).sections }
+        ensures types { option_copied result.types ≡ first_content TuIndex (elf file.now).sections }
         ensures before { list_any (holds StrOffsets)
             (take result.first_offsets (elf file.now).sections) ≡ false }
         ensures behind { list_any (holds StrOffsets)
@@ -374,11 +357,9 @@ impl<'a> UsedSections<'a> {
             ≡ met CuIndex (option_copied self.old.compilations) (view.section section.now) }
         ensures types { option_copied self.new.types
             ≡ met TuIndex (option_copied self.old.types) (view.section section.now) }
-        ensures first { self.new.first_offsets
-            ≡ (if holds StrOffsets (view.section section.now) && self.old.behind_offsets == 0
-            then number else self.old.first_offsets) }
-        ensures behind { self.new.behind_offsets
-            ≡ (if holds StrOffsets (view.section section.now)
+        ensures first { self.new.first_offsets ≡ (if holds StrOffsets (view.section section.now)
+            && self.old.behind_offsets == 0 then number else self.old.first_offsets) }
+        ensures behind { self.new.behind_offsets ≡ (if holds StrOffsets (view.section section.now)
             then number + 1 else self.old.behind_offsets) }
     {
         // (an object has one of these for each type unit)

@@ -1,11 +1,9 @@
 //! Files with plain sections in place of compressed ones, and what is left compressed of them.
 
-ghost use Rattle.std.specs.Prelude.{◌≡◌, Err, IfOk, IfErr, OnOk, false, true};
+ghost use Rattle.std.specs.Prelude.{Err, false, IfErr, IfOk, OnOk, true, ◌≡◌};
 ghost use Rattle.dwp_elf_read.specs.Elf.{elf_of};
-ghost use Rattle.dwp_decompress.specs.Compressed.{HasCompressed};
-ghost use Rattle.dwp_decompress.specs.Result.{decompressed_of};
-ghost use Rattle.dwp_decompress.specs.Sizes.{overlaps};
-ghost use Rattle.dwp_decompress.specs.declared.asked.Asked.TheVariants.{OfUnits};
+ghost use Rattle.dwp_decompress.specs.{declared.asked.Asked.TheVariants.OfUnits, Sizes.overlaps};
+ghost use Rattle.dwp_decompress.specs.{Compressed.HasCompressed, Result.decompressed_of};
 ghost use Rattle.thorin_inputs.specs.Plain.{IsPlain, IsPlainOf, LeavesUnread, or_content};
 ghost use Rattle.thorin_inputs.specs.declared.plain.PlainError.TheVariants.{TooLarge};
 
@@ -42,23 +40,20 @@ impl Compression {
 /// Why a file is still compressed; nothing where it isn't, and where it wasn't to be decompressed.
 impl fmt::Display for Compression {
     fn fmt<W: fmt::Write>(&self, f: &mut fmt::Formatter<W>) -> fmt::Result {
-        match self {
-            Compression::None | Compression::Left => Ok(()),
-            Compression::Overlaps => f.write_str("sections overlap"),
-            Compression::Unread(DecompressError::Zlib(error)) => {
-                write!(f, "by zlib, unreadable: {error}")
-            }
-            Compression::Unread(DecompressError::Zstd(error)) => {
-                write!(f, "by zstd, unreadable: {error}")
-            }
-            Compression::Unread(DecompressError::UnknownType(number)) => {
+        let error = match self {
+            Compression::None | Compression::Left => return Ok(()),
+            Compression::Overlaps => return f.write_str("sections overlap"),
+            Compression::Unread(error) => error,
+        };
+        match error {
+            DecompressError::Zlib(error) => write!(f, "by zlib, unreadable: {error}"),
+            DecompressError::Zstd(error) => write!(f, "by zstd, unreadable: {error}"),
+            DecompressError::UnknownType(number) => {
                 write!(f, "of type {number}, neither zlib's nor zstd's")
             }
-            Compression::Unread(DecompressError::Header) => f.write_str("its header is damaged"),
-            Compression::Unread(DecompressError::Unrepresentable) => {
-                f.write_str(Growth::Plain.note())
-            }
-            Compression::Unread(error) => write!(f, "{error}"),
+            DecompressError::Header => f.write_str("its header is damaged"),
+            DecompressError::Unrepresentable => f.write_str(Growth::Plain.note()),
+            error => write!(f, "{error}"),
         }
     }
 }
@@ -75,11 +70,8 @@ pub enum PlainError {
 }
 
 /// A file with plain sections in place of its compressed ones that readers of units ask for; none
-/// where no such section is compressed.
-///
-/// # Errors
-/// `Unread` where one of them can't be read: the file stays as it is, and who uses that section
-/// refuses it. `TooLarge` or `Memory`.
+/// where no such section is compressed. Errors: `Unread` where one of them can't be read: the file
+/// stays as it is, and who uses that section refuses it. `TooLarge` or `Memory`.
 pub fn plain_of(alloc: Global, file: &[u8]) -> Result<Option<Vec<u8>>, PlainError>
     ensures plain { IfOk result (λ taken. IsPlain file.now (or_content file.now taken)
         (decompressed_of OfUnits file.now)) }
@@ -96,10 +88,7 @@ pub fn plain_of(alloc: Global, file: &[u8]) -> Result<Option<Vec<u8>>, PlainErro
 
 /// Puts plain sections in place of a file's compressed ones, where that is done (`plain_of`). It
 /// stays as it is where one can't be read, where no file can have these, and where the compressed
-/// ones overlap, unless that is allowed. Answers what is left compressed.
-///
-/// # Errors
-/// Want of memory.
+/// ones overlap, unless that is allowed. Answers what is left compressed. Errors: want of memory.
 #[tactic(auto, unfolding(crate::specs::Plain::IsPlainOf))]
 pub fn decompress(
     alloc: Global,
@@ -107,9 +96,8 @@ pub fn decompress(
     allows_overlap: bool,
 ) -> Result<Compression, AllocError>
     ensures plain { OnOk result (IsPlainOf file.old.items file.new.items) }
-    ensures apart { allows_overlap ≡ false
-        → overlaps OfUnits file.old.items (elf_of file.old.items) ≡ true
-        → file.new.items ≡ file.old.items }
+    ensures apart { allows_overlap ≡ false → overlaps OfUnits file.old.items (elf_of file.old.items)
+        ≡ true → file.new.items ≡ file.old.items }
 {
     if !allows_overlap && has_compressed_overlap(file) {
         return Ok(Compression::Overlaps);

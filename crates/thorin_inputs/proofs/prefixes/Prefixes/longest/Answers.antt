@@ -1,33 +1,52 @@
-use Rattle.std.proofs.Common.{◌≡◌, refl, rules}
-use Rattle.std.specs.Prelude.{None}
-use Rattle.thorin_inputs.specs.Prefixes.{replaced}
-use Rattle.thorin_inputs.proofs.Folding.{counted}
-use Rattle.thorin_inputs.proofs.Prefixing.{behind-prefix, not_stripped}
+use Rattle.std.proofs.Common.{arith, length, refl, Some, ◌-◌, ◌<◌, ◌≡◌}
+use Rattle.std.specs.Prelude.{slice_get}
+use Rattle.std.proofs.lemmas.{Grind.common_steps, Option.gets, Option.get_or_from_slice_get}
+use Rattle.thorin_inputs.proofs.{Best.last, Best.none, Fronts.begun, Nested.nested-fewer}
+use Rattle.thorin_inputs.proofs.Fronts.{behind-prefix}
 use Rattle.thorin_inputs.proofs.prefixes.Prefixes.longest.Goals as goal
 
-pub returns-in_err-from : goal.returns-in_err-from
-unfolding replaced
-returns-in_err-from c =
-    let is = counted c.args.self.now.words.now c.args.path.now c.in_ok-counted.field-0
-    (rw c.as_bytes.ensures.value at c.in_ok-counted.ensures) in
-    let none : c.from_residual-in_err-from.result ≡ None = search rules in
-    rw (none, is, c.in_err-from.ensures) refl
+pub past_last-place-requires-clause-nested : goal.past_last-place-requires-clause-nested
+past_last-place-requires-clause-nested c =
+    let it = c.args.self.now in
+    rw (c.deref-2.ensures.value, c.deref-3.ensures.value)
+    (nested-fewer it.last.items it.inner.items (length it.last.items) c.count_upto-count.result
+    it.nested (rw c.deref.ensures.value at c.count_upto-count.ensures.bound))
+
+pub past_last-place-requires-clause-before : goal.past_last-place-requires-clause-before
+past_last-place-requires-clause-before c =
+    rw c.deref-2.ensures.value (rw c.deref.ensures.value at c.count_upto-count.ensures.point).0
+
+pub returns-in_err-checked_sub : goal.returns-in_err-checked_sub
+returns-in_err-checked_sub c =
+    let it = c.args.self.now in
+    rw c.from_residual.ensures (none c.args.path.now it.words.now it.last.items it.are it.ordered
+    _ _ (rw c.deref.ensures.value at c.count_upto-count.ensures.bound)
+    (rw c.deref.ensures.value at c.count_upto-count.ensures.point).1
+    (rw c.deref-2.ensures.value at c.past_last-place.ensures)
+    (omega (arith, c.in_err-checked_sub.ensures)))
 
 pub returns-in_err-strip_prefix : goal.returns-in_err-strip_prefix
-unfolding replaced
 returns-in_err-strip_prefix c =
-    let is = counted c.args.self.now.words.now c.args.path.now c.in_ok-counted.field-0
-    (rw c.as_bytes.ensures.value at c.in_ok-counted.ensures) in
-    let parts = c.in_ok-from.ensures in
-    let none : c.from_residual-in_err-strip_prefix.result ≡ None = search rules in
-    rw (none, is, parts.0, ← parts.1, not_stripped _ _ c.in_err-strip_prefix.ensures.cases)
-    refl
+    let es = c.args.self.now.last.items in
+    let entry = c.in_ok-from.field-0.now in
+    let place = c.past_last-place.result in
+    let at : slice_get es (place - 1) ≡ Some entry = grind (arith, common_steps, gets) in
+    let past = rw c.deref-2.ensures.value at c.past_last-place.ensures in
+    let rest = begun entry.0.now c.args.path.now
+    (rw (get_or_from_slice_get es (place - 1) entry entry at) at
+    (past.fits (place - 1) entry (omega arith) (omega (arith, c.in_ok-checked_sub.ensures)))) in
+    absurd (c.in_err-strip_prefix.ensures.cases rest.0 rest.1)
 
 pub returns : goal.returns
-unfolding replaced
 returns c =
-    let is = counted c.args.self.now.words.now c.args.path.now c.in_ok-counted.field-0
-    (rw c.as_bytes.ensures.value at c.in_ok-counted.ensures) in
-    let parts = c.in_ok-from.ensures in
+    let it = c.args.self.now in
+    let entry = c.in_ok-from.field-0.now in
+    let at : slice_get it.last.items (c.past_last-place.result - 1) ≡ Some entry =
+    grind (arith, common_steps, gets) in
     let cases = c.in_ok-strip_prefix.ensures.cases in
-    rw (is, parts.0, ← parts.1, cases.1.1, ← cases.2, behind-prefix, parts.2) refl
+    last c.args.path.now it.words.now it.last.items it.are it.ordered _ _
+    (rw c.deref.ensures.value at c.count_upto-count.ensures.bound)
+    (rw c.deref.ensures.value at c.count_upto-count.ensures.point).1
+    (rw c.deref-2.ensures.value at c.past_last-place.ensures) entry
+    c.in_ok-strip_prefix.field-0.now (omega (arith, c.in_ok-checked_sub.ensures)) at
+    (rw (cases.1.1, behind-prefix, ← cases.2) refl)
