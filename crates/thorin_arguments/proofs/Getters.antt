@@ -1,14 +1,9 @@
 -- What the getters of the matches give, by their rows.
-use Rattle.std.proofs.Common.{◌≡◌, ◌∙◌, ap, sym, refl, Bool, true, false, Option, Some, None, codes}
-use Rattle.std.specs.Prelude.{unwrap_or}
-use Rattle.std.specs.Option.{option_map_or}
-use Rattle.std.specs.Str.{bytes_eq}
-use Rattle.std.specs.Str.Parse.{ParsesBool}
-use Rattle.std.proofs.lemmas.Slice.Eq.{bytes_eq-Decides}
-use Rattle.clap.specs.Matches.{ReadsOne, one_text}
-use Rattle.clap.specs.Walk.{Text, rows_of}
-use Rattle.clap.specs.declared.parser.matches.Found.{Found}
-use Rattle.clap.proofs.WalkLemmas.{one_text-rows}
+use Rattle.std.proofs.Common.{ap, Bool, codes, false, None, Option, refl, Some, sym, true, ◌∙◌, ◌≡◌}
+use Rattle.std.specs.{Option.option_map_or, Prelude.unwrap_or, Str.bytes_eq, Str.Parse.ParsesBool}
+use Rattle.std.proofs.{lemmas.Bool.false_from_ne_true, lemmas.Slice.Eq.bytes_eq-Decides}
+use Rattle.clap.specs.{Matches.one_text, Matches.ReadsOne, Walk.rows_of, Walk.Text}
+use Rattle.clap.{proofs.WalkLemmas.one_text-rows, specs.declared.parser.matches.Found.Found}
 use Rattle.thorin_arguments.specs.Flags.{is_set}
 
 abbrev is_true : Text → Bool
@@ -18,11 +13,8 @@ by_text : (E : Type 0) (t : Text) (r : Option Bool) → ReadsOne {T = Bool} {E =
     → unwrap_or r false ≡ is_true t
 by_text E t (Some true) h = rw h refl
 by_text E t (Some false) h = rw h refl
-by_text E t None h = go (is_true t) refl
-  where
-    go : (b : Bool) → is_true t ≡ b → false ≡ is_true t
-    go false e = sym e
-    go true e = absurd (h.1.0 ((bytes_eq-Decides t (codes "true")).0 e))
+by_text E t None h = sym (false_from_ne_true (is_true t)
+    (λ e. h.1.0 ((bytes_eq-Decides t (codes "true")).0 e)))
 
 -- a flag, as it is read as a truth value
 pub flag_read : (E : Type 0) (f : Found) (id : Text) (r : Option Bool)

@@ -1,24 +1,17 @@
 -- What comes of reading words by the grammar.
-use Rattle.std.proofs.Common.{◌≡◌, ◌⊎◌, ◌∙◌, ap, sym, refl, inl, inr, Bool, true, false, List, []}
-use Rattle.std.proofs.Common.{ℕ, Option, Some, None, Ok, Err, IsTrue, ◌≢◌, ◌↔◌, is_some, subst}
-use Rattle.std.specs.Borrow.{Bor}
-use Rattle.clap.proofs.OnLiterals.{clap_on_literals}
-use Rattle.clap.proofs.WalkLemmas.{both}
-use Rattle.clap.specs.Faults.{fault_of, is_simple_and_free}
-use Rattle.clap.specs.Kinds.{HasKind, IsAmong}
-use Rattle.clap.specs.Simple.{App, HasMatchesOf, is_simple, matches_of, subcommand_of}
-use Rattle.clap.specs.Simple.{subcommand_rows_of}
-use Rattle.clap.specs.Walk.{Row, Text, rows_of}
-use Rattle.clap.specs.Words.{found_of, kind_of}
-use Rattle.clap.specs.declared.error.Error.{Error}
-use Rattle.clap.specs.declared.error.kind.ErrorKind.{ErrorKind}
 use Rattle.clap.specs.declared.error.kind.ErrorKind.TheVariants as kinds
-use Rattle.clap.specs.declared.parser.matches.ArgMatches.{ArgMatches}
-use Rattle.thorin_arguments.specs.Grammar.{AreMatched, AreMatchesOf}
-use Rattle.thorin_arguments.specs.Grammar.{IsLine, IsText, peer, read_words, thorin}
-use Rattle.thorin_arguments.specs.Peers.{peer_of}
-use Rattle.thorin_arguments.specs.Reading.{AreReadAs, IsReadAs, IsTested, IsUnread, are_wrong}
-use Rattle.thorin_arguments.specs.Whole.{is_of_llvm}
+use Rattle.std.proofs.Common.{ap, Bool, inl, inr, refl, sym, true, [], ℕ, ◌↔◌, ◌∙◌, ◌≡◌, ◌≢◌, ◌⊎◌}
+use Rattle.std.proofs.Common.{Err, false, is_some, IsTrue, List, None, Ok, Option, Some, subst}
+use Rattle.clap.specs.Simple.{App, HasMatchesOf, matches_of, subcommand_of, subcommand_rows_of}
+use Rattle.thorin_arguments.specs.Grammar.{AreMatched, AreMatchesOf, IsLine, IsText, read_words}
+use Rattle.std.specs.Borrow.{Bor}
+use Rattle.clap.proofs.{OnLiterals.clap_on_literals, WalkLemmas.both}
+use Rattle.clap.specs.{declared.error.Error.Error, declared.parser.matches.ArgMatches.ArgMatches}
+use Rattle.clap.specs.{declared.error.kind.ErrorKind.ErrorKind, Faults.is_simple_and_free, Walk.Row}
+use Rattle.clap.specs.{Faults.fault_of, Kinds.HasKind, Simple.is_simple, Walk.Text, Words.found_of}
+use Rattle.clap.specs.{Kinds.IsAmong, Walk.rows_of, Words.kind_of}
+use Rattle.thorin_arguments.specs.{Grammar.peer, Grammar.thorin, Peers.peer_of, Whole.is_of_llvm}
+use Rattle.thorin_arguments.specs.Reading.{are_wrong, AreReadAs, IsReadAs, IsTested, IsUnread}
 use Rattle.thorin_arguments.specs.Asked.{Asks, Call, Does, IsCallBy, IsCallOf, IsStatusOf}
 use Rattle.thorin_arguments.specs.Asked as calls
 
@@ -58,16 +51,6 @@ no_text e is = rw is (λ h. elim h [
 
 module _ (named : Option Text) (app : App) (is : IsLine named app) (line words : List Text)
     (are : AreReadAs named line words) where
-  matched : (m : ArgMatches) → fault_of app words ≡ [] → HasMatchesOf app words m
-      → AreMatchesOf named line (rows_of (found_of m)) (subcommand_rows_of m)
-  matched m none h = record {
-    app = app;
-    line = is;
-    taken = ap (fault_of app) (are app is) ∙ none;
-    rows_are = (h (simple named app is)).0 ∙ ap (matches_of app) (sym (are app is));
-    command_is = (h (simple named app is)).1 ∙ ap (subcommand_of app) (sym (are app is));
-  }
-
   -- matches that are tested
   pub read : (m : ArgMatches)
       → (is_simple_and_free app ≡ true → fault_of app words ≡ []) → HasMatchesOf app words m
@@ -82,24 +65,28 @@ module _ (named : Option Text) (app : App) (is : IsLine named app) (line words :
   )
     where
       fine : AreMatchesOf named line (rows_of (found_of m)) (subcommand_rows_of m)
-      fine = matched m (none (free named app is)) h
+      fine = record {
+        app = app;
+        line = is;
+        taken = ap (fault_of app) (are app is) ∙ none (free named app is);
+        rows_are = (h (simple named app is)).0 ∙ ap (matches_of app) (sym (are app is));
+        command_is = (h (simple named app is)).1 ∙ ap (subcommand_of app) (sym (are app is));
+      }
 
   -- words that weren't read
   pub unread : (e : Error) → (is_simple_and_free app ≡ true → HasKind (fault_of app words) e)
       → IsUnread named line e
   unread e h = elim (h (free named app is)) [
     | inl k ↦ inl k
-    | inr among ↦ go among (is_text (kind_of e))
+    | inr among ↦ (
+        let own : IsAmong (kind_of e) (fault_of app (read_words named app line)) =
+        rw (are app is) among in
+        elim (is_text (kind_of e)) [
+          | inl t ↦ inr (inl (t, (app, is, kind_of e, own, t)))
+          | inr t ↦ inr (inr (t, inl (app, is, kind_of e, own, t)))
+        ]
+        )
   ]
-    where
-      among_own : IsAmong (kind_of e) (fault_of app words)
-          → IsAmong (kind_of e) (fault_of app (read_words named app line))
-      among_own among = rw (are app is) among
-
-      go : IsAmong (kind_of e) (fault_of app words) → IsText (kind_of e) ⊎ (¬ IsText (kind_of e))
-          → IsUnread named line e
-      go among (inl t) = inr (inl (t, (app, is, kind_of e, among_own among, t)))
-      go among (inr t) = inr (inr (t, inl (app, is, kind_of e, among_own among, t)))
 
 -- which errors are of a text that is asked for, by where they are printed
 pub by_stream : (b : Bool) (k : ErrorKind)

@@ -1,12 +1,10 @@
 //! The command lines: their words and texts, and what clap makes of them.
 
-ghost use Rattle.std.specs.Prelude.{◌≡◌, IfOk, Some, option_map, string_bytes};
-ghost use Rattle.clap.specs.Walk.{texts};
-ghost use Rattle.clap.specs.Words.{app_of, new_rule, rule_of};
 ghost use Rattle.thorin_arguments.specs.Grammar as grammar;
-ghost use Rattle.thorin_arguments.specs.Rules.{AreLines, AreLongNames, ArePeerWords, app_in};
-ghost use Rattle.thorin_arguments.specs.Rules.{rule_in};
-ghost use Rattle.thorin_arguments.specs.Versions.{version_with};
+ghost use Rattle.std.specs.Prelude.{IfOk, option_map, Some, string_bytes, ◌≡◌};
+ghost use Rattle.thorin_arguments.specs.Rules.{AreLines, AreLongNames, ArePeerWords, rule_in};
+ghost use Rattle.clap.specs.{Walk.texts, Words.app_of, Words.new_rule, Words.rule_of};
+ghost use Rattle.thorin_arguments.specs.{Rules.app_in, Versions.version_with};
 
 use crate::peers::is_of_llvm;
 use crate::texts::{
@@ -248,8 +246,7 @@ fn peer_words(of_llvm: bool) -> &'static [Word]
     if of_llvm { &PEER } else { &PEER[..17] }
 }
 
-/// What `--version` prints behind the program's name: this version, and the commit where one is
-/// named.
+/// What `--version` prints behind the program's name: this version, and the commit, if any.
 #[tactic(auto, unfolding(crate::specs::Versions::version_with))]
 pub(crate) fn version_with(alloc: Global, version: &str, commit: &str) -> Result<String, AllocError>
     ensures { IfOk result (λ text. string_bytes text ≡ version_with version.now commit.now) }
@@ -341,10 +338,8 @@ pub(crate) fn takers_of(alloc: Global, option: &str) -> Result<String, AllocErro
                 Word::Verbose => "-v",
                 _ => "",
             };
-            match long_name(*word) {
-                Some(long) => option == short || option.strip_prefix("--") == Some(long),
-                None => false,
-            }
+            let long = long_name(*word);
+            long.is_some() && (option == short || option.strip_prefix("--") == long)
         });
         if takes {
             names.push_str(if names.is_empty() { "" } else { ", " })?;

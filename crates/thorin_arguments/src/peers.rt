@@ -1,12 +1,10 @@
 //! The command lines of peers: the names under which the program takes them, and their words, whose
 //! long options may be cut short.
 
-ghost use Rattle.std.specs.Prelude.{◌≡◌, ◌<◌, IfOk, Some, option_map, string_bytes};
-ghost use Rattle.clap.specs.Lexer.{long_of, strip_byte};
-ghost use Rattle.clap.specs.Walk.{texts};
-ghost use Rattle.thorin_arguments.specs.Asked.{words_in};
 ghost use Rattle.thorin_arguments.specs.Peers as peers;
-ghost use Rattle.thorin_arguments.specs.Reading.{AreReadAs};
+ghost use Rattle.std.specs.Prelude.{IfOk, option_map, Some, string_bytes, ◌<◌, ◌≡◌};
+ghost use Rattle.clap.specs.{Lexer.long_of, Lexer.strip_byte, Walk.texts};
+ghost use Rattle.thorin_arguments.specs.{Asked.words_in, Reading.AreReadAs};
 ghost use Rattle.thorin_arguments.specs.Whole as spec;
 
 use crate::command;
@@ -22,13 +20,9 @@ pub fn is_peer(program: &str) -> bool
 {
     let (_folders, name) = cut_at_last(program, '/');
     let (front, last) = cut_at_last(name, '-');
-    if last == "dwp" {
-        return true;
-    }
-    match last.as_bytes().first() {
-        Some(byte) if *byte > 47 && *byte < 58 => cut_at_last(front, '-').1 == "dwp",
-        _ => false,
-    }
+    last == "dwp"
+        || (matches!(last.as_bytes().first(), Some(byte) if *byte > 47 && *byte < 58)
+            && cut_at_last(front, '-').1 == "dwp")
 }
 
 /// What stands before the last of a mark, and behind it; where there is none all is behind it.
@@ -43,8 +37,7 @@ pub(crate) fn cut_at_last(text: &str, mark: char) -> (&str, &str)
     }
 }
 
-/// The words of a line of the peer of this name, as its grammar has them: long options, up to a
-/// word `--`, have whole names.
+/// The words of this peer's line as its grammar has them: long options up to `--` in full.
 pub(crate) fn completed(
     alloc: Global,
     name: &str,

@@ -16,30 +16,23 @@ const ROOM: usize = 0x100_0000;
 const PIECE: usize = 1024;
 
 /// Reads a file whole, into room of its length where the system tells the length, so that it is
-/// held once.
-///
-/// # Errors
-/// That of the read that failed, want of memory by its kind; `Unsupported` for a device.
+/// held once. Errors: that of the read that failed, want of memory by its kind; `Unsupported` for a
+/// device.
 pub fn read(rt: &HostRuntime, path: &str) -> io::Result<Vec<u8>> {
     let mut bytes = Vec::new(rt.alloc());
     read_over(rt, Path::new(path), &mut bytes)?;
     Ok(bytes)
 }
 
-/// Reads a file whole into room that other files were read into before.
-///
-/// # Errors
-/// As those of `read`.
+/// Reads a file whole into room that other files were read into before. Errors: as those of `read`.
 pub fn read_over(rt: &HostRuntime, path: Path<'_>, room: &mut Vec<u8>) -> io::Result<()> {
     let (mut file, len) = opened(rt, path, false)?;
     read_whole(&mut file, len, room)
 }
 
 /// Reads a regular file into such room. One whose length is told as 0 has no bytes and isn't read:
-/// a read of it may wait for ever, as that of a file of `/proc`.
-///
-/// # Errors
-/// As those of `read`; `Unsupported` also for a pipe, a socket and a directory.
+/// a read of it may wait for ever, as that of a file of `/proc`. Errors: as those of `read`;
+/// `Unsupported` also for a pipe, a socket and a directory.
 pub fn read_regular_over(rt: &HostRuntime, path: Path<'_>, room: &mut Vec<u8>) -> io::Result<()> {
     let (mut file, len) = opened(rt, path, true)?;
     room.truncate(0);
@@ -49,10 +42,8 @@ pub fn read_regular_over(rt: &HostRuntime, path: Path<'_>, room: &mut Vec<u8>) -
     Ok(())
 }
 
-/// Tries whether a regular file can be read: a byte of it is, where it has one.
-///
-/// # Errors
-/// As those of `read_regular_over`.
+/// Tries whether a regular file can be read: a byte of it is, where it has one. Errors: as those of
+/// `read_regular_over`.
 pub fn try_regular(rt: &HostRuntime, path: Path<'_>) -> io::Result<()> {
     let (mut file, len) = opened(rt, path, true)?;
     if len > 0 {
@@ -63,10 +54,7 @@ pub fn try_regular(rt: &HostRuntime, path: Path<'_>) -> io::Result<()> {
 }
 
 /// Reads a file whole that has at most `limit` bytes, whatever length the system tells; none where
-/// it has more. No more than one byte past the limit is read.
-///
-/// # Errors
-/// As those of `read`.
+/// it has more. No more than one byte past the limit is read. Errors: as those of `read`.
 pub fn read_within(rt: &HostRuntime, path: &str, limit: u32) -> io::Result<Option<Vec<u8>>>
     ensures { IfOk result (λ read. IfSome read (λ bytes. length bytes.items ≤ limit)) }
 {

@@ -24,10 +24,7 @@ struct Beside {
 
 /// What a file is to hold.
 pub trait FileContents {
-    /// Writes all of it.
-    ///
-    /// # Errors
-    /// Why not all was written.
+    /// Writes all of it. Errors: why not all was written.
     fn write<W: Write>(&self, file: &mut W) -> Result<(), io::Error>;
 }
 
@@ -71,12 +68,10 @@ enum Standing {
 }
 
 /// Writes a file OUT. Where OUT is a regular file, or isn't there, the contents are written under a
-/// name beside it that then becomes OUT: a write that fails leaves OUT as it was. So is the file that
-/// a symbolic link OUT leads to. Anything else, as a device, a pipe or a link to nothing, is written
-/// as it stands, and so is OUT where no file can be made beside it, or where that can't become OUT.
-///
-/// # Errors
-/// `Io` where OUT can't be written, `Memory`.
+/// name beside it that then becomes OUT: a write that fails leaves OUT as it was. So is the file
+/// that a symbolic link OUT leads to. Anything else, as a device, a pipe or a link to nothing, is
+/// written as it stands, and so is OUT where no file can be made beside it, or where that can't
+/// become OUT. Errors: `Io` where OUT can't be written, `Memory`.
 pub fn write<C: FileContents>(
     rt: &HostRuntime,
     contents: &C,

@@ -55,9 +55,7 @@ pub struct Warned<'d> {
 
 /// Writes a package to OUT, where `-` is standard output, then prints the warnings, and hands them
 /// over. Where OUT is a regular file, or isn't there, a write that fails leaves OUT as it was.
-///
-/// # Errors
-/// `Output`, `Line` or `Memory`.
+/// Errors: `Output`, `Line` or `Memory`.
 #[tactic(auto, using(crate::proofs::Puts::warned, crate::proofs::Puts::printed))]
 pub fn write_then_warn<F: FileSystem, O: Write, E: LineOutput>(
     files: &mut F,
@@ -74,9 +72,8 @@ pub fn write_then_warn<F: FileSystem, O: Write, E: LineOutput>(
     ensures begun { OnErr result (Begins F.begun O.contents files.old files.new out.old out.new
         output.now (file_text object.now)) }
     ensures why { IfErr result (IsWhyUnwritten
-        (IsUnwritten F.begun files.old files.new out.old out.new output.now)
-        (IsCutShort O.contents files.old files.new out.old out.new output.now
-        (file_text object.now)) (E.failed err.new)) }
+        (IsUnwritten F.begun files.old files.new out.old out.new output.now) (IsCutShort O.contents
+        files.old files.new out.old out.new output.now (file_text object.now)) (E.failed err.new)) }
 {
     write_package(files, object, output, out)?;
     let text = warnings_text(warned)?;
@@ -97,9 +94,8 @@ fn write_package<F: FileSystem, O: Write>(
     ensures begun { OnErr result (Begins F.begun O.contents files.old files.new out.old out.new
         output.now (file_text object.now)) }
     ensures why { IfErr result (IsWhyUnwritten
-        (IsUnwritten F.begun files.old files.new out.old out.new output.now)
-        (IsCutShort O.contents files.old files.new out.old out.new output.now
-        (file_text object.now)) ⊥) }
+        (IsUnwritten F.begun files.old files.new out.old out.new output.now) (IsCutShort
+        O.contents files.old files.new out.old out.new output.now (file_text object.now)) ⊥) }
 {
     if output != "-" {
         files.write_object(object, output)?;

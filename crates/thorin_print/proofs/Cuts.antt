@@ -1,8 +1,7 @@
 -- Names that are cut.
-use Rattle.std.proofs.Common.{◌≡◌, ℕ, zero, suc, ◌+◌, ◌*◌, ◌-◌, ◌<◌, ◌≤◌, List, ◌++◌, codes, length}
-use Rattle.std.proofs.Common.{drop, slice_range, IsCharBoundary, arith}
-use Rattle.std.proofs.lemmas.Bool.Decides.{nat_tests}
-use Rattle.std.proofs.Math.Nat.{sub-zero}
+use Rattle.std.proofs.Common.{codes, length, List, suc, zero, ℕ, ◌*◌, ◌++◌, ◌+◌, ◌-◌, ◌<◌, ◌≡◌, ◌≤◌}
+use Rattle.std.proofs.Common.{arith, drop, IsCharBoundary, slice_range}
+use Rattle.std.proofs.{lemmas.Bool.Decides.nat_tests, Math.Nat.sub-zero}
 use Rattle.std.specs.Fmt.Cut.{floor_char_boundary}
 use Rattle.thorin_print.specs.Shown.{cut}
 
@@ -19,8 +18,7 @@ unfolding cut
 is_whole end name h = grind (arith, nat_tests)
 
 module _ (end : ℕ) (some : 0 < end) (name front back : List ℕ) (first last : ℕ)
-    (long : 2 * end + 2 < length name)
-    (bound : first ≤ end) (boundary : IsCharBoundary name first)
+    (long : 2 * end + 2 < length name) (bound : first ≤ end) (boundary : IsCharBoundary name first)
     (nearest : (j : ℕ) → first < j → j ≤ end → ¬ (IsCharBoundary name j))
     (bound-2 : last ≤ length name - end) (boundary-2 : IsCharBoundary name last)
     (nearest-2 : (j : ℕ) → last < j → j ≤ length name - end → ¬ (IsCharBoundary name j))

@@ -16,8 +16,7 @@ whole old new bytes h = (length bytes, rw (take_all (length bytes) bytes (omega 
 
 -- all was printed, and the answer is the one that is meant
 pub came : (given : Result ℕ Failure) (text : List ℕ) (old new : Option (List ℕ))
-    → Appends old new text
-    → Comes given (record { printed = text; answer = given }) old new
+    → Appends old new text → Comes given (record { printed = text; answer = given }) old new
 came given text old new h = grind (arith, whole old new text h)
 
 -- nothing was handed over

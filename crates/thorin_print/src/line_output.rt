@@ -1,12 +1,11 @@
 //! What the lines of a command are printed to, and what `pack` tells of its inputs.
 
-ghost use Rattle.std.specs.Prelude.{◌≡◌, ℕ, List, Option, IfErr, IfOk, IfSome, IsTrue, OnOk, false};
-ghost use Rattle.std.specs.Prelude.{string_bytes, ⊤};
+ghost use Rattle.std.specs.Prelude.{IfErr, IfOk, IfSome, IsTrue, List, OnOk, Option, ℕ, ⊤, ◌≡◌};
+ghost use Rattle.std.specs.Prelude.{false, string_bytes};
 ghost use Rattle.std.specs.Io.KnownBytes.{Appends, Keeps};
-ghost use Rattle.thorin_print.specs.Answers.{FailsBy, Prints};
-ghost use Rattle.thorin_print.specs.Failures.{Reports, error_line};
-ghost use Rattle.thorin_print.specs.Told.{taken_line, units, passed_over};
-ghost use Rattle.thorin_print.specs.Watching.{LacksLine};
+ghost use Rattle.thorin_print.specs.{Answers.FailsBy, Answers.Prints, Watching.LacksLine};
+ghost use Rattle.thorin_print.specs.Failures.{error_line, Reports};
+ghost use Rattle.thorin_print.specs.Told.{passed_over, taken_line, units};
 
 use crate::output::{Failure, flush, print};
 use std::alloc::{AllocError, Global};
@@ -22,19 +21,13 @@ pub trait LineOutput {
     // A line couldn't be printed to it.
     ghost failed: { Self → Type 0 };
 
-    /// Prints a text.
-    ///
-    /// # Errors
-    /// `Line` where it doesn't take all; `Memory`.
+    /// Prints a text. Errors: `Line` where it doesn't take all; `Memory`.
     fn print_text(&mut self, text: &str) -> Result<(), Failure>
         ensures printed { Prints text.now (contents self.old) (contents self.new) result }
         ensures blamed { IfErr result (FailsBy (failed self.new)) }
         ensures no_error { OnOk result (failed self.new → failed self.old) };
 
-    /// Hands over what it holds back.
-    ///
-    /// # Errors
-    /// `Line` or `Memory`.
+    /// Hands over what it holds back. Errors: `Line` or `Memory`.
     fn flush_text(&mut self) -> Result<(), Failure>
         ensures kept { Keeps (contents self.old) (contents self.new) }
         ensures blamed { IfErr result (FailsBy (failed self.new)) }
@@ -134,9 +127,7 @@ impl<W: Write> WatchedLines<W> {
 }
 
 /// Tells how many units of an input were added, and how many were passed over, where that is known.
-///
-/// # Errors
-/// `Line` or `Memory`.
+/// Errors: `Line` or `Memory`.
 pub fn tell_taken<E: LineOutput>(
     alloc: Global,
     name: &str,

@@ -1,10 +1,9 @@
 //! What the program prints of failures, and how it prints a text.
 
-ghost use Rattle.std.specs.Prelude.{◌≡◌, IfErr, OnOk, Some};
+ghost use Rattle.std.specs.Prelude.{IfErr, OnOk, Some, ◌≡◌};
+ghost use Rattle.thorin_print.specs.Answers.{exit_status, HasBeginning, IsOfPrinting, Prints};
 ghost use Rattle.std.specs.Io.KnownBytes.{Appends, Keeps};
-ghost use Rattle.thorin_print.specs.Answers.{HasBeginning, Comes, exit_status};
-ghost use Rattle.thorin_print.specs.Answers.{IsOfPrinting, Prints};
-ghost use Rattle.thorin_print.specs.Failures.{failure_text};
+ghost use Rattle.thorin_print.specs.{Answers.Comes, Failures.failure_text};
 ghost use Rattle.thorin_print.specs.declared.output.Failure.TheVariants.{Line, Memory};
 
 use dwp_base::SectionKind;
@@ -125,10 +124,8 @@ pub fn answer<O: Write>(
     given
 }
 
-/// Hands bytes to a writer, in as many writes as it takes.
-///
-/// # Errors
-/// `Line` where it doesn't take all.
+/// Hands bytes to a writer, in as many writes as it takes. Errors: `Line` where it doesn't take
+/// all.
 fn put<O: Write>(bytes: &[u8], out: &mut O) -> Result<(), Failure>
     ensures whole { OnOk result (Appends (O.contents out.old) (O.contents out.new) bytes.now) }
     ensures part { IfErr result (λ failure. (failure ≡ Line)
@@ -152,10 +149,7 @@ fn put<O: Write>(bytes: &[u8], out: &mut O) -> Result<(), Failure>
     Err(Failure::Line)
 }
 
-/// Prints a text.
-///
-/// # Errors
-/// `Line` where the writer doesn't take all.
+/// Prints a text. Errors: `Line` where the writer doesn't take all.
 #[tactic(auto, using(crate::proofs::Printed::begun))]
 pub fn print<O: Write>(text: &str, out: &mut O) -> Result<(), Failure>
     ensures { Prints text.now (O.contents out.old) (O.contents out.new) result }

@@ -82,10 +82,7 @@ fn escape_in(form: Form) -> &'static str
 
 /// A name as it is printed: of one of more than 4,096 bytes the beginning, `..` and the end; each
 /// control character as `\x` and two digits, so that no name forges a line or commands a terminal.
-/// What is spelled so is cut once more.
-///
-/// # Errors
-/// Want of memory.
+/// What is spelled so is cut once more. Errors: want of memory.
 pub fn shown(alloc: Global, name: &str) -> Result<String, AllocError>
     ensures { IfOk result (λ text. string_bytes text ≡ spec.shown name.now) }
 {
@@ -94,9 +91,7 @@ pub fn shown(alloc: Global, name: &str) -> Result<String, AllocError>
 
 /// A name as it is printed in a line that many units may have, so that a long one which they share
 /// isn't printed whole for each: of one of more than 768 bytes the beginning, `..` and the end.
-///
-/// # Errors
-/// Want of memory.
+/// Errors: want of memory.
 pub fn shown_briefly(alloc: Global, name: &str) -> Result<String, AllocError>
     ensures { IfOk result (λ text. string_bytes text ≡ spec.shown_briefly name.now) }
 {

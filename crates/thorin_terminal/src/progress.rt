@@ -13,7 +13,7 @@ pub struct Console<'r, 'e, E> {
 }
 
 /// How far packing is, and when a line tells that.
-#[derive(Clone, Copy)]
+#[derive(Clone, Copy, Default)]
 struct Progress {
     /// When packing began; none where that isn't told.
     start: Option<Instant>,
@@ -34,15 +34,7 @@ impl<'r, 'e, E: Write> Console<'r, 'e, E> {
         Console {
             rt,
             err: Cell::new(Some(err)),
-            progress: Cell::new(Progress {
-                start: None,
-                pause: 0,
-                next: 0,
-                all: None,
-                files: 0,
-                bytes: 0,
-                is_shown: false,
-            }),
+            progress: Cell::new(Progress::default()),
         }
     }
 
@@ -63,10 +55,7 @@ impl<'r, 'e, E: Write> Console<'r, 'e, E> {
         progress.files = progress.files.saturating_add(1);
         progress.bytes = progress.bytes.saturating_add(size as u64);
         self.progress.set(progress);
-        let Some(start) = progress.start else {
-            return;
-        };
-        let Ok(passed) = start.elapsed(self.rt) else {
+        let Some(Ok(passed)) = progress.start.map(|start| start.elapsed(self.rt)) else {
             return;
         };
         let passed = u64::try_from(passed.as_millis()).unwrap_or(u64::MAX);

@@ -1,18 +1,14 @@
 //! Texts out of files and of the command line as they are printed.
 
-ghost use Rattle.std.specs.Prelude.{◌≡◌, ◌++◌, ◌∷◌, [], ◌<◌, IsTrue, string_bytes};
-ghost use Rattle.std.specs.Prelude.{IfOk, OnOk};
+ghost use Rattle.std.specs.Prelude.{◌≡◌, ◌++◌, ◌∷◌, [], ◌<◌, IsTrue, string_bytes, IfOk, OnOk};
 ghost use Rattle.thorin_words.specs.Printed as spec;
 ghost use Rattle.thorin_words.specs.Printed.{control, hex_digit, is_short_control, two_digits};
 
 use std::alloc::{AllocError, Global};
 
-/// A text as it is printed: a control character as `\x` and two digits of its number, a separator of
-/// lines and a mark that turns the direction of a text as `\u` and four, so that no text forges a
-/// line or commands a terminal.
-///
-/// # Errors
-/// Want of memory.
+/// A text as it is printed: a control character as `\x` and two digits of its number, a separator
+/// of lines and a mark that turns the direction of a text as `\u` and four, so that no text forges
+/// a line or commands a terminal. Errors: want of memory.
 pub fn printed(alloc: Global, text: &str) -> Result<String, AllocError>
     ensures { IfOk result (λ printed. string_bytes printed ≡ spec.printed text.now) }
 {
@@ -27,8 +23,7 @@ pub fn printed(alloc: Global, text: &str) -> Result<String, AllocError>
     Ok(shown)
 }
 
-/// Whether a character is a control, a separator of lines or a mark that turns the direction of a
-/// text: none is printed as it is.
+/// Whether a character isn't printed as it is: a control, a line separator, a mark of direction.
 pub fn is_control(c: char) -> bool
     ensures { result ≡ spec.is_control c }
 {
@@ -42,14 +37,10 @@ pub fn is_control(c: char) -> bool
 }
 
 /// Adds such a character by its number: the two digits of a short one behind `short`, or `\u` and
-/// four.
-///
-/// # Errors
-/// Want of memory.
+/// four. Errors: want of memory.
 pub fn push_control(text: &mut String, short: &str, c: char) -> Result<(), AllocError>
     requires { IsTrue (spec.is_control c) }
-    ensures { OnOk result (string_bytes text.new ≡ string_bytes text.old
-        ++ control short.now c) }
+    ensures { OnOk result (string_bytes text.new ≡ string_bytes text.old ++ control short.now c) }
 {
     let number = u32::from(c);
     if is_short_control(number) {
@@ -68,14 +59,10 @@ fn is_short_control(number: u32) -> bool
     number < 32 || (126 < number && number < 160)
 }
 
-/// Adds the two digits of a number.
-///
-/// # Errors
-/// Want of memory.
+/// Adds the two digits of a number. Errors: want of memory.
 pub fn push_digits(text: &mut String, number: u32) -> Result<(), AllocError>
     requires { number < 256 }
-    ensures { OnOk result (string_bytes text.new ≡ string_bytes text.old
-        ++ two_digits number) }
+    ensures { OnOk result (string_bytes text.new ≡ string_bytes text.old ++ two_digits number) }
 {
     push_digit(text, number / 16)?;
     push_digit(text, number % 16)
@@ -84,8 +71,7 @@ pub fn push_digits(text: &mut String, number: u32) -> Result<(), AllocError>
 /// Adds a hexadecimal digit.
 fn push_digit(text: &mut String, digit: u32) -> Result<(), AllocError>
     requires { digit < 16 }
-    ensures { OnOk result (string_bytes text.new ≡ string_bytes text.old
-        ++ hex_digit digit ∷ []) }
+    ensures { OnOk result (string_bytes text.new ≡ string_bytes text.old ++ hex_digit digit ∷ []) }
 {
     let digit = digit as u8;
     let byte = if digit < 10 {

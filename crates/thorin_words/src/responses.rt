@@ -1,11 +1,9 @@
 //! `@FILE` among the words of a command line: a response file, as linkers have it.
 
-ghost use Rattle.std.specs.Prelude.{◌≡◌, ◌≤◌, ◌<◌, ◌+◌, ◌∷◌, [], ℕ, List, Option, map};
-ghost use Rattle.std.specs.Prelude.{length, IfOk, IfErr, OnOk, IfSome, option_map};
-ghost use Rattle.std.specs.Prelude.{Some, string_bytes};
-ghost use Rattle.thorin_words.specs.Responses.{is_among, Answers, AreRead, IsOfReading, IsRead};
-ghost use Rattle.thorin_words.specs.Responses.{Opens, words_in};
-ghost use Rattle.thorin_words.specs.Words.{words_of};
+ghost use Rattle.std.specs.Prelude.{IfOk, List, map, Option, Some, [], ℕ, ◌+◌, ◌<◌, ◌∷◌, ◌≡◌, ◌≤◌};
+ghost use Rattle.std.specs.Prelude.{IfErr, IfSome, length, OnOk, option_map, string_bytes};
+ghost use Rattle.thorin_words.specs.Responses.{Answers, AreRead, is_among, IsOfReading, words_in};
+ghost use Rattle.thorin_words.specs.{Responses.IsRead, Responses.Opens, Words.words_of};
 ghost use Rattle.thorin_words.specs.declared.responses.ResponseError.TheVariants as errors;
 
 use crate::words::next_word;
@@ -16,8 +14,7 @@ use std::str;
 /// How many response files a command line may name, those among them that response files name.
 const MOST_FILES: u32 = 2000;
 
-/// How many bytes these files may have together, each as often as it is named, and those that the
-/// words cost beside.
+/// How many bytes these files, each as often as it is named, and the words beside may cost.
 const MOST_BYTES: u32 = 1 << 26;
 
 /// How many of them may be inside one another.
@@ -36,10 +33,8 @@ pub trait ResponseFiles {
     // By which errors it may fail.
     ghost fails: { Self → List ℕ → ResponseError → Type 0 };
 
-    /// The text of the file of a name, none where there is no such file.
-    ///
-    /// # Errors
-    /// `Unreadable`, `TooLong` where it has more bytes than `most`, `Memory`.
+    /// The text of the file of a name, none where there is no such file. Errors: `Unreadable`,
+    /// `TooLong` where it has more bytes than `most`, `Memory`.
     fn text(&self, name: &str, most: u32) -> Result<Option<Vec<u8>>, ResponseError>
         ensures offered { IfOk result (λ text. offer self.now name.now
             (option_map (λ bytes. bytes.items) text)) }
@@ -94,13 +89,11 @@ struct Allowance {
 
 /// A program's name, and the words of its command line with the words of response files in place of
 /// each `@FILE`. Those of a file may name files again. A name for which there is no file stays a
-/// word.
-///
-/// # Errors
-/// `Inside` where a file is inside itself, `TooDeep` where one is inside 64 others; `Unreadable`
-/// where one that is named can't be read; `TooMany` where more than 2,000 are named; `TooLong` where
-/// one is too long, or all, each as often as it is named, and 32 for each word that stands for
-/// itself, have more than 67,108,864 bytes; `NotUtf8` where a word of one isn't UTF-8; `Memory`.
+/// word. Errors: `Inside` where a file is inside itself, `TooDeep` where one is inside 64 others;
+/// `Unreadable` where one that is named can't be read; `TooMany` where more than 2,000 are named;
+/// `TooLong` where one is too long, or all, each as often as it is named, and 32 for each word that
+/// stands for itself, have more than 67,108,864 bytes; `NotUtf8` where a word of one isn't UTF-8;
+/// `Memory`.
 pub fn expanded<S: AsStr, F: ResponseFiles>(
     alloc: Global,
     files: &F,
@@ -121,6 +114,7 @@ pub fn expanded<S: AsStr, F: ResponseFiles>(
 }
 
 /// A program's name, and no word behind it.
+#[tactic(auto, using(crate::proofs::Standing::alone))]
 fn program_alone(alloc: Global, program: &str) -> Result<Vec<String>, ResponseError>
     ensures alone { IfOk result (λ all. words_in all ≡ program.now ∷ []) }
     ensures cause { IfErr result (λ e. e ≡ errors.Memory) }

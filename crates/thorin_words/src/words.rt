@@ -69,11 +69,9 @@ fn is_mark(byte: u8) -> bool
 
 /// Reads the first word that begins at a place of a text or behind it, into a word's room, and
 /// answers the place behind it; none where there is no more word. Whitespace separates words; a
-/// quotation mark, `'` or `"`, takes what stands up to the next one of its kind into the word, and a
-/// backslash the byte behind it, also between quotation marks. The text's end ends all.
-///
-/// # Errors
-/// Want of memory.
+/// quotation mark, `'` or `"`, takes what stands up to the next one of its kind into the word, and
+/// a backslash the byte behind it, also between quotation marks. The text's end ends all. Errors:
+/// want of memory.
 #[tactic(auto, unfolding(crate::specs::Words::words_of))]
 pub(crate) fn next_word(
     text: &[u8],

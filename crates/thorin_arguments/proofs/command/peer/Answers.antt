@@ -1,10 +1,7 @@
-use Rattle.std.proofs.Common.{◌∙◌, List, [], ap, true}
+use Rattle.std.proofs.Common.{ap, List, true, [], ◌∙◌}
 use Rattle.std.proofs.lemmas.Result.{IfOk-weaker}
-use Rattle.clap.specs.Simple.{app_of_fields}
-use Rattle.clap.specs.Walk.{Rule}
-use Rattle.clap.specs.Words.{App, app_of}
-use Rattle.thorin_arguments.specs.Grammar.{IsPeer, command, peer}
-use Rattle.thorin_arguments.specs.Rules.{shape_in}
+use Rattle.clap.specs.{Simple.app_of_fields, Walk.Rule, Words.App, Words.app_of}
+use Rattle.thorin_arguments.specs.{Grammar.command, Grammar.IsPeer, Grammar.peer, Rules.shape_in}
 use Rattle.thorin_arguments.proofs.command.peer.Goals as goal
 
 pub returns : goal.returns
@@ -25,5 +22,4 @@ returns c =
       subs = [];
     }) words.4)) in
     IfOk-weaker c.bin_name.result _ (λ d. IsPeer c.args.name.now (app_of d))
-    (λ d h. (words.0, words.1, words.2, words.3, ap app_of_fields h.0 ∙ all))
-    c.bin_name.ensures
+    (λ d h. (words.0, words.1, words.2, words.3, ap app_of_fields h.0 ∙ all)) c.bin_name.ensures

@@ -1,8 +1,7 @@
 use Rattle.std.proofs.Common.{rules, arith, refl, ◌∙◌}
 use Rattle.thorin_words.specs.Responses.{words_in}
 use Rattle.thorin_words.proofs.Standing.{begin, onward, ended, stopped_at, filed, inner, refused}
-use Rattle.thorin_words.proofs.Standing.{itself, named, pushed, restored, spoilt}
-use Rattle.thorin_words.proofs.Standing.{unread}
+use Rattle.thorin_words.proofs.Standing.{itself, named, pushed, restored, spoilt, unread}
 use Rattle.thorin_words.proofs.responses.+responses.Goals as goal
 
 pub add_text-loop-word-init : goal.add_text-loop-word-init
@@ -44,8 +43,7 @@ add_word-returns-in_err-open_word-clause-read g t c = λ rest.
     let stop = refused (g.F.ResponseFiles.offer c.args.files.now)
     (g.F.ResponseFiles.fails c.args.files.now) (words_in c.args.names.now) c.args.word.now
     c.args.left c.in_err-open_word.field-0.0 (rw c.as_slice.ensures.value at
-    c.in_err-open_word.ensures)
-    rest in
+    c.in_err-open_word.ensures) rest in
     search rules
 
 pub add_word-returns-in_err-left-in-None-clause-read :
