@@ -1,28 +1,18 @@
 -- Ranges that don't overlap, unless they are the same, and are read alike.
-use Rattle.thorin_check.proofs.Terms.{Abbrev, AllPairs, AreApart, AreApartIn, AreReadAlike, Bool}
-use Rattle.thorin_check.proofs.Terms.{Contains, Contribution, Err, HasRange, HasRanges, Index}
-use Rattle.thorin_check.proofs.Terms.{IsApart, IsLast, IsPermutation, IsSame, List, None, Ok}
-use Rattle.thorin_check.proofs.Terms.{Option, Ranges, ReadError, Result, SectionKind, Some}
-use Rattle.thorin_check.proofs.Terms.{UnitEntry, arith, below_more, by-bool, column_place}
-use Rattle.thorin_check.proofs.Terms.{contribution, false, get_or, get_or_default, inl, inr, length}
-use Rattle.thorin_check.proofs.Terms.{min, nat_eq, nat_le, nat_lt, nat_tests, not, range_in, refl}
-use Rattle.thorin_check.proofs.Terms.{row_in, same_Some, sym, tables_by, take, true, ℕ, ◌&&◌, ◌+◌}
-use Rattle.thorin_check.proofs.Terms.{◌-◌, ◌<◌, ◌^◌, ◌||◌, ◌∙◌, ◌≡◌, ◌≤◌, ◌⊎◌}
-use Rattle.std.proofs.lemmas.List.Elements.{All-more}
-use Rattle.std.proofs.lemmas.List.Sorted.{Contains-permutation}
-use Rattle.dwp_index.specs.Package.{Package, index_for}
-use Rattle.thorin_check.specs.Overlaps.{overlap, row_range, range_by_index, same_range, slot_range}
-use Rattle.thorin_check.specs.declared.overlaps.Placed.{Placed}
+use Rattle.thorin_check.proofs.Terms
+use Terms.{AreApartIn, AreReadAlike, Contribution, get_or_default, IsPermutation, SectionKind, ◌&&◌}
+use Terms.{AllPairs, AreApart, below_more, Contains, HasRanges, nat_tests, tables_by, UnitEntry}
+use Terms.{Abbrev, get_or, HasRange, IsApart, IsLast, IsSame, length, nat_le, Option, range_in, ◌+◌}
+use Terms.{arith, Bool, false, Index, List, nat_lt, None, refl, Some, take, true, ℕ, ◌-◌, ◌<◌, ◌||◌}
+use Terms.{inl, inr, min, not, ◌^◌, ◌∙◌, ◌≡◌, ◌≤◌, ◌⊎◌}
+use Rattle.{dwp_base.proofs.Bools.neither, thorin_check.specs.declared.overlaps.Placed.Placed}
+use Rattle.std.proofs.{lemmas.List.Elements.All-more, lemmas.List.Sorted.Contains-permutation}
+use Rattle.dwp_index.specs.Package.{index_for, Package}
+use Rattle.thorin_check.specs.Overlaps.{overlap, range_by_index, same_range, slot_range}
 
 -- two ranges that are the same, or both absent
 pub one_range : (a b : Option Contribution) → same_range a b ≡ true → a ≡ b
-one_range None None e = refl
-one_range None (Some b) e = absurd cc
-one_range (Some a) None e = absurd cc
-one_range (Some a) (Some b) e = grind (arith, nat_tests)
-
-before_or : (j k : ℕ) → j < k + 1 → (j < k) ⊎ (j ≡ k)
-before_or j k lt = grind arith
+one_range a b e = grind (arith, nat_tests)
 
 -- ---- sorted ranges, gone through
 
@@ -36,188 +26,110 @@ pub record GoneThrough (ranges : List Placed) (i farthest : ℕ)
   pub last : (range : Placed) → IsLast before range → (k : ℕ) × (k + 1 ≡ i)
       × ((d : Placed) → IsSame (get_or ranges k d) range)
 
-module _ (ranges : List Placed) (i farthest : ℕ) (before : Option Placed)
-    (g : GoneThrough ranges i farthest before) (x : Placed) where
-  abbrev pub IsHere : Type 0
-  IsHere = (j : ℕ) (d : Placed) → j < i → IsApart (get_or ranges j d) x
-
-  -- the next range is the same as the last
-  pub same_here : IsLast before x → IsHere
-  same_here is j d lt =
-      let last = g.last x is in
-      let same = last.2 d in
-      let next = last.1 in
-      elim (before_or j last.0 (omega arith)) [
-        | inl less ↦ elim (g.apart j last.0 d less (omega arith)) [
-          | inl alike ↦ inl (alike.0 ∙ same.0, alike.1 ∙ same.1, alike.2 ∙ same.2)
-          | inr behind ↦ inr (rw same.0 at behind)
-        ]
-        | inr this ↦ rw this (inl same)
+-- the next range is the same as the last
+same_here : (ranges : List Placed) (i farthest : ℕ) (before : Option Placed)
+    → GoneThrough ranges i farthest before → (x : Placed) → IsLast before x → (j : ℕ) (d : Placed)
+    → j < i → IsApart (get_or ranges j d) x
+same_here ranges i farthest before g x is j d lt =
+    let last = g.last x is in
+    let same = last.2 d in
+    let next = last.1 in
+    let or : (j < last.0) ⊎ (j ≡ last.0) = grind arith in
+    elim or [
+      | inl less ↦ elim (g.apart j last.0 d less (omega arith)) [
+        | inl alike ↦ inl (alike.0 ∙ same.0, alike.1 ∙ same.1, alike.2 ∙ same.2)
+        | inr behind ↦ inr (rw same.0 at behind)
       ]
-
-  -- it begins behind all
-  pub behind_here : farthest ≤ x.offset → farthest < 2 ^ 64 - 1 → IsHere
-  behind_here le some j d lt =
-      let end = g.ends j d lt in
-      inr (omega arith)
-
--- one more range was gone through
-pub gone_more : (ranges : List Placed) (i : ℕ) (e : Placed) → i < length ranges
-    → (farthest further : ℕ) (before : Option Placed) → GoneThrough ranges i farthest before
-    → ((j : ℕ) (d : Placed) → j < i → IsApart (get_or ranges j d) (get_or ranges i e))
-    → farthest ≤ further
-    → min ((get_or ranges i e).offset + (get_or ranges i e).size) (2 ^ 64 - 1) ≤ further
-    → GoneThrough ranges (i + 1) further (Some (get_or ranges i e))
-gone_more ranges i e lt farthest further before g here more end = record {
-  apart = λ j k d less below. below_more
-      (λ k. j < k → IsApart (get_or ranges j d) (get_or ranges k d)) i
-      (λ k below less. g.apart j k d less below)
-      (λ less. rw (get_or_default ranges i d e lt) (here j d less)) k below less;
-  ends = λ k d below. below_more
-      (λ k. min ((get_or ranges k d).offset + (get_or ranges k d).size) (2 ^ 64 - 1) ≤ further) i
-      (λ k below. let one = g.ends k d below in omega arith)
-      (rw (get_or_default ranges i d e lt) end) k below;
-  last = λ range is. (i, refl, λ d. rw (get_or_default ranges i d e lt) is);
-}
+      | inr this ↦ rw this (inl same)
+    ]
 
 -- a range is the same as the one before, or begins behind all, as its tests tell
 pub is_behind : (twin : Bool) (farthest offset : ℕ)
     → (twin || (nat_le farthest offset && nat_lt farthest (2 ^ 64 - 1))) ≡ true
     → (twin ≡ true) ⊎ ((farthest ≤ offset) × (farthest < 2 ^ 64 - 1))
-is_behind true farthest offset e = inl refl
-is_behind false farthest offset e = inr (grind (arith, nat_tests))
+is_behind twin farthest offset e = grind (arith, nat_tests)
 
+-- one more range was gone through
 pub gone_on : (ranges : List Placed) (i : ℕ) (e : Placed) → i < length ranges
     → (farthest further : ℕ) (before : Option Placed) (any twin behind : Bool)
     → (any ≡ false → GoneThrough ranges i farthest before)
-    → (twin ≡ true → IsLast before (get_or ranges i e))
-    → (behind ≡ true → (twin ≡ true)
-    ⊎ ((farthest ≤ (get_or ranges i e).offset) × (farthest < 2 ^ 64 - 1)))
-    → farthest ≤ further
+    → (twin ≡ true → IsLast before (get_or ranges i e)) → (behind ≡ true → (twin ≡ true)
+    ⊎ ((farthest ≤ (get_or ranges i e).offset) × (farthest < 2 ^ 64 - 1))) → farthest ≤ further
     → min ((get_or ranges i e).offset + (get_or ranges i e).size) (2 ^ 64 - 1) ≤ further
     → (any || not behind) ≡ false → GoneThrough ranges (i + 1) further (Some (get_or ranges i e))
-gone_on ranges i e lt farthest further before false twin true g last goes more end none =
-    gone_more ranges i e lt farthest further before (g refl)
-    (here (goes refl)) more end
-  where
-    here : (twin ≡ true) ⊎ ((farthest ≤ (get_or ranges i e).offset) × (farthest < 2 ^ 64 - 1))
-        → (j : ℕ) (d : Placed) → j < i → IsApart (get_or ranges j d) (get_or ranges i e)
-    here (inl is) = same_here ranges i farthest before (g refl) (get_or ranges i e) (last is)
-    here (inr le) =
-        behind_here ranges i farthest before (g refl) (get_or ranges i e) le.0 le.1
-gone_on ranges i e lt farthest further before false twin false g last goes more end none =
-    absurd cc
-gone_on ranges i e lt farthest further before true twin behind g last goes more end none = absurd cc
+gone_on ranges i e lt farthest further before any twin behind g last goes more end none =
+    let both = neither any (not behind) none in
+    let so_far = g both.0 in
+    let passed : behind ≡ true = grind (arith, both.1) in
+    let here : (j : ℕ) (d : Placed) → j < i → IsApart (get_or ranges j d) (get_or ranges i e) =
+    elim (goes passed) [
+      | inl is ↦ same_here ranges i farthest before so_far (get_or ranges i e) (last is)
+      | inr le ↦ λ j d lt. let end = so_far.ends j d lt in inr (omega (arith, le.0, le.1))
+    ] in
+    record {
+      apart = λ j k d less below. below_more
+          (λ k. j < k → IsApart (get_or ranges j d) (get_or ranges k d)) i
+          (λ k below less. so_far.apart j k d less below)
+          (λ less. rw (get_or_default ranges i d e lt) (here j d less)) k below less;
+      ends = λ k d below. below_more
+          (λ k. min ((get_or ranges k d).offset + (get_or ranges k d).size) (2 ^ 64 - 1) ≤ further)
+          i (λ k below. let one = so_far.ends k d below in omega arith)
+          (rw (get_or_default ranges i d e lt) end) k below;
+      last = λ range is. (i, refl, λ d. rw (get_or_default ranges i d e lt) is);
+    }
 
 -- ---- ranges of slots
 
-begun : (range : Option Contribution) (offset size : ℕ) → contribution offset size ≡ range
-    → (c : Contribution) → range ≡ Some c → 0 < c.size
-begun range offset size e c is = by-bool _ (nat_eq size 0)
-    (λ none. let absent = rw none at e in absurd (let some = absent ∙ is in cc))
-    (λ some. let there = rw some at e in
-    let same = same_Some (record { offset = record { 0 = offset }; size = size }) c (there ∙ is) in
-    rw (← same) (grind (arith, nat_tests)))
-
-range_has : (row : Ranges) (kind : SectionKind) (place : Option ℕ)
-    → column_place row.version row.columns kind ≡ place → (c : Contribution)
-    → range_in row kind ≡ Some c → 0 < c.size
-unfolding range_in
-range_has row kind None column c is = let none = rw column at is in absurd cc
-range_has row kind (Some i) column c is = begun (Some c) _ _ (rw column at is) c refl
-
-row_has : (row : Result Ranges ReadError) (kind : SectionKind) (c : Contribution)
-    → row_range row kind ≡ Some c → 0 < c.size
-row_has (Ok row) kind c is = range_has row kind (column_place row.version row.columns kind) refl c
-    is
-row_has (Err cause) kind c is = absurd cc
-
 index_has : (index : Option Index) (row : ℕ) (kind : SectionKind) (c : Contribution)
     → range_by_index index row kind ≡ Some c → 0 < c.size
-index_has None row kind c is = absurd cc
-index_has (Some index) row kind c is = row_has (row_in index row) kind c is
+unfolding range_in
+index_has index row kind c is = grind (arith, nat_tests)
 
--- two ranges are the same, or one ends where the other begins, or before
-abbrev AreTwoApart : Contribution → Contribution → Type 0
-AreTwoApart a b = ((a.offset.0 ≡ b.offset.0) × (a.size ≡ b.size))
-    ⊎ ((a.offset.0 + a.size ≤ b.offset.0) ⊎ (b.offset.0 + b.size ≤ a.offset.0))
+not_overlap : (p q : Placed) (a b : Contribution) → 0 < a.size → 0 < b.size
+    → p.offset ≡ a.offset.0 → p.size ≡ a.size → q.offset ≡ b.offset.0 → q.size ≡ b.size
+    → IsApart p q ⊎ IsApart q p → overlap (Some a) (Some b) ≡ false
+not_overlap p q a b some more p_at p_of q_at q_of apart = grind (arith, nat_tests)
 
-not_overlap : (a b : Contribution) → 0 < a.size → 0 < b.size → AreTwoApart a b
-    → overlap (Some a) (Some b) ≡ false
-not_overlap a b some more (inl same) =
-    let offset = same.0 in let size = same.1 in grind (arith, nat_tests)
-not_overlap a b some more (inr (inl le)) = grind (arith, nat_tests)
-not_overlap a b some more (inr (inr le)) = grind (arith, nat_tests)
-
-module _ (p q : Placed) (a b : Contribution) (p_at : p.offset ≡ a.offset.0) (p_of : p.size ≡ a.size)
-    (q_at : q.offset ≡ b.offset.0) (q_of : q.size ≡ b.size) where
-  two_apart : IsApart p q → AreTwoApart a b
-  two_apart (inl same) = inl (sym p_at ∙ same.0 ∙ q_at, sym p_of ∙ same.1 ∙ q_of)
-  two_apart (inr le) = inr (inl (rw (← p_at, ← p_of, ← q_at) le))
-
-two_swapped : (a b : Contribution) → AreTwoApart a b → AreTwoApart b a
-two_swapped a b (inl same) = inl (sym same.0, sym same.1)
-two_swapped a b (inr (inl le)) = inr (inr le)
-two_swapped a b (inr (inr le)) = inr (inl le)
-
-module _ (p q : Placed) (a : Contribution) (s t : Option Contribution) (some : 0 < a.size)
-    (p_at : p.offset ≡ a.offset.0) (p_of : p.size ≡ a.size) (q_at : q.offset ≡ a.offset.0)
-    (q_of : q.size ≡ a.size) (p_by : p.tables ≡ s) (q_by : q.tables ≡ t) where
-  read_alike : IsApart p q → s ≡ t
-  read_alike (inl same) = sym p_by ∙ same.2 ∙ q_by
-  read_alike (inr le) = absurd (omega arith)
+read_alike : (p q : Placed) (a : Contribution) (s t : Option Contribution) → 0 < a.size
+    → p.offset ≡ a.offset.0 → p.size ≡ a.size → q.offset ≡ a.offset.0 → q.size ≡ a.size
+    → p.tables ≡ s → q.tables ≡ t → IsApart p q ⊎ IsApart q p → s ≡ t
+read_alike p q a s t some p_at p_of q_at q_of p_by q_by apart = grind (arith)
 
 module _ (pack : Package) (slots : List UnitEntry) (kind : SectionKind) (ranges : List Placed)
     (has : HasRanges pack slots kind ranges) (apart : AllPairs IsApart ranges) where
-  order : (j k : ℕ) → (j < k) ⊎ ((j ≡ k) ⊎ (k < j))
-  order j k = grind arith
-
   -- of two ranges among these one is apart from the other
-  placed_apart : (p q : Placed) → Contains ranges p → Contains ranges q
-      → IsApart p q ⊎ IsApart q p
+  placed_apart : (p q : Placed) → Contains ranges p → Contains ranges q → IsApart p q ⊎ IsApart q p
   placed_apart p q one other =
       let is : get_or ranges one.0 p ≡ p = one.2 in
       let so : get_or ranges other.0 p ≡ q =
       get_or_default ranges other.0 p q other.1 ∙ other.2 in
-      elim (order one.0 other.0) [
+      let or : (one.0 < other.0) ⊎ ((one.0 ≡ other.0) ⊎ (other.0 < one.0)) = grind arith in
+      elim or [
         | inl less ↦ inl (rw (is, so) at (apart one.0 other.0 p less other.1))
         | inr (inl this) ↦ (let alike : p ≡ q = rw (← this, is) at so in
             inl (rw alike (inl (refl, refl, refl))))
         | inr (inr more) ↦ inr (rw (is, so) at (apart other.0 one.0 p more one.1))
       ]
 
-  both_apart : (a b : Contribution) (s t : Option Contribution) → HasRange ranges a s
-      → HasRange ranges b t → AreTwoApart a b
-  both_apart a b s t one other = elim (placed_apart one.0 other.0 one.1 other.1) [
-    | inl apart ↦ two_apart one.0 other.0 a b one.2 one.3 other.2 other.3 apart
-    | inr apart ↦ two_swapped b a
-        (two_apart other.0 one.0 b a other.2 other.3 one.2 one.3 apart)
-  ]
-
-  both_alike : (a : Contribution) (s t : Option Contribution) → 0 < a.size → HasRange ranges a s
-      → HasRange ranges a t → s ≡ t
-  both_alike a s t some one other = elim (placed_apart one.0 other.0 one.1 other.1) [
-    | inl apart ↦ read_alike one.0 other.0 a s t some one.2 one.3 other.2 other.3 one.4 other.4
-        apart
-    | inr apart ↦ sym (read_alike other.0 one.0 a t s some other.2 other.3 one.2 one.3 other.4
-        one.4 apart)
-  ]
-
   slots_by : (a b : UnitEntry) → Contains slots a → Contains slots b → (r s : Option Contribution)
       → slot_range pack a kind ≡ r → slot_range pack b kind ≡ s → overlap r s ≡ false
   slots_by a b is so None s here there = refl
   slots_by a b is so (Some r) None here there = refl
   slots_by a b is so (Some r) (Some s) here there =
-      not_overlap r s (index_has (index_for pack a.object) a.row kind r here)
-      (index_has (index_for pack b.object) b.row kind s there)
-      (both_apart r s _ _ (has a is r here) (has b so s there))
+      let one = has a is r here in
+      let other = has b so s there in
+      not_overlap one.0 other.0 r s (index_has (index_for pack a.object) a.row kind r here)
+      (index_has (index_for pack b.object) b.row kind s there) one.2 one.3 other.2 other.3
+      (placed_apart one.0 other.0 one.1 other.1)
 
   -- two slots that share the bytes of a unit
-  slots_alike : (a b : UnitEntry) → Contains slots a → Contains slots b
-      → AreReadAlike pack kind a b
+  slots_alike : (a b : UnitEntry) → Contains slots a → Contains slots b → AreReadAlike pack kind a b
   slots_alike a b is so units range here there =
-      rw units at (both_alike range _ _ (index_has (index_for pack a.object) a.row kind range here)
-      (has a is range here) (has b so range there))
+      let one = has a is range here in
+      let other = has b so range there in
+      rw units at (read_alike one.0 other.0 range _ _
+      (index_has (index_for pack a.object) a.row kind range here) one.2 one.3 other.2 other.3
+      one.4 other.4 (placed_apart one.0 other.0 one.1 other.1))
 
   pub slots_apart : AreApartIn pack slots kind
   slots_apart a b is so = (
@@ -232,11 +144,10 @@ module _ (pack : Package) (slots : List UnitEntry) (kinds : List SectionKind) (i
       → (any ≡ false → AreApart pack slots (take i kinds))
       → HasRanges pack slots (get_or kinds i d) ranges → (more ≡ false → AllPairs IsApart lent)
       → (any || more) ≡ false → AreApart pack slots (take (i + 1) kinds)
-  apart_on false false ranges lent same before has apart e =
-      All-more (AreApartIn pack slots) kinds i d lt (before refl)
-      (slots_apart pack slots (get_or kinds i d) ranges has (rw same at (apart refl)))
-  apart_on false true ranges lent same before has apart e = absurd cc
-  apart_on true more ranges lent same before has apart e = absurd cc
+  apart_on any more ranges lent same before has apart e =
+      let both = neither any more e in
+      All-more (AreApartIn pack slots) kinds i d lt (before both.0)
+      (slots_apart pack slots (get_or kinds i d) ranges has (rw same at (apart both.1)))
 
 -- ranges in another order
 pub ranges_sorted : (pack : Package) (slots : List UnitEntry) (kind : SectionKind)

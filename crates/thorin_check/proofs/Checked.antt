@@ -1,26 +1,23 @@
 -- What was told of the units that an executable names, and what was checked.
-use Rattle.thorin_check.proofs.Terms.{AreByRow, Bool, Bor, Err, Executables, FailsToRead, Failure}
-use Rattle.thorin_check.proofs.Terms.{FaultValue, Grows, Is, IsFault, IsOfPrinting, List, Listed}
-use Rattle.thorin_check.proofs.Terms.{Named, None, Offer, Ok, OnOk, Option, Outcome, PackageError}
-use Rattle.thorin_check.proofs.Terms.{Prints, Progress, Reading, Result, Some, Tells, TellsOr, Told}
-use Rattle.thorin_check.proofs.Terms.{UnitEntry, append-nil, append_assoc, arith, false}
-use Rattle.thorin_check.proofs.Terms.{fault_count, get_or, has_no_index, inl, inr, length}
-use Rattle.thorin_check.proofs.Terms.{nat_tests, none_grown, of_unit, refl, skeletons_by, subst}
-use Rattle.thorin_check.proofs.Terms.{suc, true, zero, ℕ, [], ◌++◌, ◌+◌, ◌<◌, ◌∷◌, ◌≡◌, ◌≢◌, ◌≤◌}
-use Rattle.dwp_index.specs.Package.{Package, FoundUnit, found, package_of}
-use Rattle.thorin_errors.specs.Answers.{MemoryAside}
-use Rattle.thorin_errors.specs.Errors.{ErrorValue, error_of}
-use Rattle.thorin_errors.specs.declared.error.Error.{Error}
-use Rattle.thorin_errors.specs.declared.error.Error.TheVariants.{Memory}
-use Rattle.thorin_check.specs.Faults.{IsBroken, TellsEnd, TellsListed, TellsNamed, bare_fault}
-use Rattle.thorin_check.specs.Faults.{long_bytes, long_size, longest_path, missing_faults}
-use Rattle.thorin_check.specs.Faults.{missing_text, room_of}
-use Rattle.thorin_check.proofs.Told.{told_as, told_then, stopped_behind, counted_from}
+use Rattle.thorin_check.proofs.Terms
+use Terms.{append_assoc, Executables, Grows, has_no_index, IsOfPrinting, PackageError, skeletons_by}
+use Terms.{append-nil, Bool, FailsToRead, fault_count, FaultValue, nat_tests, none_grown, UnitEntry}
+use Terms.{AreByRow, Failure, get_or, IsFault, Listed, of_unit, Outcome, Progress, Reading, TellsOr}
+use Terms.{arith, false, Is, length, List, Named, Offer, Option, Prints, Result, subst, Tells, ◌++◌}
+use Terms.{Bor, Err, inl, None, OnOk, refl, Some, Told, true, zero, ℕ, ◌+◌, ◌<◌, ◌∷◌, ◌≡◌, ◌≢◌, ◌≤◌}
+use Terms.{inr, Ok, suc, []}
+use Rattle.thorin_check.specs.Faults.{longest_path, missing_faults, missing_text, TellsListed}
+use Rattle.thorin_check.specs.Faults.{bare_fault, IsBroken, long_bytes, long_size, TellsNamed}
+use Rattle.thorin_check.specs.Faults.{room_of, TellsEnd}
+use Rattle.thorin_check.specs.Checking.{ChecksIndexed, IsOfChecking, TellsExecutable, TellsPackage}
+use Rattle.thorin_check.specs.Checking.{Checks, FailsOne, Finishes, IsOfReading}
+use Rattle.dwp_index.specs.Package.{found, FoundUnit, Package, package_of}
+use Rattle.thorin_errors.specs.{declared.error.Error.Error, declared.error.Error.TheVariants.Memory}
+use Rattle.thorin_errors.specs.{Answers.MemoryAside, Errors.error_of, Errors.ErrorValue}
+use Rattle.thorin_check.proofs.Told.{counted_from, stopped_behind, told_as, told_then}
 use Rattle.std.specs.declared.io.Error.{Error as IoError}
 use Rattle.std.proofs.KnownBytes.{Appends-trans, Keeps-refl}
-use Rattle.thorin_check.specs.Checking.{Checks, ChecksIndexed, FailsOne, Finishes, IsOfChecking}
-use Rattle.thorin_check.specs.Checking.{IsOfReading, TellsExecutable, TellsPackage}
-use Rattle.thorin_check.proofs.Sound.{no_fault_told, no_fault, some_fault}
+use Rattle.thorin_check.proofs.Sound.{no_fault, no_fault_told, some_fault}
 use Rattle.thorin_print.specs.declared.output.Failure.TheVariants as failures
 
 module _ (executable : List ℕ) (named : Named)
@@ -33,23 +30,15 @@ module _ (executable : List ℕ) (named : Named)
       → [] ≡ missing_faults executable named looked
   missing_unread cause e = rw e refl
 
-  pub missing_none : looked ≡ Ok None → (text : List ℕ)
-      → text ≡ missing_text executable named.1
+  pub missing_none : looked ≡ Ok None → (text : List ℕ) → text ≡ missing_text executable named.1
       → of_unit named.0 text ∷ [] ≡ missing_faults executable named looked
   missing_none e text is = rw (e, is) refl
-
-long_is : (path : List ℕ) → longest_path < length path → long_size path ≡ length path
-long_is path long = grind (arith, nat_tests)
 
 -- the end behind one more, that takes some room
 end_behind : (executable : List ℕ) (room less : ℕ) (x : Named) (first : List Named)
     (left : Listed) (faults : List FaultValue) → room ≤ less + long_size x.1
     → TellsEnd executable less first left faults → TellsEnd executable room (x ∷ first) left faults
-end_behind executable room less x first ([], None) faults fits h = h
-end_behind executable room less x first ([], Some error) faults fits h = h
-end_behind executable room less x first (named ∷ left, end) faults fits h =
-    let over : less < long_bytes (first ++ (named ∷ [])) = h.1 in
-    (h.0, omega (arith, over, fits), h.2)
+end_behind executable room less x first left faults fits h = grind (arith)
 
 module _ (pack : Package) (executable : List ℕ) where
   -- no unit is left, but the end
@@ -85,7 +74,7 @@ module _ (pack : Package) (executable : List ℕ) where
       → longest_path < length first.1 → room < length first.1 → IsBroken executable faults
       → TellsListed pack executable room (first ∷ after.0, after.1) faults
   long_first room first after faults long over broken =
-      let size = long_is first.1 long in
+      let size : long_size first.1 ≡ length first.1 = grind (arith, nat_tests) in
       let all : room < long_bytes (first ∷ []) = omega (arith, size, over) in
       record {
         first = [];
@@ -143,8 +132,7 @@ module _ (pack : Package) (executable : List ℕ) where
       on_broken false error e ls ms h broken = h ms (at_end room left ms e broken)
 
       pub broken_behind : (is_first : Bool) {a b : Progress} (c : Progress) (error : Error)
-          (result : Outcome)
-          → Told (GoesOn is_first room left) a b
+          (result : Outcome) → Told (GoesOn is_first room left) a b
           → MemoryAside error (left ≡ ([], Some (error_of error)))
           → OnOk result (error ≢ Memory) → Tells (IsBroken executable) b c result
           → Tells (TellsNamed pack executable whole all) a c result
@@ -161,11 +149,6 @@ module _ (pack : Package) (executable : List ℕ) where
   named_broken room listed a b error (Ok done) aside known h = rw (aside known)
       (told_as h (λ faults broken. at_end room ([], Some (error_of error)) faults refl broken))
   named_broken room listed a b error (Err failure) aside known h = h
-
--- one that was left is left no more
-pub left_shorter : (left after : Listed) (first : Named) → left ≡ (first ∷ after.0, after.1)
-    → length after.0 < length left.0
-left_shorter left after first e = rw e (omega arith)
 
 module _ (offer : Offer) where
   -- ---- failures
@@ -196,8 +179,7 @@ module _ (offer : Offer) where
       (a b : Progress) (result : Outcome) (bytes lent : List ℕ) → offer executable (Ok bytes)
       → lent ≡ bytes
       → Tells (TellsNamed pack executable (room_of lent) (skeletons_by reading.nameless lent)) a b
-      result
-      → TellsOr (IsOfReading offer executable)
+      result → TellsOr (IsOfReading offer executable)
       (TellsExecutable offer reading pack executable) a b result
   executable_read reading pack executable a b (Ok done) bytes lent read same t =
       told_as t (λ faults k. record { bytes = bytes; read = read; tells = rw same at k })
@@ -244,8 +226,7 @@ module _ (offer : Offer) (executables : Executables) where
   module _ (path bytes lent : List ℕ) (read : offer path (Ok bytes)) (same : lent ≡ bytes) where
     pub file_checked : (pack : Package) (a c : Option (List ℕ)) (result : Result ℕ Failure)
         (b : Bool) → package_of lent ≡ Ok pack → b ≡ has_no_index pack → b ≡ false
-        → ChecksIndexed offer executables pack a c result
-        → Checks offer path executables a c result
+        → ChecksIndexed offer executables pack a c result → Checks offer path executables a c result
     unfolding Checks
     file_checked pack a c result b is e f h = inl (bytes, read, rw (← same, is, ← e, f) h)
 
@@ -263,7 +244,6 @@ module _ (offer : Offer) (executables : Executables) where
 
   -- it can't be read, or there is no memory
   pub not_checked : (path : List ℕ) (a : Option (List ℕ)) (failure : Failure)
-      → FailsToRead offer path failure
-      → Checks offer path executables a a (Err failure)
+      → FailsToRead offer path failure → Checks offer path executables a a (Err failure)
   unfolding Checks
   not_checked path a failure h = inr (h, Keeps-refl a)

@@ -1,34 +1,22 @@
 -- Units that are told of, one of each range of string offsets.
-use Rattle.thorin_check.proofs.Terms.{All, AllPairs, AreApart, Bool, DwarfObject, Err, FaultValue}
-use Rattle.thorin_check.proofs.Terms.{ForEach, Global, IfOk, IsGathered, IsGatheredIn, IsOfUnit}
-use Rattle.thorin_check.proofs.Terms.{IsPermutation, IsSeen, IsTextOf, List, None, Ok, OnOk, Option}
-use Rattle.thorin_check.proofs.Terms.{Outcome, PackageError, Progress, Result, Some, String}
-use Rattle.thorin_check.proofs.Terms.{StringRange, Tells, TellsSeen, TellsText, Told, UnitEntry}
-use Rattle.thorin_check.proofs.Terms.{arith, contribution_kinds, false, get_or, length, nat_eq}
-use Rattle.thorin_check.proofs.Terms.{nat_tests, refl, same-ok, same_Some, sym, take, take_all, ℕ}
-use Rattle.thorin_check.proofs.Terms.{[], ◌&&◌, ◌++◌, ◌+◌, ◌<◌, ◌∙◌, ◌∷◌, ◌≡◌, ◌≤◌}
-use Rattle.std.proofs.lemmas.List.Elements.{All-contains, All-get_or, All-more, All-nil, All-push}
-use Rattle.std.proofs.lemmas.List.Elements.{All-weaker, Contains-append_left, Contains-push}
+use Rattle.thorin_check.proofs.Terms
+use Terms.{contribution_kinds, DwarfObject, IsGatheredIn, IsPermutation, PackageError, StringRange}
+use Terms.{AllPairs, FaultValue, IsGathered, nat_tests, same_Some, TellsSeen, TellsText, UnitEntry}
+use Terms.{All, AreApart, ForEach, get_or, IsOfUnit, IsTextOf, Outcome, Progress, same-ok, take_all}
+use Terms.{arith, Bool, false, Global, IsSeen, length, nat_eq, Option, Result, String, Tells, ◌&&◌}
+use Terms.{Err, IfOk, List, None, OnOk, refl, Some, take, Told, ◌++◌, ◌+◌, ◌<◌, ◌∙◌, ◌∷◌, ◌≡◌, ◌≤◌}
+use Terms.{Ok, sym, [], ℕ}
+use Rattle.std.proofs.lemmas.List.Elements.{All-get_or, All-more, All-nil, All-push, All-weaker}
+use Rattle.std.proofs.lemmas.List.Elements.{All-contains, Contains-append_left, Contains-push}
 use Rattle.std.proofs.lemmas.List.Quantifiers.{all_pairs_push}
 use Rattle.std.proofs.lemmas.List.Sorted.{Contains-permutation}
-use Rattle.dwp_index.specs.Package.{Package, FoundUnit, found}
-use Rattle.thorin_check.specs.Checking.{TellsStringsOfAll, TellsSlot, TellsSlots, TellsUnits}
-use Rattle.thorin_check.specs.Gathered.{TellsListed, Listed, GoesOn}
-use Rattle.thorin_check.specs.Faults.{TellsStringsOf, TellsUnit}
-use Rattle.thorin_check.specs.Strings.{number_of, IsBehind, HasOffsets, ShareNone, IsRangeOfOne}
-use Rattle.thorin_check.specs.declared.units.Seen.{Seen}
+use Rattle.dwp_index.specs.Package.{found, FoundUnit, Package}
+use Rattle.thorin_check.specs.Checking.{TellsSlot, TellsSlots, TellsStringsOfAll, TellsUnits}
+use Rattle.thorin_check.specs.Gathered.{GoesOn, Listed, TellsListed}
+use Rattle.thorin_check.specs.{declared.units.Seen.Seen, Faults.TellsStringsOf, Faults.TellsUnit}
+use Rattle.thorin_check.specs.Strings.{HasOffsets, IsBehind, IsRangeOfOne, number_of, ShareNone}
 use Rattle.thorin_check.proofs.SharedStrings.{has_strings}
-use Rattle.thorin_check.proofs.Told.{told_as, tells_as, in_turn, for_each_more, told_next}
-
-among_more : (pack : Package) (objects more : List DwarfObject) (range : StringRange)
-    → IsRangeOfOne pack objects range → IsRangeOfOne pack (objects ++ more) range
-among_more pack objects more range one = record {
-  object = one.object;
-  is_one = Contains-append_left objects more one.object one.is_one;
-  unit = one.unit;
-  is_found = one.is_found;
-  is_range = one.is_range;
-}
+use Rattle.thorin_check.proofs.Told.{for_each_more, in_turn, tells_as, told_as, told_next}
 
 -- a unit has no string offsets behind some, if there are some
 abbrev pub IsUpTo : Package → Option StringRange → DwarfObject → Type 0
@@ -50,9 +38,6 @@ module _ (pack : Package) (range : StringRange) (object : DwarfObject)
       → IsUpTo pack before other → IsUpTo pack (Some range) other
   up_to_next None behind other up = absurd up
   up_to_next (Some last) behind other up = λ has is. let le = up has is in omega arith
-
-  up_to_this : IsUpTo pack (Some range) object
-  up_to_this has is = rw (one_range pack object has range is this) (omega arith)
 
   shares_none : (before : Option StringRange) → IsBehind before range → (other : DwarfObject)
       → IsUpTo pack before other → ShareNone pack other object
@@ -91,15 +76,9 @@ module _ (pack : Package) (listed : Listed) where
     -- those of the next one have the range before
     pub first_again : before ≡ Some (get_or listed i e).0 → (faults : List FaultValue)
         → TellsFirst i before faults → TellsFirst (i + 1) before faults
-    first_again same faults t = record {
-      objects = t.objects;
-      once = t.once;
-      up_to = t.up_to;
-      last = t.last;
-      told = t.told;
-      others = All-more (IsOneOf t.objects) listed i e lt t.others
-          (t.last (get_or listed i e).0 same);
-    }
+    first_again same faults t =
+        let others = All-more (IsOneOf t.objects) listed i e lt t.others
+        (t.last (get_or listed i e).0 same) in grind (arith, others)
 
     -- those of the next one were told of
     pub first_more : (are : All (IsOfUnit pack) listed) → IsBehind before (get_or listed i e).0
@@ -125,13 +104,14 @@ module _ (pack : Package) (listed : Listed) where
           up_to = All-push (IsUpTo pack (Some range)) t.objects object
               (All-weaker (IsUpTo pack before) (IsUpTo pack (Some range))
               (up_to_next pack range object is before behind) t.objects t.up_to)
-              (up_to_this pack range object is);
+              (λ has there. rw (one_range pack object has range there is) (omega arith));
           last = λ other e. rw (← same_Some range other e) here;
           told = for_each_more (λ object. TellsStringsOf object (found pack object)) t.objects
               object faults more t.told told;
           others = All-more (IsOneOf (t.objects ++ (object ∷ []))) listed i e lt
               (All-weaker (IsOneOf t.objects) (IsOneOf (t.objects ++ (object ∷ [])))
-              (λ one. among_more pack t.objects (object ∷ []) one.0) (take i listed) t.others) here;
+              (λ one h. let is = Contains-append_left t.objects (object ∷ []) h.object h.is_one in
+              grind (arith)) (take i listed) t.others) here;
         }
 
   pub first_all : (i : ℕ) (before : Option StringRange) → length listed ≤ i
@@ -162,13 +142,8 @@ for_each_weaker : {X : Type 0} (P Q : X → List FaultValue → Type 0)
     → ((x : X) (faults : List FaultValue) → P x faults → Q x faults) → (xs : List X)
     → (faults : List FaultValue) → ForEach P xs faults → ForEach Q xs faults
 for_each_weaker P Q goes [] faults h = h
-for_each_weaker P Q goes (x ∷ xs) faults h = record {
-  first = h.first;
-  rest = h.rest;
-  is_first = goes x h.first h.is_first;
-  is_rest = for_each_weaker P Q goes xs h.rest h.is_rest;
-  all = h.all;
-}
+for_each_weaker P Q goes (x ∷ xs) faults h =
+    grind (arith, goes x h.first h.is_first, for_each_weaker P Q goes xs h.rest h.is_rest)
 
 -- what is told of the units of slots; where that is nothing, none of their ranges clash
 abbrev pub TellsUnitsOnly : Package → Listed → List UnitEntry → List FaultValue → Type 0
@@ -190,28 +165,20 @@ units_then pack entries listed faults more units strings = (
                   (found pack entry.object) refl (t.1 none),
             )) entries faults units.0,
         units.1,
-      )
-      strings.told,
+      ) strings.told,
 )
-
-by_count : (any : Bool) (m n : ℕ) → (any && nat_eq n m) ≡ false → n ≡ m → any ≡ false
-by_count any m n e same = grind (arith, nat_tests)
 
 -- nothing was told of units, so the number of faults stayed
 module _ (pack : Package) (entries : List UnitEntry) (listed : Listed) (any : Bool) where
-  pub units_apart : {a b : Progress}
-      → (any ≡ false → AreApart pack entries contribution_kinds)
+  pub units_apart : {a b : Progress} → (any ≡ false → AreApart pack entries contribution_kinds)
       → (any && nat_eq b.count a.count) ≡ false → Told (ForEach (TellsSeen pack listed) entries) a b
       → Told (TellsUnitsOnly pack listed entries) a b
-  units_apart {a} {b} apart not_all t = record {
-    faults = t.faults;
-    are = (t.are, λ none. apart (by_count any a.count b.count not_all (rw none at t.counted)));
-    handed = t.handed;
-    added = t.added;
-    split = t.split;
-    counted = t.counted;
-    formed = t.formed;
-  }
+  units_apart {a} {b} apart not_all t =
+      let none = λ (none : t.faults ≡ []).
+      let same : b.count ≡ a.count = rw none at t.counted in
+      apart (grind (arith, nat_tests)) in
+      let are : TellsUnitsOnly pack listed entries t.faults = (t.are, none) in
+      grind (arith)
 
 -- ---- units that are gone through
 
@@ -223,8 +190,7 @@ stays_seen pack seen is = record { seen = is; kept = λ range there. there }
 pub text_made : {E : Type 0} {P : Type 0} (object : DwarfObject)
     (text : Result (Option (String Global)) E) (a b : Progress) → OnOk text P
     → TellsText object text a b (Ok tt) → P
-text_made object (Ok text) a b is h = is
-text_made object (Err cause) a b is h = absurd (let e = h.0 in cc)
+text_made object text a b is h = grind (arith)
 
 module _ (pack : Package) where
   pub text_seen : {E : Type 0} (listed : Listed) (entry : UnitEntry)

@@ -1,29 +1,20 @@
 -- The rows that no slot names.
-use Rattle.thorin_check.proofs.Terms.{All, Bool, Compilation, Contains, DebugTypeSignature}
-use Rattle.thorin_check.proofs.Terms.{DwarfObject, FaultValue, Global, IfOk, Is, IsFault}
-use Rattle.thorin_check.proofs.Terms.{IsOfPrinting, IsSortedByKey, List, Outcome, Progress, Result}
-use Rattle.thorin_check.proofs.Terms.{String, Tells, TellsWhat, Told, TypeUnit, UnitEntry, arith}
-use Rattle.thorin_check.proofs.Terms.{below_more, false, get_or, get_or_default, inl, inr, length}
-use Rattle.thorin_check.proofs.Terms.{map, map-append, nat_tests, place_by, place_of_line}
-use Rattle.thorin_check.proofs.Terms.{range_with_len, refl, string_bytes, sym, true, ℕ, [], ◌++◌}
-use Rattle.thorin_check.proofs.Terms.{◌+◌, ◌-◌, ◌<◌, ◌∙◌, ◌∷◌, ◌≡◌, ◌≤◌, ◌⊎◌}
-use Rattle.std.specs.Ordering.{nat_cmp}
-use Rattle.std.proofs.lemmas.List.Elements.{All-append, All-from_get_or, All-nil}
-use Rattle.std.proofs.lemmas.List.Elements.{Contains-append_left, Contains-append_right}
-use Rattle.std.proofs.lemmas.List.Elements.{Contains-get_or}
-use Rattle.std.proofs.lemmas.List.FromFn.{get_or-range_with_len, length-range_with_len}
-use Rattle.std.proofs.lemmas.List.FromFn.{map-range_with_len_more}
-use Rattle.std.proofs.lemmas.List.Sorted.{IsNonDecreasingBy-from_sort}
-use Rattle.dwp_base.proofs.Bools.{both}
-use Rattle.dwp_table.specs.declared.object.DwoId.{DwoId}
-use Rattle.thorin_check.specs.Faults.{IsNamed, IsUnnamed, TellsRowsOf, is_next, is_of, row_fault}
-use Rattle.thorin_check.specs.Faults.{row_faults, row_text}
-use Rattle.thorin_check.proofs.Told.{what_told, none_told, then_or, told_then, told_as}
+use Rattle.thorin_check.proofs.Terms
+use Terms.{get_or_default, IsOfPrinting, IsSortedByKey, place_of_line, range_with_len, string_bytes}
+use Terms.{below_more, DwarfObject, FaultValue, get_or, map-append, nat_tests, TellsWhat, UnitEntry}
+use Terms.{arith, Contains, Global, IsFault, length, Outcome, place_by, Progress, Result, String, ℕ}
+use Terms.{All, Bool, false, IfOk, Is, List, refl, Tells, Told, true, ◌++◌, ◌+◌, ◌-◌, ◌<◌, ◌∙◌, ◌∷◌}
+use Terms.{inl, inr, map, sym, [], ◌≡◌, ◌≤◌, ◌⊎◌}
+use Rattle.std.proofs.lemmas.List.Elements.{All-append, Contains-append_left, Contains-append_right}
+use Rattle.std.proofs.lemmas.List.Elements.{All-from_get_or, All-nil, Contains-get_or}
+use Rattle.std.proofs.lemmas.List.FromFn.{get_or-range_with_len, map-range_with_len_more}
+use Rattle.thorin_check.specs.Faults.{IsUnnamed, row_fault, row_faults, row_text, TellsRowsOf}
+use Rattle.thorin_check.specs.Faults.{is_next, is_of, IsNamed}
+use Rattle.std.{proofs.lemmas.List.FromFn.length-range_with_len, specs.Ordering.nat_cmp}
+use Rattle.{dwp_base.proofs.Bools.both, std.proofs.lemmas.List.Sorted.IsNonDecreasingBy-from_sort}
+use Rattle.thorin_check.proofs.Told.{none_told, then_or, told_as, told_then, what_told}
 
 -- ---- rows that are told one after the other
-
-nothing_from : (kind : List ℕ) (first : ℕ) → [] ≡ row_faults kind first first
-nothing_from kind first = let none : first - first ≡ 0 = omega arith in rw none refl
 
 rows_more : (kind : List ℕ) (first row : ℕ) → first ≤ row
     → row_faults kind first (row + 1) ≡ row_faults kind first row ++ (row_fault kind row ∷ [])
@@ -33,7 +24,8 @@ rows_more kind first row le =
 
 pub rows_none : (kind : List ℕ) (first : ℕ) (a : Progress)
     → Told (Is (row_faults kind first first)) a a
-rows_none kind first a = none_told (Is (row_faults kind first first)) (nothing_from kind first) a
+rows_none kind first a = none_told (Is (row_faults kind first first))
+    (let none : first - first ≡ 0 = omega arith in rw none refl) a
 
 -- one more row, of which a text was made
 pub row_or : {E : Type 0} (kind : List ℕ) (first row : ℕ) {a b : Progress} (c : Progress)
@@ -49,22 +41,9 @@ row_or kind first row {a} {b} c text result le p e q =
 
 -- ---- slots in the order of their rows
 
--- what holds of two compilation units and of two type units
-pub of_one_kind : (P : Bool → DwarfObject → DwarfObject → Type 0)
-    → ((x y : DwoId) → P false (Compilation x) (Compilation y))
-    → ((x y : DebugTypeSignature) → P true (TypeUnit x) (TypeUnit y)) → (is_types : Bool)
-    → (a b : DwarfObject) → is_of is_types a ≡ true → is_of is_types b ≡ true → P is_types a b
-of_one_kind P cu tu false (Compilation x) (Compilation y) is so = cu x y
-of_one_kind P cu tu false (Compilation x) (TypeUnit y) is so = absurd cc
-of_one_kind P cu tu false (TypeUnit x) b is so = absurd cc
-of_one_kind P cu tu true (TypeUnit x) (TypeUnit y) is so = tu x y
-of_one_kind P cu tu true (TypeUnit x) (Compilation y) is so = absurd cc
-of_one_kind P cu tu true (Compilation x) b is so = absurd cc
-
 le_of : (m n : ℕ) (is_types : Bool) (a b : DwarfObject) → is_of is_types a ≡ true
     → is_of is_types b ≡ true → place_by a m ≤ place_by b n → m ≤ n
-le_of m n = of_one_kind (λ is_types a b. place_by a m ≤ place_by b n → m ≤ n) (λ x y le. le)
-    (λ x y le. omega arith)
+le_of m n is_types a b is so le = grind (arith)
 
 module _ (kind : List ℕ) (is_types : Bool) (end : ℕ) (slots : List UnitEntry) where
   -- a slot of the index names a row before the next, or none of its rows
@@ -98,29 +77,9 @@ module _ (kind : List ℕ) (is_types : Bool) (end : ℕ) (slots : List UnitEntry
     within = omega arith;
   }
 
-  past_on : (next later : ℕ) (slot : UnitEntry) → next ≤ later → IsPast next slot
-      → IsPast later slot
-  past_on next later slot le h is = elim (h is) [
-    | inl lt ↦ inl (omega arith)
-    | inr past ↦ inr past
-  ]
-
   passed_by : (next : ℕ) (slot : UnitEntry) → is_next is_types end slot next ≡ false
       → IsPast next slot
   passed_by next slot e is = grind (arith, nat_tests)
-
-  pub covers_past : (i next : ℕ) (e : UnitEntry) (faults : List FaultValue) → i < length slots
-      → is_next is_types end (get_or slots i e) next ≡ false → Covers i next faults
-      → Covers (i + 1) next faults
-  covers_past i next e faults lt past c = record {
-    before = c.before;
-    past = λ k d below. below_more (λ k. (d : UnitEntry) → IsPast next (get_or slots k d)) i
-        (λ k h d. c.past k d h)
-        (λ d. rw (get_or_default slots i d e lt) (passed_by next (get_or slots i e) past)) k below
-        d;
-    some = c.some;
-    within = c.within;
-  }
 
   -- no slot names a row from the next up to that of a slot, or up to the end
   module _ (i next last : ℕ) (faults : List FaultValue) (c : Covers i next faults)
@@ -143,37 +102,30 @@ module _ (kind : List ℕ) (is_types : Bool) (end : ℕ) (slots : List UnitEntry
               let same = named.is_row in omega arith)
         ]
 
-    unnamed_row : (row : ℕ) → next ≤ row → row < last → IsUnnamed slots is_types end row
-    unnamed_row row le lt =
-        let some = c.some in (omega arith, omega arith, unnamed_between row le lt)
-
     in_range : (row : ℕ) → next ≤ row → row < last
         → Contains (range_with_len next (last - next)) row
     in_range row le lt =
-        let here : row - next < last - next = omega arith in
-        let size = length-range_with_len next (last - next) in (
+        let back : next + (row - next) ≡ row = omega arith in (
           row - next,
-          rw size here,
-          get_or-range_with_len next (last - next) (row - next) row here
-              ∙ (let back : next + (row - next) ≡ row = omega arith in back),
+          omega (arith, length-range_with_len next (last - next)),
+          get_or-range_with_len next (last - next) (row - next) row (omega arith) ∙ back,
         )
-
-    all_unnamed : All (IsUnnamed slots is_types end) (range_with_len next (last - next))
-    all_unnamed = All-from_get_or (IsUnnamed slots is_types end)
-        (range_with_len next (last - next)) 0
-        (λ k lt. let here : k < last - next = rw (length-range_with_len next (last - next)) at lt in
-        rw (get_or-range_with_len next (last - next) k 0 here)
-        (unnamed_row (next + k) (omega arith) (omega arith)))
 
     pub reached : (told : List FaultValue) → Is (row_faults kind next last) told
         → TellsBefore last (faults ++ told)
     reached told is =
         let b = c.before in
+        let some = c.some in
+        let unnamed = All-from_get_or (IsUnnamed slots is_types end)
+        (range_with_len next (last - next)) 0
+        (λ k lt. let here : k < last - next = rw (length-range_with_len next (last - next)) at lt in
+        rw (get_or-range_with_len next (last - next) k 0 here)
+        (omega arith, omega arith, unnamed_between (next + k) (omega arith) (omega arith))) in
         record {
           rows = b.rows ++ range_with_len next (last - next);
           are = rw (b.are, is)
               (sym (map-append (row_fault kind) b.rows (range_with_len next (last - next))));
-          unnamed = All-append (IsUnnamed slots is_types end) b.rows _ b.unnamed all_unnamed;
+          unnamed = All-append (IsUnnamed slots is_types end) b.rows _ b.unnamed unnamed;
           others = λ row some lt. elim (at row next) [
             | inl before ↦ elim (b.others row some before) [
               | inl told ↦ inl (Contains-append_left b.rows _ row told)
@@ -223,8 +175,7 @@ module _ (kind : List ℕ) (is_types : Bool) (end : ℕ) (slots : List UnitEntry
           };
           past = λ k d below. below_more
               (λ k. (d : UnitEntry) → IsPast ((get_or slots i e).row + 1) (get_or slots k d)) i
-              (λ k h d. past_on next ((get_or slots i e).row + 1) (get_or slots k d)
-              (omega arith) (c.past k d h))
+              (λ k h d is. let past = c.past k d h is in grind (arith))
               (λ d is. rw (get_or_default slots i d e lt) (inl (omega arith))) k below d;
           some = omega arith;
           within = omega arith;
@@ -242,8 +193,14 @@ module _ (kind : List ℕ) (is_types : Bool) (end : ℕ) (slots : List UnitEntry
   pub covers_skipped : (i next : ℕ) (e : UnitEntry) (is : Bool) {a b : Progress}
       → i < length slots → is ≡ is_next is_types end (get_or slots i e) next → is ≡ false
       → Told (Covers i next) a b → Told (Covers (i + 1) next) a b
-  covers_skipped i next e is lt same past t =
-      told_as t (λ faults. covers_past i next e faults lt (sym same ∙ past))
+  covers_skipped i next e is lt same past t = told_as t (λ faults c. record {
+    before = c.before;
+    past = λ k d below. below_more (λ k. (d : UnitEntry) → IsPast next (get_or slots k d)) i
+        (λ k h d. c.past k d h) (λ d. rw (get_or_default slots i d e lt)
+        (passed_by next (get_or slots i e) (sym same ∙ past))) k below d;
+    some = c.some;
+    within = c.within;
+  })
 
   pub covers_all : (i next : ℕ) (faults told : List FaultValue) → length slots ≤ i
       → Covers i next faults → Is (row_faults kind next end) told

@@ -1,53 +1,37 @@
 -- The unit that a look-up finds is that of a row, whose ranges lie inside their sections; and the
 -- identifiers that units' own bytes give.
-use Rattle.thorin_check.proofs.Terms.{All, Bool, Contribution, DebugTypeSignature, DwarfObject}
-use Rattle.thorin_check.proofs.Terms.{Endianness, Err, Index, IsAmong, IsTrue, List, None, Ok}
-use Rattle.thorin_check.proofs.Terms.{Option, PlaceRead, Ranges, ReadError, Result, SectionKind}
-use Rattle.thorin_check.proofs.Terms.{Sections, Some, TypeUnit, ap, arith, bind-was, by-bool}
-use Rattle.thorin_check.proofs.Terms.{column_of, column_place, content, contribution_kinds}
-use Rattle.thorin_check.proofs.Terms.{drop-take, false, find, length, nat_eq, nat_tests, own_by}
-use Rattle.thorin_check.proofs.Terms.{own_of, range_in, refl, result_ok, row_in, same-ok, same_Some}
-use Rattle.thorin_check.proofs.Terms.{sym, true, ℕ, [], ◌++◌, ◌+◌, ◌-◌, ◌∙◌, ◌∷◌, ◌≡◌, ◌≤◌}
+use Rattle.thorin_check.proofs.Terms
+use Terms.{column_place, Contribution, contribution_kinds, DwarfObject, Endianness, Ok, SectionKind}
+use Terms.{column_of, drop-take, nat_tests, PlaceRead, range_in, result_ok, same_Some, Sections, []}
+use Terms.{Bool, by-bool, content, IsAmong, IsTrue, length, nat_eq, Option, own_by, Ranges, same-ok}
+use Terms.{All, arith, false, find, List, None, own_of, refl, row_in, Some, true, ℕ, ◌++◌, ◌+◌, ◌-◌}
+use Terms.{sym, ◌∙◌, ◌∷◌, ◌≡◌, ◌≤◌}
+use Rattle.dwp_index.specs.Package.{first_outside, found_counted, lies_inside, Package, unit_at_row}
+use Rattle.dwp_index.specs.Package.{FoundUnit, index_for, is_outside, kind_of, place_of, row_bytes}
+use Rattle.dwp_index.specs.Package.{found, part_of, unit_in}
+use Rattle.thorin_check.specs.Remembered.{bytes_at, is_in_types, IsReadIn, numbers_of, section_by}
+use Rattle.thorin_check.specs.Remembered.{own_at, place_in, said_of}
+use Rattle.{dwp_bytes.specs.Input.section, dwp_index.proofs.PackageLookUp.by_row}
+use Rattle.std.proofs.{Common.option_map, lemmas.Map.Views.All-values-insert_entry}
 use Rattle.dwp_base.proofs.EveryKind.{each, HoldsAll}
 use Rattle.dwp_index.specs.Finding.{LiesInside, own_bytes, own_place}
-use Rattle.dwp_index.specs.Package.{FoundUnit, Package, all_inside, as_error, encoding_in}
-use Rattle.dwp_index.specs.Package.{first_outside, found, found_by, found_counted, index_for}
-use Rattle.dwp_index.specs.Package.{is_outside, kind_of, lies_inside, part_of, place_of, row_bytes}
-use Rattle.dwp_index.specs.Package.{unit_at_row, unit_found, unit_in}
-use Rattle.dwp_table.specs.Objects.{identifier_of}
-use Rattle.dwp_table.specs.Probing.{found_row}
-use Rattle.std.specs.BTreeMap.{insert_entry}
-use Rattle.std.specs.Map.{values_of}
-use Rattle.std.specs.declared.cmp.Ordering.{Ordering}
-use Rattle.std.proofs.lemmas.Map.Views.{All-values-insert_entry}
-use Rattle.dwp_bytes.specs.Input.{section}
-use Rattle.dwp_units.specs.Units.{Unit as Header, units}
-use Rattle.dwp_units.specs.declared.unit.UnitSection.{UnitSection}
-use Rattle.dwp_units.specs.declared.unit.UnitSection.TheVariants.{Info, Types}
+use Rattle.std.specs.{BTreeMap.insert_entry, declared.cmp.Ordering.Ordering, Map.values_of}
+use Rattle.dwp_units.specs.{declared.unit.UnitSection.TheVariants.Types, Units.Unit as Header}
+use Rattle.dwp_units.specs.{declared.unit.UnitSection.UnitSection, Units.units}
 use Rattle.thorin_find.specs.Names.{first_of, header_in}
 use Rattle.thorin_identity.specs.Identity.{identity}
-use Rattle.thorin_check.specs.Faults.{is_of}
-use Rattle.thorin_check.specs.Remembered.{IsReadIn, bytes_at, is_in_types, numbers_of, own_at}
-use Rattle.thorin_check.specs.Remembered.{place_in, said_of, section_by}
-use Rattle.thorin_check.specs.declared.abbreviations.UnitPlace.{UnitPlace}
-use Rattle.thorin_check.proofs.NamedRows.{of_one_kind}
+use Rattle.thorin_check.specs.{declared.abbreviations.UnitPlace.UnitPlace, Faults.is_of}
 use Rattle.dwp_base.specs.declared.section.SectionKind.TheVariants as kinds
 use Rattle.dwp_index.specs.declared.error.PackageError.TheVariants as errors
 use Rattle.thorin_check.specs.contracts.abbreviations.UnitPlacePartialEq.TheImpl as places
 
 -- ---- its ranges
 
-outside_none : (outside : Option SectionKind) (x : Unit {0}) → all_inside outside ≡ Ok x
-    → outside ≡ None
-outside_none None x e = refl
-outside_none (Some kind) x e = absurd cc
-
 -- what holds of each that isn't found, and of some behind these
 find_misses : {X : Type 0} (p : X → Bool) (Q : X → Type 0) → ((x : X) → p x ≡ false → Q x)
     → (xs rest : List X) → HoldsAll Q rest → find p xs ≡ None → HoldsAll Q (xs ++ rest)
 find_misses p Q goes [] rest h e = h
-find_misses p Q goes (x ∷ xs) rest h e = by-bool _ (p x)
-    (λ yes. let hit = rw yes at e in absurd cc)
+find_misses p Q goes (x ∷ xs) rest h e = by-bool _ (p x) (λ yes. let hit = rw yes at e in absurd cc)
     (λ no. (goes x no, find_misses p Q goes xs rest h (rw no at e)))
 
 inside_of : (bytes : List ℕ) (range : Option Contribution) → is_outside bytes range ≡ false
@@ -59,116 +43,55 @@ module _ (contents : Sections) (row : Ranges) where
   IsInside kind = (range : Contribution) → range_in row kind ≡ Some range
       → range.offset.0 + range.size ≤ length (content contents kind)
 
-  pub no_column : (kind : SectionKind) → column_of row.version kind ≡ None
-      → range_in row kind ≡ None
+  absent_inside : (kind : SectionKind) → column_of 5 kind ≡ None → column_of 2 kind ≡ None
+      → IsInside kind
   unfolding range_in column_place
-  no_column kind e = rw e refl
-
-  absent_inside : (kind : SectionKind) → column_of row.version kind ≡ None → IsInside kind
-  absent_inside kind e range is = let none = no_column kind e in absurd cc
-
-  pub columnless : (version : ℕ) (kind : SectionKind) → column_of 5 kind ≡ None
-      → column_of 2 kind ≡ None
-      → column_of version kind ≡ None
-  columnless version kind standard gnu = by-bool _ (nat_eq version 5)
-      (λ e. rw e standard) (λ e. rw e gnu)
+  absent_inside kind standard gnu range is =
+      let column : column_of row.version kind ≡ None = by-bool _ (nat_eq row.version 5)
+      (λ e. rw e standard) (λ e. rw e gnu) in
+      let none : range_in row kind ≡ None = rw column refl in absurd cc
 
   pub all_inside_of : first_outside contents row ≡ None → LiesInside contents row
   unfolding first_outside
   all_inside_of e =
-      let none = λ (kind : SectionKind) (s : column_of 5 kind ≡ None) (g : column_of 2 kind ≡ None).
-      absent_inside kind (columnless row.version kind s g) in
       each IsInside (find_misses
       (λ kind. is_outside (content contents kind) (range_in row kind)) IsInside
       (λ kind. inside_of (content contents kind) (range_in row kind)) contribution_kinds
-      (kinds.Str ∷ kinds.CuIndex ∷ kinds.TuIndex ∷ [])
-      (none kinds.Str refl refl, (none kinds.CuIndex refl refl, (none kinds.TuIndex refl refl, tt)))
-      e)
+      (kinds.Str ∷ kinds.CuIndex ∷ kinds.TuIndex ∷ []) (
+        absent_inside kinds.Str refl refl,
+        (absent_inside kinds.CuIndex refl refl, (absent_inside kinds.TuIndex refl refl, tt)),
+      ) e)
 
 -- ---- the unit that is found
 
 pub record IsRowOf (pack : Package) (object : DwarfObject) (unit : FoundUnit) : Type 0 where
-  pub index : Index
-  pub index_is : index_for pack object ≡ Some index
-  pub looked : found_row index.signatures index.rows (identifier_of object) ≡ Some unit.number
-  pub row : row_in index unit.number ≡ Ok unit.row
+  pub row : option_map (λ index. row_in index unit.number) (index_for pack object)
+      ≡ Some (Ok unit.row)
   pub inside : LiesInside pack.contents unit.row
   pub contents : unit.contents ≡ pack.contents
   pub order : unit.order ≡ pack.order
   pub bytes : unit.bytes ≡ own_bytes pack.contents object unit.row
 
-module _ (pack : Package) (object : DwarfObject) (unit : FoundUnit) where
-  pub record IsReadAs (number : ℕ) (row : Ranges) : Type 0 where
-    pub number_is : unit.number ≡ number
-    pub row_is : unit.row ≡ row
-    pub inside : first_outside pack.contents row ≡ None
-    pub contents : unit.contents ≡ pack.contents
-    pub order : unit.order ≡ pack.order
-    pub bytes : unit.bytes ≡ own_bytes pack.contents object row
+module _ (pack : Package) (object : DwarfObject) (unit : FoundUnit)
+    (is : found pack object ≡ Ok (Some unit)) where
+  row_read : option_map (λ index. row_in index unit.number) (index_for pack object)
+      ≡ Some (Ok unit.row)
+  unfolding found found_counted unit_at_row unit_in
+  row_read = grind arith
 
-  read_ok : (read : Result Ranges ReadError) (row : Ranges) → as_error errors.Index read ≡ Ok row
-      → read ≡ Ok row
-  read_ok (Ok x) row e = ap Ok (same-ok x row e)
-  read_ok (Err cause) row e = absurd cc
+  unit_read : (first_outside pack.contents unit.row ≡ None) × (unit.contents ≡ pack.contents)
+      × (unit.order ≡ pack.order) × (unit.bytes ≡ own_bytes pack.contents object unit.row)
+  unfolding found unit_in
+  unit_read = grind (arith, by_row pack object)
 
-  read_in : (number : ℕ) (row : Ranges) → unit_in pack object number row ≡ Ok unit
-      → IsReadAs number row
-  unfolding unit_in
-  read_in number row e =
-      let inside = bind-was (all_inside (first_outside pack.contents row)) _ _ e in
-      let made = bind-was (as_error errors.Unit (encoding_in pack.order _ _)) _ _ inside.2 in
-      let same = same-ok _ _ made.2 in
-      let outside = outside_none _ inside.0 inside.1 in
-      record {
-        number_is = sym (ap (λ (u : FoundUnit). u.number) same);
-        row_is = sym (ap (λ (u : FoundUnit). u.row) same);
-        inside = outside;
-        contents = sym (ap (λ (u : FoundUnit). u.contents) same);
-        order = sym (ap (λ (u : FoundUnit). u.order) same);
-        bytes = sym (ap (λ (u : FoundUnit). u.bytes) same);
-      }
-
-  at_row : (index : Index) (number count : ℕ) (x : Option FoundUnit × ℕ) → x.0 ≡ Some unit
-      → unit_at_row pack object index number count ≡ Ok x
-      → (row : Ranges) × (row_in index number ≡ Ok row) × IsReadAs number row
-  unfolding unit_at_row
-  at_row index number count x is e =
-      let row = bind-was (as_error errors.Index (row_in index number)) _ _ e in
-      let made = bind-was (unit_in pack object number row.0) _ _ row.2 in
-      let same = same-ok _ _ made.2 in
-      let this = same_Some made.0 unit (ap (λ (p : Option FoundUnit × ℕ). p.0) same ∙ is) in
-      (row.0, read_ok (row_in index number) row.0 row.1, read_in number row.0 (rw this at made.1))
-
-  by_number : (index : Index) (number : Option ℕ) (count : ℕ) (x : Option FoundUnit × ℕ)
-      → found_row index.signatures index.rows (identifier_of object) ≡ number
-      → index_for pack object ≡ Some index → x.0 ≡ Some unit
-      → unit_found pack object index number count ≡ Ok x → IsRowOf pack object unit
-  by_number index None count x looked there is e = absurd cc
-  by_number index (Some number) count x looked there is e =
-      let row = at_row index number count x is e in
-      let read = row.2 in
-      record {
-        index = index;
-        index_is = there;
-        looked = rw read.number_is looked;
-        row = rw (read.number_is, read.row_is) row.1;
-        inside = rw read.row_is (all_inside_of pack.contents row.0 read.inside);
-        contents = read.contents;
-        order = read.order;
-        bytes = rw read.row_is read.bytes;
-      }
-
-  by_index : (index : Option Index) (x : Option FoundUnit × ℕ) → index_for pack object ≡ index
-      → x.0 ≡ Some unit → found_by pack object index ≡ Ok x → IsRowOf pack object unit
-  by_index None x there is e = absurd cc
-  by_index (Some index) x there is e = by_number index
-      (found_row index.signatures index.rows (identifier_of object)) _ x refl there is e
-
-  pub row_of_found : found pack object ≡ Ok (Some unit) → IsRowOf pack object unit
-  unfolding found found_counted
-  row_of_found e =
-      let counted = bind-was (found_counted pack object) _ _ e in
-      by_index (index_for pack object) counted.0 refl (same-ok _ _ counted.2) counted.1
+  pub row_of_found : IsRowOf pack object unit
+  row_of_found = record {
+    row = row_read;
+    inside = all_inside_of pack.contents unit.row unit_read.0;
+    contents = unit_read.1;
+    order = unit_read.2;
+    bytes = unit_read.3;
+  }
 
 -- the bytes of a range, by its numbers
 pub bytes_are : (bytes : List ℕ) (range : Option Contribution)
@@ -182,8 +105,7 @@ bytes_are bytes (Some c) inside =
     rw (fits, back) (drop-take c.offset.0 c.size bytes)
 
 section_back : (s : UnitSection) → section_by (is_in_types s) ≡ s
-section_back Info = refl
-section_back Types = refl
+section_back s = grind (arith)
 
 module _ (pack : Package) (object : DwarfObject) (unit : FoundUnit)
     (is : found pack object ≡ Ok (Some unit)) where
@@ -242,20 +164,15 @@ known_again pack object unit shared read is all among same =
     let h = rw (← among.1.1) at (all among.0 read among.1.0) in
     h ∙ (rw same (own_is pack object unit is))
 
--- one more place is remembered
-pub known_more : {K : Type 0} (cmp : K → K → Ordering) (pack : Package)
-    (old new : List (K × PlaceRead)) (key : K) (read : PlaceRead)
-    → new ≡ insert_entry cmp old key read → All (IsReadIn pack) (values_of old)
-    → IsReadIn pack read → All (IsReadIn pack) (values_of new)
-known_more cmp pack old new key read e all is =
-    rw e (All-values-insert_entry cmp key read (IsReadIn pack) old all is)
-
--- what was read of a unit is what stands at its place
-pub read_at : (pack : Package) (object : DwarfObject) (unit : FoundUnit) (read : PlaceRead)
+-- one more place is remembered, by what was read of a unit there
+pub known_more : {K : Type 0} (cmp : K → K → Ordering) (pack : Package) (object : DwarfObject)
+    (unit : FoundUnit) (old new : List (K × PlaceRead)) (key : K) (read : PlaceRead)
     → found pack object ≡ Ok (Some unit) → read.place ≡ place_in object unit
-    → said_of read.own ≡ own_of object unit → IsReadIn pack read
-read_at pack object unit read is same said =
-    said ∙ (rw same (sym (own_is pack object unit is)))
+    → said_of read.own ≡ own_of object unit → new ≡ insert_entry cmp old key read
+    → All (IsReadIn pack) (values_of old) → All (IsReadIn pack) (values_of new)
+known_more cmp pack object unit old new key read is same said e all =
+    let here : IsReadIn pack read = said ∙ (rw same (sym (own_is pack object unit is))) in
+    rw e (All-values-insert_entry cmp key read (IsReadIn pack) old all here)
 
 -- ---- units of one row
 
@@ -272,34 +189,29 @@ from_row pack object unit is =
     let row = row_of_found pack object unit is in
     rw (row.contents, row.order, row.bytes) refl
 
-place_of_types : (range : Option Contribution) (x y : DebugTypeSignature)
-    → place_of (TypeUnit x) range ≡ place_of (TypeUnit y) range
-place_of_types None x y = refl
-place_of_types (Some range) x y = refl
+place_alike : (is_types : Bool) (a b : DwarfObject) (range : Option Contribution)
+    → is_of is_types a ≡ true → is_of is_types b ≡ true → place_of a range ≡ place_of b range
+place_alike is_types a b range is so = grind (arith)
 
 alike_in_row : (pack : Package) (row : Ranges) (is_types : Bool) (a b : DwarfObject)
     → is_of is_types a ≡ true → is_of is_types b ≡ true
     → own_in_row pack a row ≡ own_in_row pack b row
-alike_in_row pack row = of_one_kind (λ is_types a b. own_in_row pack a row ≡ own_in_row pack b row)
-    (λ x y. refl) (λ x y. rw (place_of_types (range_in row kinds.Types) x y) refl)
+alike_in_row pack row is_types a b is so =
+    rw (place_alike is_types a b (range_in row kinds.Types) is so) refl
 
 one_index : (pack : Package) (is_types : Bool) (a b : DwarfObject) → is_of is_types a ≡ true
     → is_of is_types b ≡ true → index_for pack a ≡ index_for pack b
-one_index pack = of_one_kind (λ is_types a b. index_for pack a ≡ index_for pack b)
-    (λ x y. refl) (λ x y. refl)
+one_index pack is_types a b is so = grind (arith)
 
 -- the units of one row give one identifier
 pub own_once : (pack : Package) (is_types : Bool) (a b : DwarfObject) (one other : FoundUnit)
     → is_of is_types a ≡ true → is_of is_types b ≡ true → found pack a ≡ Ok (Some one)
-    → found pack b ≡ Ok (Some other) → one.number ≡ other.number
-    → own_of a one ≡ own_of b other
+    → found pack b ≡ Ok (Some other) → one.number ≡ other.number → own_of a one ≡ own_of b other
 own_once pack is_types a b one other is so here there same =
     let row = row_of_found pack a one here in
     let again = row_of_found pack b other there in
-    let index : row.index ≡ again.index = same_Some row.index again.index
-    (sym row.index_is ∙ one_index pack is_types a b is so ∙ again.index_is) in
-    let ranges : one.row ≡ other.row = same-ok one.row other.row
-    (sym (rw (index, same) at row.row) ∙ again.row) in
+    let ranges : one.row ≡ other.row = same-ok one.row other.row (same_Some (Ok one.row)
+    (Ok other.row) (sym (rw (one_index pack is_types a b is so, same) at row.row) ∙ again.row)) in
     let middle : own_in_row pack a one.row ≡ own_in_row pack b other.row =
     rw ranges (alike_in_row pack other.row is_types a b is so) in
     from_row pack a one here ∙ middle ∙ sym (from_row pack b other there)

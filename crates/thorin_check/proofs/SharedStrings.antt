@@ -1,28 +1,22 @@
 -- Which strings end, as the last zero byte of all tells, and the strings of units, by the string
 -- offsets that they share.
-use Rattle.thorin_check.proofs.Terms.{AllEnd, Contribution, DwarfObject, Endianness, Err, HasEnds}
-use Rattle.thorin_check.proofs.Terms.{IsGathered, IsGatheredIn, IsOfUnit, IsReach, IsTrue, List}
-use Rattle.thorin_check.proofs.Terms.{None, Ok, Option, PackageError, Result, Some, Str, StrOffsets}
-use Rattle.thorin_check.proofs.Terms.{StringRange, ap, arith, content, drop, entry_in, eqb, false}
-use Rattle.thorin_check.proofs.Terms.{get_or-drop, get_or_default, inl, inr, is_inside, length}
-use Rattle.thorin_check.proofs.Terms.{length-drop, list_any, nat_tests, option_map, range_in, refl}
-use Rattle.thorin_check.proofs.Terms.{result_err, same_Some, string_at, string_in, string_of, sym}
-use Rattle.thorin_check.proofs.Terms.{true, ℕ, [], ◌++◌, ◌+◌, ◌-◌, ◌<◌, ◌∙◌, ◌∷◌, ◌≡◌, ◌≤◌}
-use Rattle.std.specs.Option.{option_eq}
+use Rattle.thorin_check.proofs.Terms
+use Terms.{Contribution, DwarfObject, get_or-drop, get_or_default, IsGatheredIn, PackageError, ◌++◌}
+use Terms.{Endianness, IsGathered, length-drop, option_map, result_err, StringRange, StrOffsets, []}
+use Terms.{entry_in, is_inside, IsOfUnit, nat_tests, Ok, same_Some, string_at, string_in, string_of}
+use Terms.{AllEnd, content, HasEnds, IsReach, IsTrue, length, list_any, Option, range_in, Result, ℕ}
+use Terms.{arith, drop, Err, false, List, None, refl, Some, true, ◌+◌, ◌-◌, ◌<◌, ◌∙◌, ◌∷◌, ◌≡◌, ◌≤◌}
+use Terms.{eqb, inl, inr, Str, sym}
+use Rattle.{dwp_index.proofs.PackageLookUp.by_row, std.specs.Option.option_eq}
 use Rattle.std.proofs.lemmas.List.Folds.{list_any_at, list_any_none}
-use Rattle.memchr.specs.Find.{IsLastByte, Passes, Nowhere, is_byte}
-use Rattle.dwp_bytes.specs.StringOffsets.{entry_count}
-use Rattle.dwp_bytes.specs.declared.encoding.Encoding.{Encoding}
-use Rattle.dwp_index.specs.Package.{Package, FoundUnit, unit_in, found, row_bytes}
-use Rattle.dwp_index.proofs.PackageLookUp.{by_row}
-use Rattle.thorin_check.specs.declared.strings.Ends.{Ends}
+use Rattle.memchr.specs.Find.{is_byte, IsLastByte, Nowhere, Passes}
+use Rattle.dwp_bytes.specs.{declared.encoding.Encoding.Encoding, StringOffsets.entry_count}
+use Rattle.dwp_index.specs.Package.{found, FoundUnit, Package, row_bytes, unit_in}
+use Rattle.thorin_check.{proofs.Own.row_of_found, specs.declared.strings.Ends.Ends}
 use Rattle.std.proofs.lemmas.List.Elements.{All-nil, All-push, Contains-append_left, Contains-push}
-use Rattle.dwp_bytes.specs.declared.encoding.Format.{Format}
-use Rattle.dwp_bytes.specs.declared.encoding.Format.TheVariants.{Dwarf32, Dwarf64}
 use Rattle.thorin_check.specs.Strings.{HasStringsIn, HasStringsOf, IsRangeOfOne, range_by, range_of}
 use Rattle.thorin_check.specs.Gathered.{Adds, AllEndIn, Gathered, Gathers, Listed, Lists, string_by}
 use Rattle.thorin_check.specs.declared.strings.UnreadStrings.{UnreadStrings}
-use Rattle.thorin_check.proofs.Own.{row_of_found}
 use Rattle.thorin_check.specs.contracts.strings.StringRangePartialEq.TheImpl as ranges
 
 module _ (strings : List ℕ) where
@@ -32,8 +26,7 @@ module _ (strings : List ℕ) where
       let same = get_or_default (drop offset strings) k d 0 lt in
       grind (arith, nat_tests, length-drop, get_or-drop, none (offset + k)))
 
-  pub reached : (last : ℕ) → IsLastByte (is_byte 0) strings (Some last)
-      → IsReach strings (last + 1)
+  pub reached : (last : ℕ) → IsLastByte (is_byte 0) strings (Some last) → IsReach strings (last + 1)
   reached last h offset =
       let here = list_any_at (λ b. eqb b 0) (drop offset strings) (last - offset) 0 in
       grind (arith, nat_tests, get_or-drop, length-drop, h.1, behind (last + 1) offset h.0.after)
@@ -76,35 +69,15 @@ all_read ends order strings h encoding range end le below i =
 
 -- ---- ranges
 
-ranges_same : (a b : StringRange) → IsTrue (ranges.eq-value.it a b) → a ≡ b
-ranges_same a b equal = grind (arith, nat_tests)
-
 -- string offsets are those before, as `==` tells
 pub same_range : (before : Option StringRange) (range : StringRange)
     → IsTrue (option_eq ranges.eq-value.it before (Some range)) → before ≡ Some range
-same_range None range equal = absurd cc
-same_range (Some last) range equal = ap Some (ranges_same last range equal)
-
--- the size of addresses is nothing to strings
-read_alike : (order : Endianness) (encoding : Encoding) (strings bytes : List ℕ) (i : ℕ)
-    → string_in order (record {
-      version = encoding.version;
-      format = encoding.format;
-      address_size = 0;
-    }) strings bytes i ≡ string_in order encoding strings bytes i
-unfolding string_in entry_in
-read_alike order encoding strings bytes i = refl
-
-none_in_none : (encoding : Encoding) (format : Format) → encoding.format ≡ format
-    → entry_count encoding 0 ≡ 0
-none_in_none encoding Dwarf32 is = rw is (omega arith)
-none_in_none encoding Dwarf64 is = rw is (omega arith)
+same_range before range equal = grind (arith, nat_tests)
 
 no_string : (order : Endianness) (encoding : Encoding) (strings : List ℕ) (i : ℕ)
     → result_err (string_in order encoding strings [] i) ≡ None
 unfolding string_in entry_in
-no_string order encoding strings i =
-    let none = none_in_none encoding encoding.format refl in grind (arith, nat_tests)
+no_string order encoding strings i = grind (arith, nat_tests)
 
 -- ---- strings of a unit
 
@@ -113,13 +86,12 @@ module _ (pack : Package) (object : DwarfObject) (unit : FoundUnit)
   by_range : (c : Option Contribution) → range_in unit.row StrOffsets ≡ c
       → (range : StringRange) → option_map (range_by unit.encoding) c ≡ Some range → (i : ℕ)
       → string_by pack range i ≡ string_of unit i
-  unfolding row_bytes
+  unfolding row_bytes string_in entry_in
   by_range None there range e i = absurd cc
   by_range (Some c) there range e i =
       let row = row_of_found pack object unit is in
       let same = same_Some (range_by unit.encoding c) range e in
-      rw (← same, row.contents, row.order, there)
-      (read_alike pack.order unit.encoding (content pack.contents Str) _ i)
+      rw (← same, row.contents, row.order, there) refl
 
   -- a unit's strings are those of its string offsets
   pub of_range : (range : StringRange) → range_of unit ≡ Some range → (i : ℕ)
@@ -155,30 +127,16 @@ nothing_gathered pack strings ends last none = record {
   are = rw none (All-nil (IsOfUnit pack));
 }
 
-kept_behind : (pack : Package) (listed more : Listed) (range : StringRange)
-    → IsGathered pack listed range → IsGathered pack (listed ++ more) range
-kept_behind pack listed more range (inl all) = inl all
-kept_behind pack listed more range (inr there) =
-    inr (there.0, Contains-append_left listed more (range, there.0) there.1)
-
 module _ (pack : Package) (old : UnreadStrings) (unit : FoundUnit) (object : DwarfObject)
     (g : Gathers pack old) (is : found pack object ≡ Ok (Some unit)) where
   -- it has no string offsets
   pub none_added : None ≡ range_of unit → Adds pack old old unit
-  none_added none = record {
-    gathers = g;
-    kept = λ range there. there;
-    added = λ range e. absurd (let some = none ∙ e in cc);
-  }
+  none_added none = grind (arith)
 
   module _ (range : StringRange) (has : Some range ≡ range_of unit) where
     -- it has those of the unit before
     pub last_added : old.last ≡ Some range → Adds pack old old unit
-    last_added last = record {
-      gathers = g;
-      kept = λ other there. there;
-      added = λ other e. g.last other (last ∙ has ∙ e);
-    }
+    last_added last = grind (arith, g.last)
 
     this : (other : StringRange) → range_of unit ≡ Some other → range ≡ other
     this other e = same_Some range other (has ∙ e)
@@ -213,8 +171,12 @@ module _ (pack : Package) (old : UnreadStrings) (unit : FoundUnit) (object : Dwa
             are = rw unread (All-push (IsOfUnit pack) old.unread.items (range, object) g.are
                 (unit, is, sym has));
           };
-          kept = λ other there.
-              rw unread (kept_behind pack old.unread.items _ other there);
+          kept = λ other there. elim there [
+            | inl all ↦ inl all
+            | inr listed ↦ (let among = Contains-append_left old.unread.items
+                ((range, object) ∷ []) (other, listed.0) listed.1 in
+                inr (listed.0, rw unread among))
+          ];
           added = λ other e. rw (← this other e) here;
         }
 

@@ -1,31 +1,27 @@
 -- Where no fault was told, the package is sound.
-use Rattle.thorin_check.proofs.Terms.{All, AllEnd, AreApart, AreApartIn, AreByRow, Bool, Bor}
-use Rattle.thorin_check.proofs.Terms.{Contains, DwarfObject, Err, Executables, FaultValue, ForEach}
-use Rattle.thorin_check.proofs.Terms.{InTurn, Index, Is, List, Listed, Named, None, Offer, Ok}
-use Rattle.thorin_check.proofs.Terms.{Option, PackageError, ReadError, Reading, Result, SectionKind}
-use Rattle.thorin_check.proofs.Terms.{Some, UnitEntry, append-nil, arith, codes, column_faults}
-use Rattle.thorin_check.proofs.Terms.{contribution_kinds, entry_in, false, fault_count, flat_map}
-use Rattle.thorin_check.proofs.Terms.{get_or, inl, inr, lacks_column, length, lit<, map, min}
-use Rattle.thorin_check.proofs.Terms.{mixed_versions, nat_eq, nat_tests, own_of, refl, result_err}
-use Rattle.thorin_check.proofs.Terms.{same_Some, section_faults, skeletons_by, string_count}
-use Rattle.thorin_check.proofs.Terms.{string_in, string_of, subst, sym, true, versions_faults, ℕ}
-use Rattle.thorin_check.proofs.Terms.{[], ◌++◌, ◌-◌, ◌<◌, ◌^◌, ◌∙◌, ◌∷◌, ◌≡◌, ◌≢◌, ◌≤◌, ◌⊎◌}
-use Rattle.std.proofs.lemmas.List.Elements.{All-nil, All-cons, All-weaker, All-contains}
+use Rattle.thorin_check.proofs.Terms
+use Terms.{column_faults, contribution_kinds, mixed_versions, section_faults, versions_faults, lit<}
+use Terms.{AllEnd, DwarfObject, Executables, lacks_column, PackageError, skeletons_by, string_count}
+use Terms.{append-nil, AreApartIn, fault_count, FaultValue, nat_tests, result_err, SectionKind, ◌-◌}
+use Terms.{AreApart, AreByRow, Contains, ReadError, same_Some, string_in, string_of, UnitEntry, ◌<◌}
+use Terms.{entry_in, flat_map, ForEach, get_or, InTurn, length, Listed, nat_eq, Option, Reading, []}
+use Terms.{arith, Bool, codes, false, Index, List, Named, None, Offer, own_of, Result, subst, ◌++◌}
+use Terms.{All, Bor, Err, inl, inr, map, min, refl, Some, true, ◌^◌, ◌∙◌, ◌∷◌, ◌≡◌, ◌≢◌, ◌≤◌, ◌⊎◌}
+use Terms.{Is, Ok, sym, ℕ}
+use Rattle.std.proofs.lemmas.List.Sorted.{All-permutation, Contains-permutation, length_permutation}
+use Rattle.std.proofs.lemmas.List.Sorted.{IsPermutation-sym}
+use Rattle.thorin_check.specs.Checking.{TellsExecutable, TellsExecutables, TellsStringsOfAll}
+use Rattle.thorin_check.specs.Checking.{status_of, TellsPackage, TellsSlot, TellsSlots}
+use Rattle.thorin_check.specs.Faults.{TellsListed, TellsLooked, TellsRowsOf, TellsString, TellsUnit}
+use Rattle.thorin_check.specs.Faults.{missing_faults, TellsNumbered, TellsStrings, TellsStringsOf}
+use Rattle.thorin_check.specs.Faults.{row_fault, strings_of, TellsFound, TellsInRow, TellsNamed}
+use Rattle.thorin_check.specs.Faults.{is_bare, IsUnread, room_of, row_end, TellsEnd, TellsOwn}
+use Rattle.thorin_check.{proofs.Own.own_once, proofs.Own.row_of_found, specs.Strings.HasStringsOf}
+use Rattle.thorin_check.proofs.SharedStrings.{all_ends, range_ends}
+use Rattle.std.proofs.lemmas.List.Elements.{All-cons, All-contains, All-nil, All-weaker}
 use Rattle.std.proofs.lemmas.List.FromFn.{get_or-map-range_with_len, length-map-range_with_len}
-use Rattle.std.proofs.lemmas.List.Sorted.{All-permutation, Contains-permutation, IsPermutation-sym}
-use Rattle.std.proofs.lemmas.List.Sorted.{length_permutation}
-use Rattle.dwp_index.specs.Package.{Package, FoundUnit, found}
-use Rattle.thorin_check.specs.Checking.{TellsExecutable, TellsExecutables, TellsPackage, TellsSlot}
-use Rattle.thorin_check.specs.Checking.{TellsSlots, TellsStringsOfAll, status_of}
-use Rattle.thorin_check.specs.Sound.{slots, IsSoundUnit, AreNamed, NameOnce, HasUnitsOf, IsSound}
-use Rattle.thorin_check.specs.Faults.{IsUnread, TellsEnd, TellsFound, TellsInRow, TellsItself}
-use Rattle.thorin_check.specs.Faults.{TellsListed, TellsLooked, TellsNamed, TellsNumbered, TellsOwn}
-use Rattle.thorin_check.specs.Faults.{TellsRowsOf, TellsString, TellsStrings, TellsStringsOf}
-use Rattle.thorin_check.specs.Faults.{TellsUnit, is_bare, missing_faults, room_of, row_end}
-use Rattle.thorin_check.specs.Faults.{row_fault, strings_of}
-use Rattle.thorin_check.specs.Strings.{HasStringsOf}
-use Rattle.thorin_check.proofs.SharedStrings.{range_ends, all_ends}
-use Rattle.thorin_check.proofs.Own.{own_once, row_of_found}
+use Rattle.dwp_index.specs.Package.{found, FoundUnit, Package}
+use Rattle.thorin_check.specs.Sound.{AreNamed, HasUnitsOf, IsSound, IsSoundUnit, NameOnce, slots}
 use Rattle.dwp_base.specs.declared.section.SectionKind.TheVariants as kinds
 use Rattle.dwp_index.specs.declared.error.PackageError.TheVariants as errors
 
@@ -54,8 +50,7 @@ none_for_each P (x ∷ xs) h =
 
 module _ (pack : Package) (entry : UnitEntry) where
   none_unread : (object : DwarfObject) (cause : PackageError) → IsUnread object cause [] → ⊥
-  none_unread object (errors.Range kind) h = some_told _ _ h
-  none_unread object _ h = some_told _ _ h.1
+  none_unread object cause h = grind (arith)
 
   looked_up : (looked : Result (Option FoundUnit) PackageError) → TellsLooked pack entry looked []
       → (unit : FoundUnit) × (looked ≡ Ok (Some unit)) × TellsFound pack entry unit []
@@ -63,35 +58,24 @@ module _ (pack : Package) (entry : UnitEntry) where
   looked_up (Ok None) h = absurd (some_told _ _ h)
   looked_up (Ok (Some unit)) h = (unit, refl, h)
 
-  in_its_row : (unit : FoundUnit) → TellsFound pack entry unit []
-      → (unit.number ≡ entry.row) × TellsInRow pack entry.object unit (is_bare pack unit) []
-  in_its_row unit (inl h) = absurd (some_told _ _ h.1)
-  in_its_row unit (inr h) = h
-
-  whole_row : (unit : FoundUnit) (bare : Bool) → TellsInRow pack entry.object unit bare []
-      → (bare ≡ false) × TellsItself pack entry.object unit []
-  whole_row unit true h = absurd (some_told _ _ h)
-  whole_row unit false h = (refl, h)
-
   by_own : (own : Option (Option DwarfObject)) → TellsOwn entry.object own []
       → own ≡ Some (Some entry.object)
-  by_own None h = absurd (some_told _ _ h.1)
-  by_own (Some None) h = absurd (some_told _ _ h)
-  by_own (Some (Some own)) (inl h) = rw h.0 refl
-  by_own (Some (Some own)) (inr h) = absurd (some_told _ _ h.1)
+  by_own own h = grind (arith)
 
-  its_own : (unit : FoundUnit) → TellsItself pack entry.object unit []
-      → own_of entry.object unit ≡ Some (Some entry.object)
-  its_own unit (inl h) = absurd (some_told _ _ h.2)
-  its_own unit (inr h) = by_own (own_of entry.object unit) h
+  whole_row : (unit : FoundUnit) (bare : Bool) → TellsInRow pack entry.object unit bare []
+      → (bare ≡ false) × (own_of entry.object unit ≡ Some (Some entry.object))
+  whole_row unit bare h = grind (arith, by_own (own_of entry.object unit))
+
+  in_its_row : (unit : FoundUnit) → TellsFound pack entry unit [] → (unit.number ≡ entry.row)
+      × (is_bare pack unit ≡ false) × (own_of entry.object unit ≡ Some (Some entry.object))
+  in_its_row unit h = grind (arith, whole_row unit (is_bare pack unit))
 
 -- ---- strings
 
 module _ (unit : FoundUnit) where
   read_whole : (object : DwarfObject) (i : ℕ) (read : Result (Option (List ℕ)) ReadError)
       → TellsString object i read [] → result_err read ≡ None
-  read_whole object i (Ok string) h = refl
-  read_whole object i (Err cause) h = absurd (some_told _ _ h.1)
+  read_whole object i read h = grind (arith)
 
   past_all : (i : ℕ) → string_count unit ≤ i → result_err (string_of unit i) ≡ None
   unfolding string_count string_in entry_in
@@ -131,8 +115,7 @@ module _ (pack : Package) (objects : List DwarfObject)
   strings_end object unit is (inr (range, has, one)) =
       let all = one_ends one.object one.is_one one.unit one.is_found in
       let ends = range_ends pack one.object one.unit one.is_found range one.is_range all in
-      all_ends pack object unit is
-      (λ other e. rw (← same_Some range other (sym has ∙ e)) ends)
+      all_ends pack object unit is (λ other e. rw (← same_Some range other (sym has ∙ e)) ends)
 
 -- ---- a sound unit
 
@@ -143,7 +126,6 @@ unfolding TellsUnit
 sound_unit pack objects none entry h =
     let looked = looked_up pack entry (found pack entry.object) h.0 in
     let row = in_its_row pack entry looked.0 looked.2 in
-    let whole = whole_row pack entry looked.0 (is_bare pack looked.0) row.1 in
     let place = row_of_found pack entry.object looked.0 looked.1 in
     let has = rw looked.1 at (h.1 refl) in
     record {
@@ -151,8 +133,8 @@ sound_unit pack objects none entry h =
       is_found = looked.1;
       in_row = row.0;
       inside = place.inside;
-      has_abbreviations = whole.0;
-      own = its_own pack entry looked.0 whole.1;
+      has_abbreviations = row.1;
+      own = row.2;
       strings = strings_end pack objects none entry.object looked.0 looked.1 has;
     }
 
@@ -171,14 +153,7 @@ named_once pack all is_types a b here there is so row =
 
 end_none : (executable : List ℕ) (room : ℕ) (first : List Named) (left : Listed)
     → TellsEnd executable room first left [] → (left.0 ≡ []) × (left.1 ≡ None)
-end_none executable room first ([], None) h = (refl, refl)
-end_none executable room first ([], Some error) h = absurd (some_told _ _ h.1)
-end_none executable room first (named ∷ left, end) h = absurd (some_told _ _ h.2.1)
-
-not_missing : (executable : List ℕ) (named : Named)
-    (looked : Result (Option FoundUnit) PackageError)
-    → missing_faults executable named looked ≡ [] → looked ≢ Ok None
-not_missing executable named looked h e = let told = rw e at h in absurd cc
+end_none executable room first left h = grind (arith)
 
 none_missing : (pack : Package) (executable : List ℕ) (named : List Named)
     → flat_map (λ named. missing_faults executable named (found pack named.0)) named ≡ []
@@ -187,7 +162,7 @@ none_missing pack executable [] e = All-nil _
 none_missing pack executable (first ∷ named) e =
     let both = none_of_both (missing_faults executable first (found pack first.0)) _ (sym e) in
     All-cons (λ named. found pack named.0 ≢ Ok None) first named
-    (not_missing executable first (found pack first.0) both.0)
+    (λ (e : found pack first.0 ≡ Ok None). let told = rw e at both.0 in absurd cc)
     (none_missing pack executable named both.1)
 
 module _ (offer : Offer) (reading : Reading) (pack : Package) where
@@ -213,15 +188,8 @@ module _ (offer : Offer) (reading : Reading) (pack : Package) where
   has_units : (executable : List ℕ) → TellsExecutable offer reading pack executable []
       → HasUnitsOf offer reading pack executable
   has_units executable t =
-      let units = of_named executable (room_of t.bytes)
-      (skeletons_by reading.nameless t.bytes) t.tells in
-      record {
-        bytes = t.bytes;
-        read = t.read;
-        whole = units.0;
-        names = units.1;
-        present = units.2;
-      }
+      let named = of_named executable (room_of t.bytes) (skeletons_by reading.nameless t.bytes)
+      t.tells in grind (arith, named)
 
   all_units : (executables : List (Bor (List ℕ)))
       → TellsExecutables offer reading pack executables []
@@ -235,12 +203,10 @@ module _ (offer : Offer) (reading : Reading) (pack : Package) where
 
 none_wrong : (kind : SectionKind) (is_so : Bool) (what : List ℕ)
     → Is (section_faults kind is_so what) [] → is_so ≡ false
-none_wrong kind true what h = absurd (some_told _ _ h)
-none_wrong kind false what h = refl
+none_wrong kind is_so what h = grind (arith)
 
 one_version : (versions : Option (ℕ × ℕ)) → Is (versions_faults versions) [] → versions ≡ None
-one_version None h = refl
-one_version (Some versions) h = absurd (some_told _ _ h)
+one_version versions h = grind (arith)
 
 map_none : {X Y : Type 0} (f : X → Y) (xs : List X) → [] ≡ map f xs → xs ≡ []
 map_none f [] e = refl
@@ -248,14 +214,6 @@ map_none f (x ∷ xs) e = absurd cc
 
 -- the slots are the entries, in another order
 module _ (pack : Package) (entries : List UnitEntry) (by_row : AreByRow pack entries) where
-  of_slots : All (IsSoundUnit pack) entries → All (IsSoundUnit pack) (slots pack)
-  of_slots all = All-permutation (IsSoundUnit pack) entries (slots pack)
-      (IsPermutation-sym (slots pack) entries by_row.all) all
-
-  among_slots : (entry : UnitEntry) → Contains entries entry → Contains (slots pack) entry
-  among_slots entry = Contains-permutation entries (slots pack) entry
-      (IsPermutation-sym (slots pack) entries by_row.all)
-
   in_entries : (slot : UnitEntry) → Contains (slots pack) slot → Contains entries slot
   in_entries slot = Contains-permutation (slots pack) entries slot by_row.all
 
@@ -272,7 +230,8 @@ module _ (pack : Package) (entries : List UnitEntry) (by_row : AreByRow pack ent
         | inl told ↦ (let there = rw none at told in let l = there.1 in absurd (omega arith))
         | inr named ↦ record {
           slot = named.slot;
-          is_slot = among_slots named.slot named.is_slot;
+          is_slot = Contains-permutation entries (slots pack) named.slot
+              (IsPermutation-sym (slots pack) entries by_row.all) named.is_slot;
           is_kind = named.is_kind;
           is_row = named.is_row;
         }
@@ -291,7 +250,8 @@ no_fault_told offer executables pack entries by_row t =
     let behind = none_in_turn _ _ tables.1 in
     let indexes = none_in_turn _ _ behind.0 in
     let rows = none_in_turn _ _ behind.1 in
-    let sound = of_slots pack entries by_row
+    let sound = All-permutation (IsSoundUnit pack) entries (slots pack)
+    (IsPermutation-sym (slots pack) entries by_row.all)
     (All-weaker (λ entry. TellsSlot pack parts.0.0 entry []) (IsSoundUnit pack)
     (sound_unit pack parts.0.0 units.1) entries
     (none_for_each (TellsSlot pack parts.0.0) entries units.0.0)) in

@@ -1,23 +1,25 @@
 -- Faults that were told.
-use Rattle.thorin_check.proofs.Terms.{Bool, DwarfObject, Err, Failure, FaultValue, ForEach, Global}
-use Rattle.thorin_check.proofs.Terms.{Grows, IfOk, InTurn, IsFault, IsOfPrinting, IsSomeText}
-use Rattle.thorin_check.proofs.Terms.{IsTextOf, IsUnreadText, List, None, Ok, Option, Outcome}
-use Rattle.thorin_check.proofs.Terms.{PackageError, Prints, Progress, ReadError, Result, Some}
-use Rattle.thorin_check.proofs.Terms.{String, Tells, TellsOr, TellsText, TellsWhat, Told, UnitEntry}
-use Rattle.thorin_check.proofs.Terms.{append-nil, append_assoc, arith, codes, counted_on, decimal}
-use Rattle.thorin_check.proofs.Terms.{false, fault_text, get_or, grown, inl, length, min}
-use Rattle.thorin_check.proofs.Terms.{of_executable, of_package, of_unit, own_of, refl, result_err}
-use Rattle.thorin_check.proofs.Terms.{rules, string_bytes, sym, take, take_all, take_more, true, ℕ}
-use Rattle.thorin_check.proofs.Terms.{[], ◌++◌, ◌+◌, ◌-◌, ◌<◌, ◌^◌, ◌∙◌, ◌∷◌, ◌≡◌, ◌≢◌, ◌≤◌}
+use Rattle.thorin_check.proofs.Terms
+use Terms.{append_assoc, Err, IsOfPrinting, IsUnreadText, of_executable, PackageError, string_bytes}
+use Terms.{append-nil, counted_on, DwarfObject, fault_text, FaultValue, IsSomeText, result_err, ◌+◌}
+use Terms.{IsTextOf, of_package, Progress, ReadError, take_more, TellsText, TellsWhat, UnitEntry, ℕ}
+use Terms.{decimal, Failure, ForEach, get_or, IsFault, length, of_unit, Outcome, take_all, TellsOr}
+use Terms.{codes, false, Global, grown, Grows, InTurn, Option, own_of, Prints, Result, String, ◌++◌}
+use Terms.{arith, Bool, IfOk, List, None, refl, rules, Some, take, Tells, Told, true, ◌-◌, ◌<◌, ◌^◌}
+use Terms.{ap, inl, min, Ok, sym, [], ◌∙◌, ◌∷◌, ◌≡◌, ◌≢◌, ◌≤◌}
+use Rattle.thorin_check.specs.Faults.{TellsItself, TellsString, TellsStrings, TellsStringsOf}
+use Rattle.thorin_check.specs.Faults.{IsBroken, string_text, TellsFound, TellsOwn, TellsUnit}
+use Rattle.std.{proofs.lemmas.Grind.flat_map-append, specs.Result.IsErrAnd}
+use Rattle.thorin_check.specs.{Faults.is_bare, Overlaps.IsClash}
 use Rattle.std.proofs.KnownBytes.{Appends-nil, Appends-trans}
-use Rattle.std.proofs.lemmas.Grind.{flat_map-append}
-use Rattle.thorin_print.specs.declared.form.Form.{Form}
-use Rattle.dwp_index.specs.Package.{Package, FoundUnit, found}
-use Rattle.thorin_check.specs.Faults.{IsBroken, TellsFound, TellsItself, TellsOwn, TellsString}
-use Rattle.thorin_check.specs.Faults.{TellsStrings, TellsStringsOf, TellsUnit, is_bare, string_text}
-use Rattle.thorin_check.specs.Overlaps.{IsClash}
-use Rattle.thorin_print.specs.Shown.{shown}
+use Rattle.thorin_print.specs.{declared.form.Form.Form, Shown.shown}
+use Rattle.dwp_index.specs.Package.{found, FoundUnit, Package}
 use Rattle.thorin_words.specs.Printed.{printed}
+
+-- what the exit of a `?` answers
+pub exit_is : {T E : Type 0} {e : E} (r : Result T E) → IsErrAnd r (λ y. y ≡ e) → r ≡ Err e
+exit_is (Ok x) h = absurd h
+exit_is (Err y) h = ap Err h
 
 -- ---- how many
 
@@ -81,10 +83,6 @@ module _ (P Q : List FaultValue → Type 0) (Stops : Failure → Type 0) (a b c 
       → TellsOr Stops Q b c result → TellsOr Stops R a c result
   then_or R joins result p q = grind (arith, told_then {R = R} {c = c} joins p, Appends-trans)
 
-  pub in_turn_or : (result : Outcome) → Told P a b → TellsOr Stops Q b c result
-      → TellsOr Stops (InTurn P Q) a c result
-  in_turn_or result p q = then_or (InTurn P Q) in_turn result p q
-
 -- a fault was put behind what waits, and counted
 module _ (fault : FaultValue) (form : Form) (written : Option (List ℕ)) (held more : List ℕ)
     (count next : ℕ) (put : more ≡ held ++ fault_text form fault)
@@ -105,8 +103,7 @@ module _ (fault : FaultValue) (form : Form) (written : Option (List ℕ)) (held 
 
   -- what waits was handed over, and then nothing waits
   pub one_handed : (new : Option (List ℕ)) (lent left : List ℕ) (result : Outcome) → lent ≡ more
-      → left ≡ [] → Prints lent written new result
-      → Tells (IsFault fault)
+      → left ≡ [] → Prints lent written new result → Tells (IsFault fault)
       (record { form = form; written = written; waiting = held; count = count })
       (record { form = form; written = new; waiting = left; count = next }) result
   one_handed new lent left (Ok done) same none p = record {
@@ -130,14 +127,11 @@ module _ {X : Type 0} (P : X → List FaultValue → Type 0) where
       grind (arith, append_assoc, for_each_more ys x h.rest more h.is_rest p)
 
   -- those of one more
-  pub told_more : (xs ys : List X) (x : X) {a b c : Progress} → ys ≡ xs ++ (x ∷ [])
-      → Told (ForEach P xs) a b → Told (P x) b c → Told (ForEach P ys) a c
-  told_more xs ys x e p q = rw e (told_then (for_each_more xs x) p q)
-
   pub told_next : (xs : List X) (i : ℕ) (d : X) {a b c : Progress} → i < length xs
       → Told (ForEach P (take i xs)) a b → Told (P (get_or xs i d)) b c
       → Told (ForEach P (take (i + 1) xs)) a c
-  told_next xs i d lt p q = told_more (take i xs) _ (get_or xs i d) (take_more xs i d lt) p q
+  told_next xs i d lt p q =
+      rw (take_more xs i d lt) (told_then (for_each_more (take i xs) (get_or xs i d)) p q)
 
   -- all of them
   pub told_all : (xs : List X) (i : ℕ) {a b : Progress} → length xs ≤ i
@@ -202,8 +196,7 @@ module _ (pack : Package) (entry : UnitEntry) where
     other_row e text is = inl (e, rw is refl)
 
     module _ (bare : Bool) (is : bare ≡ is_bare pack unit) (row : unit.number ≡ entry.row) where
-      pub in_bare_row : bare ≡ true → (text : List ℕ)
-          → text ≡ codes "its row has no abbreviations"
+      pub in_bare_row : bare ≡ true → (text : List ℕ) → text ≡ codes "its row has no abbreviations"
           → TellsFound pack entry unit (of_unit entry.object text ∷ [])
       in_bare_row e text so = grind (arith)
 

@@ -1,20 +1,15 @@
 //! The identifiers that units' own bytes give. What was read is remembered: the abbreviations from
 //! unit to unit, and what units that share their bytes have.
 
-ghost use Rattle.std.specs.Prelude.{◌≡◌, ◌≢◌, ◌+◌, ◌≤◌, true, false, length, Some, None, Ok, IfOk};
-ghost use Rattle.std.specs.Prelude.{IfErr, take, drop};
+ghost use Rattle.std.specs.Prelude.{false, IfOk, length, None, Ok, Some, true, ◌+◌, ◌≡◌, ◌≢◌, ◌≤◌};
+ghost use Rattle.std.specs.{Prelude.drop, Prelude.IfErr, Prelude.take, Result.result_ok};
 ghost use Rattle.dwp_base.specs.declared.section.Contribution.{Contribution};
-ghost use Rattle.std.specs.Result.{result_ok};
 ghost use Rattle.dwp_bytes.specs.Input.{section};
-ghost use Rattle.dwp_index.specs.Contents.{content};
-ghost use Rattle.dwp_index.specs.Index.{range_in};
+ghost use Rattle.dwp_index.specs.{Contents.content, Index.range_in, Package.found};
 ghost use Rattle.dwp_units.specs.Units.{unit_of};
 ghost use Rattle.thorin_identity.specs.Identity.{identity};
-ghost use Rattle.dwp_index.specs.Package.{found};
-ghost use Rattle.thorin_check.specs.Faults.{TellsOwn};
-ghost use Rattle.thorin_check.specs.Texts.{IsTextOf};
-ghost use Rattle.thorin_check.specs.Own.{own_of};
-ghost use Rattle.thorin_check.specs.Remembered.{said_of, numbers_of, bytes_at, place_in, Knows};
+ghost use Rattle.thorin_check.specs.{Faults.TellsOwn, Own.own_of, Texts.IsTextOf};
+ghost use Rattle.thorin_check.specs.Remembered.{bytes_at, Knows, numbers_of, place_in, said_of};
 ghost use Rattle.thorin_errors.specs.Answers.{Gives};
 
 use crate::faults::some;
@@ -29,16 +24,8 @@ use thorin_errors::Error;
 use thorin_find::{header_of, short_kind};
 use thorin_identity::RangeTables;
 
-/// What a unit's own bytes say of its identifier.
-#[derive(Drop)]
-pub(crate) enum OwnIdentifier {
-    /// The identifier.
-    Is(DwarfObject),
-    /// It has none.
-    Nameless,
-    /// Why it can't be read.
-    Unread(String),
-}
+/// The identifier that a unit's own bytes give, where it has one; or why it can't be read.
+type OwnIdentifier = Result<Option<DwarfObject>, String>;
 
 /// The places of a unit's own bytes and its abbreviations: what they say depends on nothing else.
 #[derive(Clone, Copy, PartialEq)]
@@ -156,7 +143,7 @@ fn read<'a>(
 {
     match header_of(unit, object, pack.order()) {
         Ok(header) => read_behind(alloc, tables, unit, &header),
-        Err(error) => Ok(OwnIdentifier::Unread(format!(in alloc; "{error}")?)),
+        Err(error) => Ok(Err(format!(in alloc; "{error}")?)),
     }
 }
 
@@ -179,9 +166,8 @@ fn read_behind<'a>(
         .saturating_add(size)
         .min(tables.first.bytes().len() as u64);
     match tables.identifier(start as usize, end as usize, header) {
-        Ok(Some(own)) => Ok(OwnIdentifier::Is(own)),
-        Ok(None) => Ok(OwnIdentifier::Nameless),
-        Err(error) => Ok(OwnIdentifier::Unread(format!(in alloc; "{error}")?)),
+        Ok(own) => Ok(Ok(own)),
+        Err(error) => Ok(Err(format!(in alloc; "{error}")?)),
     }
 }
 
@@ -189,10 +175,7 @@ fn read_behind<'a>(
 fn numbers_of(range: Option<Contribution>) -> (u64, u64)
     ensures { result ≡ numbers_of range }
 {
-    match range {
-        Some(range) => (range.offset.0, range.size),
-        None => (0, 0),
-    }
+    range.map_or((0, 0), |range| (range.offset.0, range.size))
 }
 
 /// What is told of a unit whose own bytes say this of its identifier, if anything.
@@ -205,7 +188,7 @@ fn own_fault(
     ensures { IsTextOf (TellsOwn object (said_of own.now)) object result }
 {
     match own {
-        OwnIdentifier::Is(own) => {
+        Ok(Some(own)) => {
             if *own == object {
                 return Ok(None);
             }
@@ -213,8 +196,8 @@ fn own_fault(
             let id = own.index();
             some(format!(in alloc; "its own identifier is {kind} 0x{id:016x}"))
         }
-        OwnIdentifier::Nameless => some(format!(in alloc; "it has no identifier of its own")),
-        OwnIdentifier::Unread(cause) => {
+        Ok(None) => some(format!(in alloc; "it has no identifier of its own")),
+        Err(cause) => {
             let cause = cause.as_str();
             some(format!(in alloc; "its own identifier can't be read: {cause}"))
         }
@@ -261,9 +244,6 @@ impl<'a> TablesByTurns<'a> {
     /// What `RangeTables` says of a unit whose abbreviations stand in the section from the byte
     /// `start` up to the byte `end`. Where a unit's identifier stands behind them it goes on with
     /// the tables of this range, or for want of memory with those of the ranges used first.
-    ///
-    /// # Errors
-    /// Those of `dwo_identifier_of_unit`, of the range.
     pub(crate) fn identifier(
         &mut self,
         start: usize,

@@ -1,9 +1,8 @@
 //! `thorin check`.
 
+ghost use Rattle.thorin_check.specs.Checking.{Finishes, IsOfChecking, TellsPackage};
 ghost use Rattle.std.specs.Prelude.{string_bytes};
-ghost use Rattle.thorin_check.specs.Apart.{AreApartOr};
-ghost use Rattle.thorin_check.specs.Checking.{TellsPackage, IsOfChecking, Finishes, ChecksIndexed};
-ghost use Rattle.thorin_check.specs.Checking.{Checks};
+ghost use Rattle.thorin_check.specs.{Apart.AreApartOr, Checking.Checks};
 ghost use Rattle.thorin_find.specs.Listing.{AreByRow};
 ghost use Rattle.thorin_check.specs.Telling.{so_far, TellsOr};
 
@@ -23,11 +22,9 @@ use thorin_print::{Failure, flush, print};
 /// is its own; a slot names each row; there are abbreviations for the units and strings for the
 /// string offsets; and the package has each split unit that the executables name. Compressed
 /// sections of these may be decompressed. Prints each fault, and how many units and faults there
-/// are, in lines or as JSON objects. Answers the status, 1 where there are faults.
-///
-/// # Errors
-/// `Input` where a file can't be read, `Malformed` where it is no package, `NoIndex` where it has
-/// no index, `Line` or `Memory`.
+/// are, in lines or as JSON objects. Answers the status, 1 where there are faults. Errors: `Input`
+/// where a file can't be read, `Malformed` where it is no package, `NoIndex` where it has no index,
+/// `Line` or `Memory`.
 #[tactic(auto, using(crate::proofs::Checked::not_checked))]
 pub fn check_by<F: FileReader, O: Write>(
     alloc: Global,
@@ -56,48 +53,29 @@ pub fn check_by<F: FileReader, O: Write>(
         entries,
         overlaps: &overlaps,
     };
-    check_indexed(alloc, files, indexed, executables, reading, out)
-}
-
-/// A package that is checked.
-#[derive(Clone, Copy)]
-pub(crate) struct IndexedPackage<'m, 'a> {
-    /// The package.
-    pub pack: &'m PackageFile<'a>,
-    /// The units that its slots name, by row.
-    pub entries: &'m [UnitEntry],
-    /// What their ranges have in common.
-    pub overlaps: &'m Overlaps,
-}
-
-/// Checks a package for what its slots name, and prints all of it. Answers the status. Where it
-/// stops, it prints what waits, as far as the writer takes it.
-fn check_indexed<F: FileReader, O: Write>(
-    alloc: Global,
-    files: &F,
-    indexed: IndexedPackage<'_, '_>,
-    executables: &[&str],
-    reading: Reading,
-    out: &mut O,
-) -> Result<u8, Failure>
-    requires by_row { AreByRow indexed.pack.now indexed.entries.now }
-    requires apart { AreApartOr indexed.overlaps.now.clash indexed.pack.now indexed.entries.now }
-    ensures { ChecksIndexed (F.offer files.now)
-        (record { paths = executables.now; reading = reading }) indexed.entry.pack.now
-        (O.contents out.old) (O.contents out.new) result }
-{
     let mut faults = Faults {
         form: reading.form,
         waiting: String::new(alloc),
         count: 0,
     };
     match check_all(files, indexed, executables, reading, &mut faults, out) {
-        Ok(()) => finish(indexed.entries.len(), &mut faults, out),
+        Ok(()) => finish(entries.len(), &mut faults, out),
+        // What waits is printed, as far as the writer takes it.
         Err(failure) => {
             let _ = print(faults.waiting.as_str(), out);
             Err(failure)
         }
     }
+}
+
+/// A package that is checked.
+#[derive(Clone, Copy)]
+pub(crate) struct IndexedPackage<'m, 'a> {
+    pub pack: &'m PackageFile<'a>,
+    /// The units that its slots name, by row.
+    pub entries: &'m [UnitEntry],
+    /// What their ranges have in common.
+    pub overlaps: &'m Overlaps,
 }
 
 /// Checks the units, the sections that units need and the rows, and that each split unit which the
@@ -136,5 +114,5 @@ fn finish<O: Write>(units: usize, faults: &mut Faults, out: &mut O) -> Result<u8
     put_totals(faults.form, units as u64, count, &mut faults.waiting)?;
     print(faults.waiting.as_str(), out)?;
     flush(out)?;
-    Ok(if count == 0 { 0 } else { 1 })
+    Ok(u8::from(count != 0))
 }

@@ -1,17 +1,14 @@
 //! The strings of a package's units, in `thorin check`: which of them end.
 
-ghost use Rattle.std.specs.Prelude.{◌≡◌, true, Some, Ok, OnOk};
-ghost use Rattle.std.specs.Result.{result_err};
+ghost use Rattle.std.specs.Prelude.{Ok, OnOk, Some, true, ◌≡◌};
+ghost use Rattle.std.specs.{List.All, Result.result_err};
 ghost use Rattle.dwp_index.specs.Contents.{content};
-ghost use Rattle.dwp_index.specs.Package.{row_bytes, Package, found};
-ghost use Rattle.thorin_check.specs.Ends.{HasEnds, AllEnd};
+ghost use Rattle.dwp_index.specs.Package.{found, Package, row_bytes};
+ghost use Rattle.thorin_check.specs.{Faults.TellsString, Faults.TellsStringsOf, Texts.IsTextOf};
+ghost use Rattle.thorin_check.specs.{Ends.AllEnd, Ends.HasEnds, Telling.so_far, Telling.Tells};
 ghost use Rattle.thorin_find.specs.Finding.{string_of};
-ghost use Rattle.std.specs.List.{All};
-ghost use Rattle.thorin_check.specs.Strings.{range_of, is_wide, IsBehind};
-ghost use Rattle.thorin_check.specs.Gathered.{IsOfUnit, Gathers, Adds, TellsListed};
-ghost use Rattle.thorin_check.specs.Faults.{TellsStringsOf, TellsString};
-ghost use Rattle.thorin_check.specs.Texts.{IsTextOf};
-ghost use Rattle.thorin_check.specs.Telling.{so_far, Tells};
+ghost use Rattle.thorin_check.specs.Strings.{is_wide, IsBehind, range_of};
+ghost use Rattle.thorin_check.specs.Gathered.{Adds, Gathers, IsOfUnit, TellsListed};
 ghost use Rattle.dwp_table.specs.declared.object.DwarfObject.{DwarfObject};
 
 use crate::faults::{Faults, some, tell};
@@ -55,13 +52,12 @@ impl Ends {
 
     /// Why the string of a number of a unit can't be read, where that is so: what
     /// `PackagedUnit::string` answers, but no string is read.
+    #[tactic(auto, using(crate::proofs::SharedStrings::none_there))]
     pub(crate) fn error_of(self, unit: &PackagedUnit<'_>, i: u64) -> Option<ReadError>
         requires { HasEnds self unit.now.order (content unit.now.contents SectionKind.Str) }
         ensures { result ≡ result_err (string_of unit.now i) }
     {
-        let Some(offset) = self.offsets_of(unit).entry(i) else {
-            return None;
-        };
+        let offset = self.offsets_of(unit).entry(i)?;
         if offset < self.reach {
             None
         } else if self.size < offset {
@@ -114,9 +110,7 @@ pub(crate) struct StringRange {
     offset: u64,
     /// How many bytes they have.
     size: u64,
-    /// The unit's version.
     version: u16,
-    /// The unit's format.
     format: Format,
 }
 
@@ -159,10 +153,7 @@ fn comes_behind(before: Option<StringRange>, range: StringRange) -> bool
 fn is_wide(format: Format) -> bool
     ensures { result ≡ is_wide format }
 {
-    match format {
-        Format::Dwarf32 => false,
-        Format::Dwarf64 => true,
-    }
+    matches!(format, Format::Dwarf64)
 }
 
 /// The units whose strings are still to be checked. Most units' are while the unit is at hand.

@@ -1,14 +1,12 @@
 //! The sections of abbreviations and of strings, the indexes and their rows, in `thorin check`.
 
-ghost use Rattle.std.specs.Prelude.{◌≡◌, option_copied, ◌<◌, ◌≤◌};
-ghost use Rattle.thorin_check.specs.Checking.{TellsTables};
-ghost use Rattle.thorin_check.specs.Faults.{TellsRowsOf, is_next, row_end, row_faults};
-ghost use Rattle.thorin_check.specs.Telling.{so_far, Tells, Is};
+ghost use Rattle.std.specs.Prelude.{option_copied, ◌<◌, ◌≡◌, ◌≤◌};
+ghost use Rattle.thorin_check.specs.Indexes.{mixed_versions, section_faults, versions_faults};
+ghost use Rattle.thorin_check.specs.{Checking.TellsTables, Indexes.lacks_column, Telling.so_far};
+ghost use Rattle.thorin_check.specs.{Indexes.has_column, Telling.Is, Telling.Tells};
+ghost use Rattle.thorin_check.specs.Faults.{is_next, row_end, row_faults, TellsRowsOf};
 ghost use Rattle.thorin_find.specs.Listing.{AreByRow, place_of_line};
-ghost use Rattle.thorin_check.specs.Indexes.{mixed_versions, versions_faults, has_column};
-ghost use Rattle.thorin_check.specs.Indexes.{lacks_column, section_faults};
-ghost use Rattle.std.specs.List.Sorted.{IsSortedByKey};
-ghost use Rattle.std.specs.Ordering.{nat_cmp};
+ghost use Rattle.std.specs.{List.Sorted.IsSortedByKey, Ordering.nat_cmp};
 
 use crate::checking::IndexedPackage;
 use crate::faults::{Faults, tell_of_package};
@@ -97,20 +95,15 @@ fn check_versions<O: Write>(
 fn lacks_column(pack: &PackageFile<'_>, kind: SectionKind) -> bool
     ensures { result ≡ lacks_column pack.now kind }
 {
-    if pack.content(kind).is_empty() {
-        return false;
-    }
-    !(has_column(pack.compilation_index(), kind) || has_column(pack.type_index(), kind))
+    !pack.content(kind).is_empty()
+        && !(has_column(pack.compilation_index(), kind) || has_column(pack.type_index(), kind))
 }
 
 /// Whether an index has a column for a section.
 fn has_column(index: Option<&UnitIndex<'_>>, kind: SectionKind) -> bool
     ensures { result ≡ has_column kind (option_copied index.entry) }
 {
-    match index {
-        Some(index) => index.has_column(kind),
-        None => false,
-    }
+    index.is_some_and(|index| index.has_column(kind))
 }
 
 /// Whether a slot names a row of an index before its end, and none before the next.
@@ -127,10 +120,7 @@ fn end_of(index: Option<&UnitIndex<'_>>) -> u64
     ensures end { result ≡ row_end (option_copied index.entry) }
     ensures some { 0 < result }
 {
-    match index {
-        Some(index) => u64::from(index.unit_count()) + 1,
-        None => 1,
-    }
+    index.map_or(1, |index| u64::from(index.unit_count()) + 1)
 }
 
 /// A slot names each row of an index up to its end: tells each row before that of a slot of its

@@ -17,10 +17,7 @@ pub trait FileReader {
     // What a read of the file at a path may answer.
     ghost offer: { Self → List ℕ → Result (List ℕ) IoError → Type 0 };
 
-    /// Reads a file whole.
-    ///
-    /// # Errors
-    /// Why it couldn't be read, want of memory by its kind.
+    /// Reads a file whole. Errors: why it couldn't be read, want of memory by its kind.
     fn read(&self, path: &str) -> io::Result<Vec<u8>>
         ensures read { IfOk result (λ bytes. offer self.now path.now (Ok bytes.items)) }
         ensures refused { IfErr result (λ cause. offer self.now path.now (Err cause)) };
@@ -75,10 +72,7 @@ impl FileReader for HostReader<'_> {
     }
 }
 
-/// Reads a file whole.
-///
-/// # Errors
-/// `Input`, or `Memory`.
+/// Reads a file whole. Errors: `Input`, or `Memory`.
 pub fn read_named<F: FileReader>(files: &F, path: &str) -> Result<Vec<u8>, Failure>
     ensures read { IfOk result (λ bytes. F.offer files.now path.now (Ok bytes.items)) }
     ensures refused { IfErr result (FailsToRead (F.offer files.now) path.now) }
@@ -114,15 +108,10 @@ pub enum FileKind {
 pub fn kind_of(bytes: &[u8]) -> FileKind
     ensures { result ≡ kind_of (package_of bytes.now) }
 {
-    let pack = match PackageFile::parse(bytes) {
-        Ok(pack) => pack,
-        Err(error) => return FileKind::Malformed(error),
-    };
-    if !has_no_index(&pack) {
-        FileKind::Package
-    } else if pack.content(SectionKind::Info).is_empty() {
-        FileKind::NoIndex
-    } else {
-        FileKind::Object
+    match PackageFile::parse(bytes) {
+        Ok(pack) if !has_no_index(&pack) => FileKind::Package,
+        Ok(pack) if pack.content(SectionKind::Info).is_empty() => FileKind::NoIndex,
+        Ok(_pack) => FileKind::Object,
+        Err(error) => FileKind::Malformed(error),
     }
 }

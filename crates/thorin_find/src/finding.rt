@@ -1,14 +1,13 @@
 //! `thorin find`: what it is asked for, and what it tells of a unit, plain and in JSON.
 
-ghost use Rattle.std.specs.Prelude.{◌≡◌, ◌++◌, MatchResult, OnOk, string_bytes, codes};
+ghost use Rattle.thorin_print.specs.declared.output.Failure.TheVariants as failures;
+ghost use Rattle.std.specs.Prelude.{codes, MatchResult, OnOk, string_bytes, ◌++◌, ◌≡◌};
+ghost use Rattle.thorin_find.specs.Finding.{find_answer, range_texts, string_count, string_line};
+ghost use Rattle.thorin_find.specs.Finding.{all_text, AsksFor, range_text, words_of, WritesNone};
+ghost use Rattle.thorin_find.specs.Finding.{Asks, Finds, Writes};
 ghost use Rattle.std.specs.Option.{option_copied};
 ghost use Rattle.dwp_table.specs.Objects.{identifier_of};
-ghost use Rattle.thorin_print.specs.Answers.{Comes};
-ghost use Rattle.thorin_print.specs.Lines.{hex16};
-ghost use Rattle.thorin_print.specs.declared.output.Failure.TheVariants as failures;
-ghost use Rattle.thorin_find.specs.Finding.{Asks, AsksFor, Writes, WritesNone, Finds, find_answer};
-ghost use Rattle.thorin_find.specs.Finding.{words_of, string_count, string_line};
-ghost use Rattle.thorin_find.specs.Finding.{range_text, range_texts, all_text};
+ghost use Rattle.thorin_print.specs.{Answers.Comes, Lines.hex16};
 ghost use Rattle.thorin_find.specs.Lines.{json_unit, short_kind};
 
 use crate::files::{FileReader, read_named};
@@ -53,15 +52,12 @@ pub(crate) enum Wanted {
     Bytes(SectionKind),
 }
 
-/// Looks a unit up in a package's file and prints what belongs to it, or what is wanted of that. Its
-/// kind is `cu` or `tu`, its identifier 1 to 16 hexadecimal digits, with or without `0x` in front.
-/// Answers the status 0.
-///
-/// # Errors
-/// `BadKind`, then `BadIdentifier`, `BadNumber` or `BadSection`; `Input` where the file can't be
-/// read, `Malformed` where it is no package, or a string can't be read, `NoUnit` where it has no
-/// such unit, `NoString` or `NoRange` where the unit doesn't have what is wanted; `Line` or
-/// `Memory`.
+/// Looks a unit up in a package's file and prints what belongs to it, or what is wanted of that.
+/// Its kind is `cu` or `tu`, its identifier 1 to 16 hexadecimal digits, with or without `0x` in
+/// front. Answers the status 0. Errors: `BadKind`, then `BadIdentifier`, `BadNumber` or
+/// `BadSection`; `Input` where the file can't be read, `Malformed` where it is no package, or a
+/// string can't be read, `NoUnit` where it has no such unit, `NoString` or `NoRange` where the unit
+/// doesn't have what is wanted; `Line` or `Memory`.
 pub fn find_by<F: FileReader, O: Write>(
     alloc: Global,
     files: &F,

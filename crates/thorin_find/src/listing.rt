@@ -1,12 +1,11 @@
 //! `thorin list`.
 
-ghost use Rattle.std.specs.Prelude.{◌≡◌, [], ◌++◌, IfOk, IfErr, OnOk, string_bytes};
-ghost use Rattle.dwp_index.specs.Entries.{entries_from};
-ghost use Rattle.dwp_index.specs.Package.{found};
-ghost use Rattle.thorin_find.specs.Listing.{place_by, AreByRow, range_size, range_sizes, front_of};
-ghost use Rattle.thorin_find.specs.Listing.{unit_names, view_of, unit_line, AddsLine, lines_of};
-ghost use Rattle.thorin_find.specs.Listing.{IsListedIn, PrintsFront, PrintsLines};
-ghost use Rattle.thorin_find.specs.Listing.{Begins, ListsPackage, Lists};
+ghost use Rattle.std.specs.Prelude.{IfErr, IfOk, OnOk, string_bytes, [], ◌++◌, ◌≡◌};
+ghost use Rattle.thorin_find.specs.Listing.{IsListedIn, range_size, unit_line, unit_names, view_of};
+ghost use Rattle.thorin_find.specs.Listing.{PrintsFront, PrintsLines, range_sizes};
+ghost use Rattle.thorin_find.specs.Listing.{AddsLine, AreByRow, front_of, lines_of, place_by};
+ghost use Rattle.thorin_find.specs.Listing.{Begins, Lists};
+ghost use Rattle.dwp_index.specs.{Entries.entries_from, Package.found};
 
 use crate::files::{FileReader, read_named};
 use crate::finding::{put_json_unit, put_object};
@@ -39,12 +38,10 @@ pub struct ListForm {
 /// line goes on with sizes and names where these are asked for; totals follow then. In columns it
 /// is a row, under the names of the sections, and each total has its share of the file. Answers the
 /// status 0. Lines are printed as soon as there are 8 KB of them; where a unit can't be looked up,
-/// that is up to the line before it. Columns are printed once they are whole.
-///
-/// # Errors
-/// `Input` where the file can't be read, `Malformed` where it is no package or a unit can't be
-/// looked up, `Line` or `Memory`.
-#[tactic(auto, using(crate::proofs::Listed::not_listed, crate::proofs::Listed::same_entries))]
+/// that is up to the line before it. Columns are printed once they are whole. Errors: `Input` where
+/// the file can't be read, `Malformed` where it is no package or a unit can't be looked up, `Line`
+/// or `Memory`.
+#[tactic(auto, using(crate::proofs::Listed::not_listed))]
 pub fn list_by<F: FileReader, O: Write>(
     alloc: Global,
     files: &F,
@@ -60,41 +57,26 @@ pub fn list_by<F: FileReader, O: Write>(
         return Err(Failure::Malformed);
     };
     let entries = entries_by_row(alloc, &package)?;
+    let entries = entries.as_slice();
     let listed = Listed {
         pack: &package,
         file_size: bytes.len(),
         form,
     };
-    list_entries(alloc, listed, entries.as_slice(), out)
-}
-
-/// A package that is listed.
-#[derive(Clone, Copy)]
-struct Listed<'m, 'a> {
-    /// The package.
-    pack: &'m PackageFile<'a>,
-    /// How many bytes its file has.
-    file_size: usize,
-    /// What its lines are to have.
-    form: ListForm,
-}
-
-/// Lists the units of a package.
-fn list_entries<O: Write>(
-    alloc: Global,
-    listed: Listed<'_, '_>,
-    entries: &[UnitEntry],
-    out: &mut O,
-) -> Result<u8, Failure>
-    requires { AreByRow listed.pack.now entries.now }
-    ensures { ListsPackage listed.entry.form listed.entry.pack.now (O.contents out.old)
-        (O.contents out.new) result }
-{
     let mut waiting = String::new(alloc);
     let mut ranges = UnitRanges::new(alloc);
     let is_all = print_lines(listed, entries, &mut ranges, &mut waiting, out)?;
     let given = put_rest(listed, is_all, &mut ranges, &mut waiting)?;
     answer(waiting.as_bytes(), given, out)
+}
+
+/// A package that is listed.
+#[derive(Clone, Copy)]
+struct Listed<'m, 'a> {
+    pack: &'m PackageFile<'a>,
+    /// How many bytes its file has.
+    file_size: usize,
+    form: ListForm,
 }
 
 /// Adds what stands behind the lines: totals where sizes are asked for, or columns. Answers what is
@@ -135,10 +117,7 @@ fn put_rest(
 
 /// Prints the lines of units, up to one that can't be looked up: then it answers false. The last
 /// of them are left to be printed.
-///
-/// # Errors
-/// `Line` or `Memory`.
-#[tactic(auto, using(crate::proofs::Walk::printed_next, crate::proofs::Walk::not_found, crate::proofs::Walk::all_found, crate::proofs::Walk::begun, crate::proofs::Walk::begun_next, thorin_print::proofs::Lines::drop_next))]
+#[tactic(auto, using(crate::proofs::Listed::printed_next, crate::proofs::Listed::not_found, crate::proofs::Listed::all_found, crate::proofs::Listed::begun, crate::proofs::Listed::begun_next, thorin_print::proofs::Lines::drop_next))]
 fn print_lines<O: Write>(
     listed: Listed<'_, '_>,
     entries: &[UnitEntry],
@@ -164,10 +143,7 @@ fn print_lines<O: Write>(
 }
 
 /// Prints what waits in a text, where it is much: then nothing waits.
-///
-/// # Errors
-/// `Line` where the writer doesn't take all.
-#[tactic(auto, using(crate::proofs::Walk::all_waits, crate::proofs::Walk::none_waits, crate::proofs::Walk::not_printed))]
+#[tactic(auto, using(crate::proofs::Listed::all_waits, crate::proofs::Listed::none_waits, crate::proofs::Listed::not_printed))]
 fn print_much<O: Write>(waiting: &mut String, out: &mut O) -> Result<(), Failure>
     ensures whole { OnOk result (PrintsFront (O.contents out.old) (O.contents out.new)
         (string_bytes waiting.old) (string_bytes waiting.new)) }
@@ -299,20 +275,14 @@ fn put_names<'a>(
 {
     let (source, name) = names_of(listed.pack, object, unit);
     let form = listed.form.form;
-    match form {
-        Form::Lines => {
-            text.push_str("\t")?;
-            put_spelled_or(source, form, text)?;
-            text.push_str("\t")?;
-            put_spelled_or(name, form, text)
-        }
-        Form::Json => {
-            text.push_str(",\"name\":")?;
-            put_spelled_or(source, form, text)?;
-            text.push_str(",\"dwo_name\":")?;
-            put_spelled_or(name, form, text)
-        }
-    }
+    let (before_source, before_name) = match form {
+        Form::Lines => ("\t", "\t"),
+        Form::Json => (",\"name\":", ",\"dwo_name\":"),
+    };
+    text.push_str(before_source)?;
+    put_spelled_or(source, form, text)?;
+    text.push_str(before_name)?;
+    put_spelled_or(name, form, text)
 }
 
 /// Adds the sizes on the line of a unit, and gathers its ranges.

@@ -1,16 +1,14 @@
 //! The names that a unit's own bytes give: of its source, and of its object.
 
-ghost use Rattle.std.specs.Prelude.{◌≡◌, option_map};
-ghost use Rattle.std.specs.Option.{option_copied, option_and_then};
-ghost use Rattle.std.specs.Result.{result_ok};
+ghost use Rattle.thorin_find.specs.Names as spec;
+ghost use Rattle.std.specs.Prelude.{option_map, ◌≡◌};
+ghost use Rattle.thorin_find.specs.Names.{object_name, short_string_at, source_name, string_number};
+ghost use Rattle.thorin_find.specs.Names.{die_of, header_in, named, object_in, string_of};
+ghost use Rattle.std.specs.{Option.option_and_then, Option.option_copied, Result.result_ok};
 ghost use Rattle.dwp_bytes.specs.Input.{front};
 ghost use Rattle.dwp_index.specs.Contents.{content};
 ghost use Rattle.dwp_dwarf.specs.Attributes.{attribute_of, attributes_left, entry_of, root_of};
 ghost use Rattle.dwp_units.specs.Units.{unit_of};
-ghost use Rattle.thorin_find.specs.Names as spec;
-ghost use Rattle.thorin_find.specs.Names.{header_in, die_of, named, short_string_at};
-ghost use Rattle.thorin_find.specs.Names.{string_number, string_of, object_in, source_name};
-ghost use Rattle.thorin_find.specs.Names.{object_name};
 
 use dwp_base::{Endianness, SectionKind};
 use dwp_bytes::{ReadError, Reader, SliceReader, StringOffsets, string_at};
@@ -44,8 +42,8 @@ const MOST_READ: usize = 16384;
 /// How many bytes a name is sought in.
 const MOST_NAMED: u64 = 4096;
 
-/// The names of a unit's source, `DW_AT_name` of its unit DIE, and of its object, `DW_AT_dwo_name` or
-/// `DW_AT_GNU_dwo_name` there.
+/// The names of a unit's source, `DW_AT_name` of its unit DIE, and of its object, `DW_AT_dwo_name`
+/// or `DW_AT_GNU_dwo_name` there.
 #[tactic(auto, unfolding(crate::specs::Names::source_name, crate::specs::Names::object_name))]
 pub(crate) fn names_of<'a>(
     pack: &PackageFile<'a>,

@@ -6,6 +6,5 @@ use Rattle.thorin_check.proofs.checking.check_all.Given as goal
 abbrev pub invariant-loop-i : goal.invariant-loop-i
 invariant-loop-i g l = Told
     (TellsExecutables (g.F.FileReader.offer l.files) l.reading l.indexed.pack.now
-    (take l.i l.executables))
-    (so_far (g.O.Write.contents l.initial.out) l.initial.faults)
+    (take l.i l.executables)) (so_far (g.O.Write.contents l.initial.out) l.initial.faults)
     (so_far (g.O.Write.contents l.out) l.faults)

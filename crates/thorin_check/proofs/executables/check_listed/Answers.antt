@@ -1,7 +1,6 @@
-use Rattle.thorin_check.proofs.Terms.{IsOfPrinting, err_from_is_err_and, refl}
-use Rattle.thorin_check.proofs.Checked.{broken_behind, left_shorter, on_bare, on_end, on_long}
-use Rattle.thorin_check.proofs.Checked.{on_next}
-use Rattle.thorin_check.proofs.Told.{none_told, told_then, told_as, then_or, stopped_behind}
+use Rattle.thorin_check.proofs.Told.{exit_is, none_told, stopped_behind, told_as, told_then}
+use Rattle.thorin_check.proofs.{Terms.arith, Terms.IsOfPrinting, Terms.refl, Told.then_or}
+use Rattle.thorin_check.proofs.Checked.{broken_behind, on_bare, on_end, on_long, on_next}
 use Rattle.thorin_check.proofs.executables.check_listed.Goals as goal
 
 pub loop-unit-init : goal.loop-unit-init
@@ -16,7 +15,7 @@ loop-unit-preserved g c =
 
 pub loop-unit-smaller : goal.loop-unit-smaller
 loop-unit-smaller g c =
-    left_shorter _ _ _ (rw c.in-Ok-Some.field-0-is at c.in-Ok-Some.ensures.next)
+    rw (rw c.in-Ok-Some.field-0-is at c.in-Ok-Some.ensures.next) (omega arith)
 
 pub returns-then-not-has_room : goal.returns-then-not-has_room
 returns-then-not-has_room g c =
@@ -29,9 +28,8 @@ returns-then-not-has_room g c =
 
 pub returns-in_err-check_skeleton-in-Ok-Some : goal.returns-in_err-check_skeleton-in-Ok-Some
 returns-in_err-check_skeleton-in-Ok-Some g c =
-    let p = err_from_is_err_and c.from_residual.result c.from_residual.ensures.1 in
-    rw (p.1, p.2) (stopped_behind _ c.loop-unit.invariant
-    c.in_err-check_skeleton-in-Ok-Some.ensures)
+    rw (exit_is c.from_residual.result c.from_residual.ensures.1) (stopped_behind _
+    c.loop-unit.invariant c.in_err-check_skeleton-in-Ok-Some.ensures)
 
 pub returns-then-is_first : goal.returns-then-is_first
 returns-then-is_first g c =

@@ -1,8 +1,9 @@
-use Rattle.thorin_check.proofs.Terms.{Ok, arith, err_from_is_err_and, refl, string_of}
+use Rattle.thorin_check.proofs.Told.{exit_is, for_each_more, none_told, strings_some, text_stopped}
+use Rattle.thorin_check.proofs.Terms.{arith, List, Ok, Option, ReadError, refl, Result}
+use Rattle.thorin_check.proofs.Terms.{string_of, ℕ}
+use Rattle.thorin_check.proofs.{SharedStrings.of_found, Told.text_told, Told.told_then}
 use Rattle.std.proofs.lemmas.List.FromFn.{map-range_with_len_more}
 use Rattle.thorin_check.specs.Faults.{TellsNumbered}
-use Rattle.thorin_check.proofs.Told.{text_told, text_stopped, strings_some, none_told, told_more}
-use Rattle.thorin_check.proofs.SharedStrings.{of_found}
 use Rattle.thorin_check.proofs.strings.check_strings_of.Goals as goal
 
 pub returns-in-Ok-None : goal.returns-in-Ok-None
@@ -20,16 +21,16 @@ pub loop-i-preserved : goal.loop-i-preserved
 loop-i-preserved g c =
     let i = c.loop-i.i in
     let unit = c.in-Ok-Some.unit in
-    told_more (TellsNumbered c.args.object) _ _ (i, string_of unit i)
-    (map-range_with_len_more (λ k. (k, string_of unit k)) 0 i i (omega arith))
-    c.loop-i.invariant
-    (text_told _ _ _ _ _ (Ok tt) (c.string_text-text.ensures c.args.object)
-    c.in_ok-tell.ensures)
+    rw (map-range_with_len_more {X = ℕ × Result (Option (List ℕ)) ReadError}
+    (λ k. (k, string_of unit k)) 0 i i (omega arith))
+    (told_then (for_each_more (TellsNumbered c.args.object) _ (i, string_of unit i))
+    c.loop-i.invariant (text_told _ _ _ _ _ (Ok tt) (c.string_text-text.ensures c.args.object)
+    c.in_ok-tell.ensures))
 
 pub returns-in_err-tell : goal.returns-in_err-tell
 returns-in_err-tell g c =
-    let p = err_from_is_err_and c.from_residual.result c.from_residual.ensures.1 in
-    rw (p.1, p.2) (text_stopped _ _ _ _ c.loop-i.invariant c.in_err-tell.ensures)
+    rw (exit_is c.from_residual.result c.from_residual.ensures.1) (text_stopped _ _ _ _
+    c.loop-i.invariant c.in_err-tell.ensures)
 
 pub returns : goal.returns
 returns g c =

@@ -1,6 +1,5 @@
-use Rattle.thorin_check.proofs.Terms.{err_from_is_err_and}
-use Rattle.thorin_check.proofs.Distinct.{text_made, text_seen, seen_next, units_apart, units_then}
-use Rattle.thorin_check.proofs.Told.{text_stopped, then_or, told_all}
+use Rattle.thorin_check.proofs.Told.{exit_is, text_stopped, then_or, told_all}
+use Rattle.thorin_check.proofs.Distinct.{seen_next, text_made, text_seen, units_apart, units_then}
 use Rattle.thorin_check.proofs.units.check_units.Goals as goal
 
 pub loop-i-preserved : goal.loop-i-preserved
@@ -15,13 +14,12 @@ loop-i-preserved g c =
 
 pub returns-in_err-tell : goal.returns-in_err-tell
 returns-in_err-tell g c =
-    let p = err_from_is_err_and c.from_residual.result c.from_residual.ensures.1 in
-    rw (p.1, p.2) (text_stopped _ _ _ _ c.loop-i.invariant.told c.in_err-tell.ensures)
+    rw (exit_is c.from_residual.result c.from_residual.ensures.1) (text_stopped _ _ _ _
+    c.loop-i.invariant.told c.in_err-tell.ensures)
 
 pub returns : goal.returns
 returns g c =
     then_or _ _ _ _ _ _ _ (units_then _ _ _) c.check_strings.result
     (units_apart _ _ _ _ c.requires c.if-overlaps-faults.false
-    (told_all _ c.args.indexed.entries.now c.loop-i.i c.loop-i-test.false
-    c.loop-i.invariant.told))
+    (told_all _ c.args.indexed.entries.now c.loop-i.i c.loop-i-test.false c.loop-i.invariant.told))
     c.check_strings.ensures

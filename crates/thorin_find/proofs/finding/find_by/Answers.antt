@@ -26,5 +26,4 @@ returns-in_err-bytes g c =
 pub returns : goal.returns
 returns g c =
     was_read _ _ _ _ _ c.object-object.ensures _ c.wanted_of-wanted.ensures _ c.in_ok-object.was _
-    c.in_ok-wanted.was _ _ _ _ c.in_ok-bytes.ensures.read c.as_slice.ensures.value
-    c.find_in.ensures
+    c.in_ok-wanted.was _ _ _ _ c.in_ok-bytes.ensures.read c.as_slice.ensures.value c.find_in.ensures

@@ -5,8 +5,7 @@ use Rattle.dwp_bytes.specs.declared.error.ReadError.{ReadError}
 use Rattle.thorin_find.proofs.names.beginning.Goals as goal
 
 -- what has fewer bytes is its own beginning
-kept_whole : (n : ℕ) (i j : Input) (e : ReadError) → truncate_at n i ≡ Err e → j ≡ i
-    → j ≡ front n i
+kept_whole : (n : ℕ) (i j : Input) (e : ReadError) → truncate_at n i ≡ Err e → j ≡ i → j ≡ front n i
 unfolding truncate_at
 kept_whole n i j e short_of same = grind (arith, nat_tests, take_all)
 
