@@ -5,24 +5,21 @@ use Terms.{drop, Err, Error, FailsBy, Failure, false, filter-append, get_or, Gro
 use Terms.{Input, InputError, inr, is_archive, IsNotTaken, IsTakenFor, IsUnfinished, length, List}
 use Terms.{Manner, manner_of, map, map-append, None, NoOutputObjectCreated, NoPackage, NotTaken}
 use Terms.{Offer, Ok, Option, outcome_of, Packing, Path, path_bytes, paths_in, Plain, Reasons, refl}
-use Terms.{refusal_text, Refuses, Result, Some, split_contents, StandsFor, State, Stops, StopsAt}
+use Terms.{Refuses, Result, Some, split_contents, StandsFor, State, Stops, StopsAt}
 use Terms.{StopsIn, sym, take, take_more, Tells, Took, TookEach, TookInputs, true, Unfinished}
 use Terms.{Unread, [], ℕ, ◌++◌, ◌+◌, ◌<◌, ◌∙◌, ◌∷◌, ◌≡◌, ◌⊎◌}
+use Rattle.thorin_commands.specs.Cause.{AreRefused, IsCauseFor, IsMalformed, IsUnfit, refusal_text}
+use Rattle.thorin_commands.specs.Cause.{Finishing, IsCauseOf, IsRefused, IsTakenNot, StopsAmong}
+use Rattle.thorin_commands.specs.Cause.{IsUntaken, Taking, Told, told_text, Untaken}
 use Rattle.std.proofs.Common.{◌≢◌}
-use Rattle.std.proofs.lemmas.List.{take-append-drop}
-use Rattle.std.specs.List.{slice_get}
+use Rattle.std.{proofs.lemmas.List.take-append-drop, specs.List.slice_get}
 use Rattle.thorin_errors.specs.Errors.{error_of}
-use Rattle.dwp_archive.specs.Entries.{Member}
-use Rattle.dwp_archive.specs.Members.{members_of}
+use Rattle.dwp_archive.specs.{Entries.Member, Members.members_of}
 use Rattle.dwp_archive.specs.declared.error.ArchiveError.{ArchiveError}
 use Rattle.thorin_join.specs.Builder.{start}
 use Rattle.thorin_builder.specs.Reading.{IsRead, OnDeclined, unread}
 use Rattle.thorin.specs.Run.{DeclinesInput}
-use Rattle.thorin_commands.specs.Cause.{AreRefused, Finishing, IsCauseFor, IsCauseOf, IsMalformed}
-use Rattle.thorin_commands.specs.Cause.{IsRefused, IsTakenNot, IsUnfit, IsUntaken, StopsAmong}
-use Rattle.thorin_commands.specs.Cause.{Taking, Told, told_text, Untaken}
-use Rattle.thorin_commands.specs.Opened.{Fills}
-use Rattle.thorin_commands.proofs.Opened.{each_append, each_none}
+use Rattle.thorin_commands.{proofs.Opened.each_append, proofs.Opened.each_none, specs.Opened.Fills}
 use Rattle.dwp_archive.specs.View as view
 use Rattle.dwp_archive.specs.declared.member.Member as declared
 use Rattle.dwp_archive.specs.declared.error.ArchiveError.TheVariants as archive_errors
@@ -57,8 +54,7 @@ module _ {W : Type 0} (contents : W → Option (List ℕ)) (failed : W → Type 
 
   -- the reason of an outcome was told
   pub told_reason : (outcome : Result (Unit {0}) (NotTaken Error Growth))
-      → (why : NotTaken Error Growth) → outcome ≡ Err why
-      → Tells contents writer (refusal_text why)
+      → (why : NotTaken Error Growth) → outcome ≡ Err why → Tells contents writer (refusal_text why)
       → Refuses contents failed writer (IsUntaken (λ why. outcome ≡ Err why)) refusals.Told
   told_reason outcome why e line = record {
     cause = Untaken why;
@@ -138,15 +134,13 @@ module _ {opens : Bool} {manner : Manner} {offer : Offer} {declines : Reasons} w
   taking partial list cause stops = Taking stops
 
   pub finishing : (partial : Bool) (list : List Input) (new : State)
-      → Fills partial opens manner offer list start new
-      → (cause : Cause) → IsUnfinished new cause
+      → Fills partial opens manner offer list start new → (cause : Cause) → IsUnfinished new cause
       → IsCauseOf partial opens manner offer declines list cause
   finishing partial list new fills cause u =
       Finishing fills.state fills.took (rw fills.rest at u)
 
 -- the contents of members that have split units, and of more behind them
-contents_append : (xs ys : List declared.Member)
-    → split_contents (map view.member (xs ++ ys))
+contents_append : (xs ys : List declared.Member) → split_contents (map view.member (xs ++ ys))
     ≡ split_contents (map view.member xs) ++ split_contents (map view.member ys)
 contents_append xs ys = rw (map-append, map-append, filter-append) refl
 
@@ -228,8 +222,7 @@ module _ {W : Type 0} (contents : W → Option (List ℕ)) (failed : W → Type 
 pub content_refused : {manner : Manner} {content taken : List ℕ} → IsTakenFor manner content taken
     → (offer : Offer) (declines : Reasons) (state : State)
     (r : Result (Unit {0}) (NotTaken Error Growth))
-    → IfErr r (AreRefused offer declines taken state)
-    → IfErr r (λ why. IsUnfit manner content why
+    → IfErr r (AreRefused offer declines taken state) → IfErr r (λ why. IsUnfit manner content why
     ⊎ IsTakenNot offer declines manner content state why)
 content_refused is offer declines state (Ok x) h = tt
 content_refused {taken = taken} is offer declines state (Err why) h =

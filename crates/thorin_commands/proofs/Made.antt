@@ -3,14 +3,12 @@ use Rattle.thorin_commands.proofs.Terms
 use Terms.{added_in, Alone, Among, ap, append_assoc, Archive, AreAsked, asked, asks, Bad, Bool}
 use Terms.{Cause, DebugTypeSignature, differing_in, Err, Error, false, File, file_text, IfErr, inl}
 use Terms.{Input, inr, IsNotTaken, IsPrinted, IsUnfinished, left, List, Manner, manner_of, map}
-use Terms.{NoOutputObjectCreated, NoPackage, Offer, Ok, OnOk, Option, out_of, Packing, Plain}
-use Terms.{Reasons, refl, Refuses, Result, Some, State, StopsAt, StopsIn, TellsInputs, TellsMacros}
+use Terms.{NoOutputObjectCreated, NoPackage, Offer, Ok, Option, out_of, Packing, Plain, Reasons}
+use Terms.{refl, Refuses, Result, Some, State, StopsAt, StopsIn, TellsInputs, TellsMacros}
 use Terms.{TellsTaken, true, Unfinished, Unread, ℕ, ◌++◌, ◌∙◌, ◌≡◌}
-use Rattle.std.specs.Prelude.{IfOk}
 use Rattle.thorin_errors.specs.Errors.{NoOutputObjectCreated as NoneBegun}
 use Rattle.thorin_join.specs.Builder.{finish_test}
-use Rattle.thorin_output.specs.Warnings.{IsWarning}
-use Rattle.thorin_output.specs.declared.warnings.Warned.{Warned}
+use Rattle.thorin_output.specs.{declared.warnings.Warned.Warned, Warnings.IsWarning}
 use Rattle.thorin_commands.specs.Made.{IsMade, IsMadeFor, IsReady}
 use Rattle.thorin_commands.specs.Warned.{names, others, PacksTelling, TellsUnsplitRun}
 use Rattle.thorin_commands.proofs.Warned.{printed_as, printed_then}
@@ -44,12 +42,9 @@ pub never_empty : (opens : Bool) (manner : Manner) (offer : Offer) (declines : R
     (failed : W → Type 0) (writer : W) {X : Type 0} (refusal : NoPackage)
     → Refuses contents failed writer (StopsAt opens manner offer declines list old) refusal
     → refusal ≡ refusals.Empty → X
-never_empty opens manner offer declines list old contents failed writer refusals.Empty h e =
-    absurd (not_taken_no h.input h.state _ h.refused _ refl)
-never_empty opens manner offer declines list old contents failed writer refusals.Told h e =
-    absurd cc
-never_empty opens manner offer declines list old contents failed writer (refusals.Command failure)
-    h e = absurd cc
+never_empty opens manner offer declines list old contents failed writer refusal h e =
+    let stops = rw e at h in
+    absurd (not_taken_no stops.input stops.state _ stops.refused _ refl)
 
 -- a package that can't be finished since no input began it
 pub none_began : {state : State} → IsUnfinished state (Unfinished NoOutputObjectCreated)
@@ -57,13 +52,6 @@ pub none_began : {state : State} → IsUnfinished state (Unfinished NoOutputObje
 none_began u =
     let same : u.error ≡ NoOutputObjectCreated = cc in
     elim ((rw same at u.refuses) (λ m. absurd cc)) [ inl h ↦ h | inr h ↦ absurd cc ]
-
--- what is known of all that was made
-pub if_made : {X E K : Type 0} {A B C D M : X → Type 0} (r : Result X E)
-    → ((made : X) → A made → B made → C made → D made → K → M made) → IfOk r A → IfOk r B
-    → IfOk r C → IfOk r D → OnOk r K → IfOk r M
-if_made (Ok made) f a b c d k = f made a b c d k
-if_made (Err e) f a b c d k = tt
 
 pub if_refused : {X E : Type 0} {P Q R : E → Type 0} (r : Result X E)
     → ((e : E) → P e → Q e → R e) → IfErr r P → IfErr r Q → IfErr r R
@@ -122,32 +110,20 @@ pub made_ready : {offer : Offer} (packing : Packing) {a b : Option (List ℕ)} {
     → TellsMacros packing.warns_of_macros macros → lines ≡ macros ++ named
     → IsMadeFor (TellsInputs offer packing) offer packing a b object differing named
     → IsReady offer packing a b object differing lines
-made_ready packing named macros lines are is made = record {
-  named = named;
-  made = made;
-  macros = macros;
-  macros_are = are;
-  lines_are = is;
-}
+made_ready packing named macros lines are is made =
+    record { named = named; made = made; macros = macros; macros_are = are; lines_are = is }
 
 -- and the warnings behind the package
 pub packs_telling : (offer : Offer) (packing : Packing) (Puts : (name text : List ℕ) → Type 0)
     (object : File) (name : List ℕ) (differing : List DebugTypeSignature) (lines : List ℕ)
-    (a b c : Option (List ℕ)) (warned : Warned)
-    → IsReady offer packing a b object differing lines
+    (a b c : Option (List ℕ)) (warned : Warned) → IsReady offer packing a b object differing lines
     → out_of packing ≡ Some name → Puts name (file_text object)
     → warned.lines.now ≡ lines → warned.differing.now ≡ differing
     → warned.warnings ≡ others (names packing.verbose packing.warnings) packing.warnings
     → IsPrinted b c (IsWarning warned) → PacksTelling offer packing Puts a c
 packs_telling offer packing Puts object name differing lines a b c warned ready named put el ed ew
     p = record {
-      packs = record {
-        object = object;
-        is = ready.made.is;
-        name = name;
-        named = named;
-        put = put;
-      };
+      packs = record { object = object; is = ready.made.is; name = name; named = named; put = put };
       told = printed_then (λ x y t u. record {
         inputs = x;
         inputs_are = t;

@@ -6,8 +6,7 @@ use Terms.{Path, path_bytes, refl, Result, StandsFor, State, sym, Took, TookAll,
 use Terms.{TookInputs, TookNone, true, unit_count, units_in, [], ℕ, ◌++◌, ◌-◌, ◌∷◌, ◌≡◌}
 use Rattle.thorin_join.specs.Join.{JoinAll}
 use Rattle.thorin_builder.specs.Taking.{Outcome}
-use Rattle.thorin.specs.Run.{Ran}
-use Rattle.thorin.proofs.Running.{join-append}
+use Rattle.thorin.{proofs.Running.join-append, specs.Run.Ran}
 use Rattle.thorin_commands.specs.Archives.{AreTakenFor}
 use Rattle.thorin_commands.specs.Opened.{accepted_in, AreAllAccepted, TookMembers, TookNext}
 use Rattle.thorin.specs.declared.packing.Input.TheVariants as inputs
@@ -94,8 +93,7 @@ module _ {opens : Bool} {manner : Manner} {offer : Offer} where
 
   -- inputs in order, and one more
   pub took_more : {all : List Input} {input : Input} {old middle new : State}
-      → TookInputs opens manner offer all old middle
-      → TookAll opens manner offer input middle new
+      → TookInputs opens manner offer all old middle → TookAll opens manner offer input middle new
       → TookInputs opens manner offer (all ++ input ∷ []) old new
   took_more TookNone one = TookNext one TookNone
   took_more (TookNext first rest) one = TookNext first (took_more rest one)
@@ -127,8 +125,7 @@ module _ {manner : Manner} {offer : Offer} where
 
   -- what is taken for one content
   pub content_took : {content : List ℕ} {bytes : Bor (List ℕ)} {old new : State}
-      → IsTakenFor manner content bytes.now
-      → (r : Result (Unit {0}) (NotTaken Error Growth))
+      → IsTakenFor manner content bytes.now → (r : Result (Unit {0}) (NotTaken Error Growth))
       → Took offer (inputs.Bytes bytes) old (outcome_of r) new
       → OnOk r (TookEach manner offer (content ∷ []) old new)
   content_took {bytes = bytes} {old = old} {new = new} is (Ok tt) took = record {

@@ -1,10 +1,9 @@
 -- Where a path is read.
-use Rattle.thorin_commands.proofs.Terms.{Bor, Err, Growth, inl, InputError, inr, IoError, List}
-use Rattle.thorin_commands.proofs.Terms.{NotTaken, Offer, Ok, Result, [], ℕ, ◌∷◌, ◌≡◌, ◌⊎◌}
+use Rattle.thorin_commands.proofs.Terms.{Bor, Err, Growth, inl, InputError, [], ℕ, ◌∷◌, ◌≡◌, ◌⊎◌}
+use Rattle.thorin_commands.proofs.Terms.{inr, IoError, List, NotTaken, Offer, Ok, Result}
 use Rattle.thorin_builder.specs.declared.reader.NotTaken.TheVariants.{Declined, Failed}
 use Rattle.thorin_inputs.specs.Prefixes.{mapped}
-use Rattle.thorin_commands.specs.Packing.{IsAmong, through}
-use Rattle.thorin_commands.specs.Taken.{IsReadInto}
+use Rattle.thorin_commands.specs.{Packing.IsAmong, Packing.through, Taken.IsReadInto}
 use Rattle.thorin_errors.specs.declared.error.InputError.TheVariants as input
 use Rattle.thorin_inputs.specs.declared.growth.Growth.TheVariants as growth
 
@@ -19,11 +18,8 @@ module _ (objects executables : List (Bor (List ℕ))) (offer : Offer) (path : L
     over Offers Offers' f (Ok x) h = f (Ok room) h
     over Offers Offers' f (Err (Failed (input.Io cause))) h = f (Err cause) h
     over Offers Offers' f (Err (Failed input.Memory)) h = tt
-    over Offers Offers' f (Err (Declined growth.Sections)) h = absurd h
-    over Offers Offers' f (Err (Declined growth.Strings)) h = absurd h
     over Offers Offers' f (Err (Declined growth.Repetition)) h = h
-    over Offers Offers' f (Err (Declined growth.Macros)) h = absurd h
-    over Offers Offers' f (Err (Declined growth.Plain)) h = absurd h
+    over Offers Offers' f (Err (Declined _)) h = absurd h
 
     -- one that the command line names
     pub through_given : (words : List (Bor (List ℕ)))

@@ -3,18 +3,17 @@ use Rattle.thorin_commands.proofs.Terms
 use Terms.{added_in, ap, append-nil, append_assoc, Appends, arith, Bool, DebugTypeSignature, Err}
 use Terms.{false, get_or, inl, Input, inr, IsPrinted, length, List, Manner, map, map-append}
 use Terms.{missing_in, None, Offer, Ok, OnOk, Option, path_of, refl, Some, State, sym, take}
-use Terms.{take_all, take_more, TellLeft, TellNamed, TellsMacros, TellsTaken, TellUnsplitBy}
-use Terms.{TookAll, TookNone, TookTelling, true, Types, unit_count, unsplit_line, [], ℕ, ◌++◌, ◌+◌}
-use Terms.{◌-◌, ◌<◌, ◌∙◌, ◌∷◌, ◌≡◌, ◌⊎◌}
+use Terms.{take_all, take_more, TellsMacros, TellsTaken, TellUnsplitBy, TookAll, TookNone}
+use Terms.{TookTelling, true, Types, unit_count, unsplit_line, [], ℕ, ◌++◌, ◌+◌, ◌-◌, ◌<◌, ◌∙◌, ◌∷◌}
+use Terms.{◌≡◌, ◌⊎◌}
 use Rattle.std.proofs.Common.{◌≤◌}
+use Rattle.thorin_commands.specs.Warned.{IsLeftLine, left_line, named_line, TellsAdded, TellsNamed}
+use Rattle.thorin_commands.specs.Warned.{IsNamedLine, TellsTaking, TellsUnsplit, TellUnsplit}
+use Rattle.thorin_commands.specs.Warned.{AreLacks, InOrder, InTurn, TellsLeft}
 use Rattle.std.proofs.KnownBytes.{Appends-nil, Appends-trans}
 use Rattle.dwp_table.specs.declared.object.DwarfObject.{DwarfObject}
-use Rattle.thorin_print.specs.Answers.{Outcome, Prints}
-use Rattle.thorin_print.specs.Told.{taken_line}
+use Rattle.thorin_print.specs.{Answers.Outcome, Answers.Prints, Told.taken_line}
 use Rattle.thorin_inputs.specs.declared.notes.Lack.{Lack}
-use Rattle.thorin_commands.specs.Warned.{AreLacks, InTurn, IsLeftLine, left_line, named_line}
-use Rattle.thorin_commands.specs.Warned.{TellsAdded, TellsLeft, TellsNamed, TellsTaking}
-use Rattle.thorin_commands.specs.Warned.{TellsUnsplit, TellUnsplit}
 use Rattle.thorin_commands.proofs.Opened.{added_more, took_more}
 
 -- ---- one text after the other
@@ -49,28 +48,26 @@ module _ {A B : Type 0} (P : A → B → List ℕ → Type 0) where
       → InTurn P xs bs text → P x b line → InTurn P (xs ++ x ∷ []) (bs ++ b ∷ []) (text ++ line)
   turn_more [] [] x b text line h p =
       (line, [], p, refl, ap (λ t. t ++ line) h ∙ one_line line)
-  turn_more [] (c ∷ bs) x b text line h p = absurd h
-  turn_more (y ∷ xs) [] x b text line h p = absurd h
-  turn_more (y ∷ xs) (c ∷ bs) x b text line h p = (
-    h.0,
-    h.1 ++ line,
-    h.2,
-    turn_more xs bs x b h.1 line h.3 p,
-    more_behind text line h.0 h.1 h.4,
-  )
+  turn_more (y ∷ xs) (c ∷ bs) x b text line h p =
+      (h.0, h.1 ++ line, h.2, turn_more xs bs x b h.1 line h.3 p, more_behind text line h.0 h.1 h.4)
+  turn_more _ _ x b text line h p = absurd h
 
   -- texts of one list are as many as those beside it
   turn_lengths : (xs : List A) (bs : List B) (text : List ℕ) → InTurn P xs bs text
       → length bs ≡ length xs
   turn_lengths [] [] text h = refl
-  turn_lengths [] (c ∷ bs) text h = absurd h
-  turn_lengths (y ∷ xs) [] text h = absurd h
   turn_lengths (y ∷ xs) (c ∷ bs) text h = omega (arith, turn_lengths xs bs h.1 h.3)
+  turn_lengths _ _ text h = absurd h
+
+order_more : {A : Type 0} (P : A → List ℕ → Type 0) (xs : List A) (x : A) (text line : List ℕ)
+    → InOrder P xs text → P x line → InOrder P (xs ++ x ∷ []) (text ++ line)
+order_more P [] x text line h p = (line, [], p, refl, ap (λ t. t ++ line) h ∙ one_line line)
+order_more P (y ∷ xs) x text line h p =
+    (h.0, h.1 ++ line, h.2, order_more P xs x h.1 line h.3 p, more_behind text line h.0 h.1 h.4)
 
 -- a text that a call printed
 pub printed_ok : {P : List ℕ → Type 0} (line : List ℕ) (a b : Option (List ℕ)) (result : Outcome)
-    → (Appends a b line → IsPrinted a b P) → Prints line a b result
-    → OnOk result (IsPrinted a b P)
+    → (Appends a b line → IsPrinted a b P) → Prints line a b result → OnOk result (IsPrinted a b P)
 printed_ok line a b (Ok done) f h = f h
 printed_ok line a b (Err failure) f h = tt
 
@@ -91,39 +88,31 @@ pathless verbose (Some path) added a e = absurd cc
 pub added_told : (verbose : Bool) (path : Option (List ℕ)) (name : List ℕ) (added : ℕ)
     (all : Option ℕ) (a b : Option (List ℕ)) → verbose ≡ true → path ≡ Some name
     → Appends a b (taken_line name added all) → IsPrinted a b (TellsAdded verbose path added)
-added_told false path name added all a b v e h = absurd cc
-added_told true None name added all a b v e h = absurd cc
-added_told true (Some path) name added all a b v e h =
-    let same : path ≡ name = cc in
-    rw same (record { text = taken_line name added all; is = (all, refl); added = h })
+added_told verbose path name added all a b v e h =
+    rw (v, e) (record { text = taken_line name added all; is = (all, refl); added = h })
 
 lacks_more : (added : List ℕ) (lacks : List Lack) (own : ℕ) (lack : Lack) → AreLacks added lacks
     → (lack ≡ Types → own ≡ 0) → AreLacks (added ++ own ∷ []) (lacks ++ lack ∷ [])
 lacks_more [] [] own lack h is = (is, tt)
-lacks_more [] (x ∷ lacks) own lack h is = absurd h
-lacks_more (n ∷ added) [] own lack h is = absurd h
 lacks_more (n ∷ added) (x ∷ lacks) own lack h is = (h.0, lacks_more added lacks own lack h.1 is)
+lacks_more _ _ own lack h is = absurd h
 
 lacks_lengths : (added : List ℕ) (lacks : List Lack) → AreLacks added lacks
     → length lacks ≡ length added
 lacks_lengths [] [] h = refl
-lacks_lengths [] (x ∷ lacks) h = absurd h
-lacks_lengths (n ∷ added) [] h = absurd h
 lacks_lengths (n ∷ added) (x ∷ lacks) h = omega (arith, lacks_lengths added lacks h.1)
+lacks_lengths _ _ h = absurd h
 
 module _ {verbose opens : Bool} {manner : Manner} {offer : Offer} {a : Option (List ℕ)} where
-  pub taking_begins : {state : State}
-      → TookTelling verbose opens manner offer [] state state a a []
+  pub taking_begins : {state : State} → TookTelling verbose opens manner offer [] state state a a []
   taking_begins =
       record { took = TookNone; told = none_printed a (record { lines = refl; lacking = tt }) }
 
   pub taking_more : {xs ys : List Input} {input : Input} {old middle new : State}
       {lacks more : List Lack} {lack : Lack} {b c : Option (List ℕ)} → ys ≡ xs ++ input ∷ []
-      → more ≡ lacks ++ lack ∷ []
-      → (lack ≡ Types → unit_count new - unit_count middle ≡ 0)
+      → more ≡ lacks ++ lack ∷ [] → (lack ≡ Types → unit_count new - unit_count middle ≡ 0)
       → TookTelling verbose opens manner offer xs old middle a b lacks
-      → TookAll opens manner offer input middle new
-      → IsPrinted b c
+      → TookAll opens manner offer input middle new → IsPrinted b c
       (TellsAdded verbose (path_of input) (unit_count new - unit_count middle))
       → TookTelling verbose opens manner offer ys old new a c more
   taking_more {xs} {input = input} {middle = middle} {new = new} {lacks} {lack = lack} same is none
@@ -183,14 +172,12 @@ pub unsplit_all : (warns : Bool) (count units : ℕ) (list : List Input) (lacks 
     → length lacks ≡ length list
     → IsPrinted a b (TellUnsplitBy true (count ≡ 0) (take i list) (take i lacks))
     → IsPrinted a b (TellUnsplitBy warns (units ≡ 0) list lacks)
-unsplit_all true count units list lacks i a b w e le same p =
-    rw (take_all i list le, take_all i lacks (omega (arith, le, same)), e) at p
-unsplit_all false count units list lacks i a b w e le same p = absurd cc
+unsplit_all warns count units list lacks i a b w e le same p =
+    rw w (rw (take_all i list le, take_all i lacks (omega (arith, le, same)), e) at p)
 
 pub unsplit_unasked : (warns : Bool) (none : Type 0) (list : List Input) (lacks : List Lack)
     (a : Option (List ℕ)) → warns ≡ false → IsPrinted a a (TellUnsplitBy warns none list lacks)
-unsplit_unasked true none list lacks a e = absurd cc
-unsplit_unasked false none list lacks a e = none_printed a refl
+unsplit_unasked warns none list lacks a e = rw e (none_printed a refl)
 
 by_lack : {none : Type 0} {total own : ℕ} {lack : Lack} → (none → total ≡ 0)
     → (lack ≡ Types → own ≡ 0) → none ⊎ (lack ≡ Types) → (total ≡ 0) ⊎ (own ≡ 0)
@@ -202,8 +189,6 @@ unsplit_by : (none : Type 0) (total : ℕ) → (none → total ≡ 0) → (list 
     → TellUnsplitBy true none list lacks text → TellUnsplit true total list added text
 unsplit_by none total f [] [] [] text are h = h
 unsplit_by none total f [] [] (n ∷ added) text are h = absurd are
-unsplit_by none total f [] (l ∷ lacks) added text are h = absurd h
-unsplit_by none total f (x ∷ list) [] added text are h = absurd h
 unsplit_by none total f (x ∷ list) (l ∷ lacks) [] text are h = absurd are
 unsplit_by none total f (x ∷ list) (l ∷ lacks) (n ∷ added) text are h = (
   h.0,
@@ -212,6 +197,7 @@ unsplit_by none total f (x ∷ list) (l ∷ lacks) (n ∷ added) text are h = (
   unsplit_by none total f list lacks added h.1 are.1 h.3,
   h.4,
 )
+unsplit_by none total f _ _ added text are h = absurd h
 
 pub unsplit_told_by : (warns : Bool) (none : Type 0) (total : ℕ) → (none → total ≡ 0)
     → (list : List Input) (lacks : List Lack) (added : List ℕ) (text : List ℕ)
@@ -227,53 +213,30 @@ pub line_told : (unit : DwarfObject) (reason line : List ℕ) (a b : Option (Lis
     → line ≡ left_line unit reason → Appends a b line → IsPrinted a b (IsLeftLine unit)
 line_told unit reason line a b e h = record { text = line; is = (reason, e); added = h }
 
-left_more : (units : List DwarfObject) (unit : DwarfObject) (text line : List ℕ)
-    → TellLeft units text → IsLeftLine unit line → TellLeft (units ++ unit ∷ []) (text ++ line)
-left_more [] unit text line h p = (line, [], p, refl, ap (λ t. t ++ line) h ∙ one_line line)
-left_more (u ∷ units) unit text line h p = (
-  h.0,
-  h.1 ++ line,
-  h.2,
-  left_more units unit h.1 line h.3 p,
-  more_behind text line h.0 h.1 h.4,
-)
-
 pub left_next : (units : List DwarfObject) (unit : DwarfObject) (a b c : Option (List ℕ))
-    → IsPrinted a b (TellLeft units) → IsPrinted b c (IsLeftLine unit)
-    → IsPrinted a c (TellLeft (units ++ unit ∷ []))
-left_next units unit a b c p q =
-    printed_then {R = TellLeft (units ++ unit ∷ [])} (left_more units unit) p q
+    → IsPrinted a b (InOrder IsLeftLine units) → IsPrinted b c (IsLeftLine unit)
+    → IsPrinted a c (InOrder IsLeftLine (units ++ unit ∷ []))
+left_next units unit a b c p q = printed_then {R = InOrder IsLeftLine (units ++ unit ∷ [])}
+    (order_more IsLeftLine units unit) p q
 
 pub none_left : (partial : Bool) (state : State) (a : Option (List ℕ)) → partial ≡ false
     → IsPrinted a a (TellsLeft partial state)
-none_left true state a e = absurd cc
-none_left false state a e = none_printed a refl
+none_left partial state a e = rw e (none_printed a refl)
 
 pub all_left : (partial : Bool) (state : State) (a b : Option (List ℕ)) → partial ≡ true
-    → IsPrinted a b (TellLeft (missing_in state)) → IsPrinted a b (TellsLeft partial state)
-all_left true state a b e p = p
-all_left false state a b e p = absurd cc
+    → IsPrinted a b (InOrder IsLeftLine (missing_in state))
+    → IsPrinted a b (TellsLeft partial state)
+all_left partial state a b e p = rw e p
 
 -- ---- type units that differ
 
-named_more : (ids : List ℕ) (id : ℕ) (text more : List ℕ) → TellNamed ids text
-    → TellNamed (ids ++ id ∷ []) (text ++ named_line id more)
-named_more [] id text more h =
-    (more, [], refl, ap (λ t. t ++ named_line id more) h ∙ one_line (named_line id more))
-named_more (i ∷ ids) id text more h = (
-  h.0,
-  h.1 ++ named_line id more,
-  named_more ids id h.1 more h.2,
-  more_behind text (named_line id more) (named_line i h.0) h.1 h.3,
-)
-
 pub named_next : (xs : List DebugTypeSignature) (i : ℕ) (d : DebugTypeSignature)
-    (old new more : List ℕ) → i < length xs → TellNamed (map (λ s. s.0) (take i xs)) old
+    (old new more : List ℕ) → i < length xs → InOrder IsNamedLine (map (λ s. s.0) (take i xs)) old
     → new ≡ old ++ named_line (get_or xs i d).0 more
-    → TellNamed (map (λ s. s.0) (take (i + 1) xs)) new
+    → InOrder IsNamedLine (map (λ s. s.0) (take (i + 1) xs)) new
 named_next xs i d old new more lt h n =
-    rw (take_more xs i d lt, map-append, n)
-    (named_more (map (λ s. s.0) (take i xs)) (get_or xs i d).0 old more h)
+    rw (take_more xs i d lt, map-append, n) (order_more IsNamedLine (map (λ s. s.0) (take i xs))
+    (get_or xs i d).0 old (named_line (get_or xs i d).0 more) h (more, refl))
 
 -- no warnings of sections of macros
 pub no_macros : (warns : Bool) → TellsMacros warns []
@@ -282,8 +245,7 @@ no_macros false = refl
 
 pub without_names : (named : Bool) (differing : List ℕ) → named ≡ false
     → TellsNamed named differing []
-without_names true differing e = absurd cc
-without_names false differing e = refl
+without_names named differing e = rw e refl
 
 -- ---- all of inputs that were taken
 

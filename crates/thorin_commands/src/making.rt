@@ -1,22 +1,19 @@
 //! The object of a package, made of the inputs: these are taken in order. One that is accepted is
 //! noted, and told where that is asked for; of one that is refused it is told why.
 
-ghost use Rattle.std.specs.Prelude.{◌≡◌, ◌-◌, map, Ok, Err, OnOk, IfOk, IfErr, string_bytes};
-ghost use Rattle.dwp_elf.specs.FileText.{file_text};
-ghost use Rattle.dwp_elf.specs.Numbers.{Fits};
 ghost use Rattle.dwp_elf_read.specs.declared.error.WriteError.TheVariants as writer;
+ghost use Rattle.std.specs.Prelude.{Err, IfErr, IfOk, map, Ok, OnOk, string_bytes, ◌-◌, ◌≡◌};
+ghost use Rattle.thorin_commands.specs.Cause.{IsCauseOf, IsNotTaken, IsUnfinished, IsUntaken};
+ghost use Rattle.thorin_commands.specs.Cause.{Refuses, StopsAt};
+ghost use Rattle.dwp_elf.specs.{FileText.file_text, Numbers.Fits};
 ghost use Rattle.thorin_errors.specs.declared.error.Error.TheVariants.{ObjectWrite};
-ghost use Rattle.thorin_join.specs.Builder.{IsFinishedState, differing_in, finish_test};
+ghost use Rattle.thorin_join.specs.Builder.{differing_in, finish_test, IsFinishedState};
 ghost use Rattle.thorin_join.specs.Join.{IsPackageOf, IsPackageOnceWritten};
-ghost use Rattle.thorin_join.specs.Meaning.{Members};
-ghost use Rattle.thorin_join.specs.Represents.{units_in};
-ghost use Rattle.thorin_commands.specs.Cause.{IsCauseOf, IsNotTaken, IsUnfinished};
-ghost use Rattle.thorin_commands.specs.Cause.{IsUntaken, Refuses, StopsAt};
-ghost use Rattle.thorin_commands.specs.Made.{FillsTelling, IsMade};
-ghost use Rattle.thorin_commands.specs.Opened.{TookAll, unit_count};
-ghost use Rattle.thorin_commands.specs.Packing.{declines, manner_of, reads};
-ghost use Rattle.thorin_commands.specs.Warned.{TellsAdded, TellsUnsplitRun, path_of};
-ghost use Rattle.thorin_commands.specs.declared.packing.NoPackage.TheVariants.{Empty};
+ghost use Rattle.thorin_join.specs.{Meaning.Members, Represents.units_in};
+ghost use Rattle.thorin_commands.specs.{declared.packing.NoPackage.TheVariants.Empty, Made.IsMade};
+ghost use Rattle.thorin_commands.specs.{Made.FillsTelling, Opened.TookAll, Opened.unit_count};
+ghost use Rattle.thorin_commands.specs.Reading.{declined_by, manner_in, taken_by};
+ghost use Rattle.thorin_commands.specs.Warned.{path_of, TellsAdded, TellsUnsplitRun};
 ghost use Rattle.thorin_output.specs.Warnings.{IsPrinted};
 
 use crate::archives::take_opened;
@@ -32,14 +29,14 @@ use dwp_bytes::RelocationEntry;
 use dwp_elf::WritableObject;
 use dwp_elf::laws::written_contents_are_read_back;
 use dwp_table::DebugTypeSignature;
-use std::alloc::Global;
+use std::alloc::{AllocError, Global};
 use std::path::AsPath;
 use thorin::laws::runs_go_on;
 use thorin::{BytesSession, DwarfPackage, Input, NotTaken, take_input};
 use thorin_errors::Error;
 use thorin_inputs::Growth;
 use thorin_output::FileSystem;
-use thorin_print::{Failure, LineOutput};
+use thorin_print::LineOutput;
 use thorin_sessions::Session;
 
 /// The object to be written for these inputs, the type units that differ, and their lines.
@@ -50,17 +47,16 @@ pub(crate) fn packed_inputs<F: FileSystem, E: LineOutput>(
     err: &mut E,
 ) -> Result<(WritableObject, Vec<DebugTypeSignature>, String), NoPackage>
     ensures made { IfOk result (λ made. IsMade options.verbose options.warns options.partial
-        options.names inputs.now.packing.now.opens_archives (manner_of inputs.now.packing.now)
-        (reads inputs.now.packing.now (F.offer inputs.now.files.now)) list.now (E.contents err.old)
-        (E.contents err.new) made.0 made.1.items (string_bytes made.2)) }
+        options.names inputs.now.packing.now.opens_archives (manner_in inputs.now) (taken_by F.offer
+        inputs.now) list.now (E.contents err.old) (E.contents err.new) made.0 made.1.items
+        (string_bytes made.2)) }
     ensures tried { IfErr result (λ refusal. refusal ≡ Empty → IsPrinted (E.contents err.old)
         (E.contents err.new) (TellsUnsplitRun options.verbose options.warns options.partial
-        inputs.now.packing.now.opens_archives (manner_of inputs.now.packing.now) (reads
-        inputs.now.packing.now (F.offer inputs.now.files.now)) list.now)) }
+        inputs.now.packing.now.opens_archives (manner_in inputs.now) (taken_by F.offer inputs.now)
+        list.now)) }
     ensures told { IfErr result (Refuses E.contents E.failed err.new (IsCauseOf options.partial
-        inputs.now.packing.now.opens_archives (manner_of inputs.now.packing.now) (reads
-        inputs.now.packing.now (F.offer inputs.now.files.now)) (declines inputs.now.packing.now
-        (F.offer inputs.now.files.now)) list.now)) }
+        inputs.now.packing.now.opens_archives (manner_in inputs.now) (taken_by F.offer inputs.now)
+        (declined_by F.offer inputs.now) list.now)) }
 {
     runs_go_on(inputs);
     let bump = Bump::new(options.alloc);
@@ -87,13 +83,12 @@ fn fill<'o, 's: 'o, Sess: Session<RelocationEntry>, F: FileSystem, E: LineOutput
     err: &mut E,
 ) -> Result<String, NoPackage>
     ensures fills { IfOk result (λ lines. FillsTelling options.verbose options.warns options.partial
-        options.names inputs.now.packing.now.opens_archives (manner_of inputs.now.packing.now)
-        (reads inputs.now.packing.now (F.offer inputs.now.files.now)) list.now builder.old.state
-        builder.new.state (E.contents err.old) (E.contents err.new) (string_bytes lines)) }
+        options.names inputs.now.packing.now.opens_archives (manner_in inputs.now) (taken_by F.offer
+        inputs.now) list.now builder.old.state builder.new.state (E.contents err.old) (E.contents
+        err.new) (string_bytes lines)) }
     ensures told { IfErr result (Refuses E.contents E.failed err.new (StopsAt
-        inputs.now.packing.now.opens_archives (manner_of inputs.now.packing.now) (reads
-        inputs.now.packing.now (F.offer inputs.now.files.now)) (declines inputs.now.packing.now
-        (F.offer inputs.now.files.now)) list.now builder.old.state)) }
+        inputs.now.packing.now.opens_archives (manner_in inputs.now) (taken_by F.offer inputs.now)
+        (declined_by F.offer inputs.now) list.now builder.old.state)) }
 {
     let mut room = Vec::new(options.alloc);
     // Of each input why it added no unit, if it added none.
@@ -102,10 +97,8 @@ fn fill<'o, 's: 'o, Sess: Session<RelocationEntry>, F: FileSystem, E: LineOutput
         let before = unit_count(builder);
         take(inputs, builder, &mut room, *input, options, err)?;
         let added = unit_count(builder).saturating_sub(before);
-        match lacks.push(lack_of(inputs.files, *input, room.as_slice(), added)) {
-            Ok(()) => {}
-            Err(_) => return Err(NoPackage::Command(Failure::Memory)),
-        }
+        let lack = lack_of(inputs.files, *input, room.as_slice(), added);
+        lacks.push(lack).map_err(|_| AllocError)?;
     }
     let lacks = lacks.as_slice();
     warn_unsplit(inputs, builder, list, lacks, options, err)?;
@@ -123,16 +116,14 @@ fn take<'o, 's: 'o, Sess: Session<RelocationEntry>, F: FileSystem, E: LineOutput
     options: ReportOptions,
     err: &mut E,
 ) -> Result<(), NoPackage>
-    ensures took { OnOk result (TookAll inputs.now.packing.now.opens_archives (manner_of
-        inputs.now.packing.now) (reads inputs.now.packing.now (F.offer inputs.now.files.now))
-        input.entry builder.old.state builder.new.state) }
+    ensures took { OnOk result (TookAll inputs.now.packing.now.opens_archives (manner_in inputs.now)
+        (taken_by F.offer inputs.now) input.entry builder.old.state builder.new.state) }
     ensures line { OnOk result (IsPrinted (E.contents err.old) (E.contents err.new)
         (TellsAdded options.verbose (path_of input.entry)
         (unit_count builder.new.state - unit_count builder.old.state))) }
     ensures told { IfErr result (Refuses E.contents E.failed err.new (IsNotTaken
-        inputs.now.packing.now.opens_archives (manner_of inputs.now.packing.now) (reads
-        inputs.now.packing.now (F.offer inputs.now.files.now)) (declines inputs.now.packing.now
-        (F.offer inputs.now.files.now)) input.entry builder.old.state)) }
+        inputs.now.packing.now.opens_archives (manner_in inputs.now) (taken_by F.offer inputs.now)
+        (declined_by F.offer inputs.now) input.entry builder.old.state)) }
 {
     match input {
         Input::Object(path) if inputs.packing.opens_archives => {
@@ -209,14 +200,11 @@ fn finished<'o, 's: 'o, Sess: Session<RelocationEntry>, E: LineOutput>(
     lines: String,
     err: &mut E,
 ) -> Result<(WritableObject, Vec<DebugTypeSignature>, String), NoPackage>
-    ensures finished { IfOk result (λ made. (finish_test builder.entry.state ≡ Ok tt)
-        × IsFinishedState builder.entry.state made.0) }
-    ensures packaged { IfOk result (λ made.
-        IsPackageOf (units_in builder.entry.state) (file_text made.0)) }
-    ensures differing { IfOk result (λ made.
-        map (λ s. s.0) made.1.items ≡ differing_in builder.entry.state) }
-    ensures lines { IfOk result (λ made. made.2 ≡ lines) }
-    ensures kept { OnOk result (err.new ≡ err.old) }
+    ensures made { IfOk result (λ made. (finish_test builder.entry.state ≡ Ok tt)
+        × IsFinishedState builder.entry.state made.0
+        × IsPackageOf (units_in builder.entry.state) (file_text made.0)
+        × (map (λ s. s.0) made.1.items ≡ differing_in builder.entry.state)
+        × (made.2 ≡ lines) × (err.new ≡ err.old)) }
     ensures empty { IfErr result (λ refusal. refusal ≡ Empty → err.new ≡ err.old) }
     ensures told { IfErr result (Refuses E.contents E.failed err.new
         (IsUnfinished builder.entry.state)) }

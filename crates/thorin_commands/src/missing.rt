@@ -1,11 +1,10 @@
 //! Objects that executables name and that aren't there: what `pack --partial` leaves out, and what
 //! `pack --missing` lists.
 
-ghost use Rattle.std.specs.Prelude.{◌≡◌, ◌≤◌, OnOk, IfOk, IfErr};
+ghost use Rattle.std.specs.Prelude.{IfErr, IfOk, OnOk, ◌≡◌, ◌≤◌};
 ghost use Rattle.thorin_output.specs.Warnings.{IsPrinted};
 ghost use Rattle.thorin_print.specs.Answers.{FailsBy};
-ghost use Rattle.thorin_commands.specs.Opened.{left};
-ghost use Rattle.thorin_commands.specs.Warned.{TellsLeft};
+ghost use Rattle.thorin_commands.specs.{Opened.left, Warned.TellsLeft};
 
 use crate::notes::Notes;
 use crate::packing::{Packing, paths_in};
@@ -56,10 +55,8 @@ pub(crate) fn leave_out<'o, 's: 'o, Sess: Session<RelocationEntry>, E: LineOutpu
 
 /// Prints the path of each object that executables name and that can't be read, one a line, each
 /// once, cut where it is longer than the system takes. Packs nothing. Answers the status: 1 where
-/// there is one, and where an executable is refused, which is printed.
-///
-/// # Errors
-/// `BadCommand` where no executable is named; `Line` or `Memory`.
+/// there is one, and where an executable is refused, which is printed. Errors: `BadCommand` where
+/// no executable is named; `Line` or `Memory`.
 pub fn list_missing<F: FileSystem, O: Write, E: Write>(
     alloc: Global,
     files: &F,
@@ -183,9 +180,7 @@ fn list_each<F: FileSystem, W: Write>(
             }
             Err(InputError::Memory) => return Err(ListFailure::Command(Failure::Memory)),
         }
-        if seen.insert(told).is_err() {
-            return Err(ListFailure::Command(Failure::Memory));
-        }
+        seen.insert(told).map_err(|_| AllocError)?;
     }
     Ok(is_one_missing)
 }

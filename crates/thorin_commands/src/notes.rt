@@ -1,10 +1,9 @@
 //! What is kept of the inputs for what is told of them: which input brought a unit of the package,
 //! type units that differ from the ones kept, and objects that aren't there.
 
-ghost use Rattle.std.specs.Prelude.{◌≡◌, IfOk, string_bytes};
+ghost use Rattle.std.specs.Prelude.{IfOk, string_bytes, ◌≡◌};
 ghost use Rattle.thorin_join.specs.Builder.{differing_in};
-ghost use Rattle.thorin_commands.specs.Opened.{unit_count};
-ghost use Rattle.thorin_commands.specs.Warned.{TellsNamed};
+ghost use Rattle.thorin_commands.specs.{Opened.unit_count, Warned.TellsNamed};
 
 use crate::packing::{Packing, path_of};
 use crate::telling::{ReportOptions, unit_line};
@@ -184,18 +183,12 @@ impl Notes {
     /// no memory for it, nothing is kept any more.
     pub(crate) fn keep_taken(&self, taken: Origin<'_>, now: Holding<'_>) {
         if let Some(mut origins) = self.origins.replace(None) {
-            let before = match origins.last() {
-                Some((before, _)) => *before,
-                None => 0,
-            };
-            let is_kept = if now.units > before {
-                match printed_origin(self.alloc, taken) {
+            let before = origins.last().map_or(0, |(before, _)| *before);
+            let is_kept = now.units <= before
+                || match printed_origin(self.alloc, taken) {
                     Ok(place) => origins.push((now.units, place)).is_ok(),
                     Err(_) => false,
-                }
-            } else {
-                true
-            };
+                };
             if is_kept {
                 self.origins.set(Some(origins));
             }

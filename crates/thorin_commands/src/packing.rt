@@ -1,20 +1,18 @@
 //! `thorin pack`: what it is asked for, and the inputs and the package of that.
 
-ghost use Rattle.std.specs.Prelude.{◌≡◌, ◌⊎◌, ◌≤◌, Ok, Some, IfOk, IfErr, map, string_bytes};
-ghost use Rattle.std.specs.Prelude.{true, false, IsTrue, option_map};
-ghost use Rattle.std.specs.Path.{path_bytes};
-ghost use Rattle.thorin_output.specs.Files.{Put, Begins};
+ghost use Rattle.std.specs.Prelude.{IfErr, IfOk, map, Ok, Some, string_bytes, true, ◌≡◌, ◌≤◌, ◌⊎◌};
+ghost use Rattle.thorin_commands.specs.Packing.{AllApart, declines, IsNoInput, out_of, paths_in};
+ghost use Rattle.thorin_commands.specs.Packing.{asked, asks, Fails, Packs, reads};
+ghost use Rattle.thorin_commands.specs.Reading.{declined_by, taken_by};
+ghost use Rattle.std.specs.{Path.path_bytes, Prelude.false, Prelude.IsTrue, Prelude.option_map};
+ghost use Rattle.thorin_output.specs.Files.{Begins, Put};
 ghost use Rattle.thorin_commands.specs.Cause.{IsCauseFor, Refuses, Told, Unfinished};
-ghost use Rattle.thorin_commands.specs.Failing.{FailsPacking, LeadTo};
+ghost use Rattle.thorin_commands.specs.{Failing.FailsPacking, Failing.IsInput, Failing.LeadTo};
 ghost use Rattle.thorin_errors.specs.declared.error.Error.TheVariants.{NoOutputObjectCreated};
-ghost use Rattle.thorin_commands.specs.Naming.{IsNameless};
-ghost use Rattle.thorin_commands.specs.Made.{IsMadeFor, IsReady};
-ghost use Rattle.thorin_commands.specs.Packing.{out_of, Packs};
-ghost use Rattle.thorin_commands.specs.Packing.{AllApart, Fails, IsNoInput, asked, asks};
+ghost use Rattle.thorin_commands.specs.{Made.IsMadeFor, Made.IsReady, Naming.IsNameless};
 ghost use Rattle.thorin_commands.specs.declared.packing.NoPackage.TheVariants.{Command};
 ghost use Rattle.thorin_print.specs.declared.output.Failure.TheVariants.{Memory};
-ghost use Rattle.thorin_commands.specs.Packing.{declines, paths_in, reads};
-ghost use Rattle.thorin_commands.specs.Warned.{PacksTelling, TellsTaken, names, others, path_of};
+ghost use Rattle.thorin_commands.specs.Warned.{names, others, PacksTelling, path_of, TellsTaken};
 
 use crate::making::packed_inputs;
 use crate::reading::InputFiles;
@@ -71,10 +69,7 @@ pub struct Packing<'m, 'a> {
 
 impl Packing<'_, '_> {
     /// The name of the package's file: the one that is named, or that of the one executable with
-    /// `.dwp` behind.
-    ///
-    /// # Errors
-    /// `BadCommand` where there is neither; `Memory`.
+    /// `.dwp` behind. Errors: `BadCommand` where there is neither; `Memory`.
     pub fn output_name(&self, alloc: Global) -> Result<String, Failure>
         ensures named { IfOk result (λ name. out_of self.now ≡ Some (string_bytes name)) }
         ensures nameless { IfErr result (IsNameless (out_of self.now)) }
@@ -111,12 +106,10 @@ impl Packing<'_, '_> {
     /// Whether the package would take the place of an input, where that isn't asked for.
     fn overwrites<F: FileSystem>(&self, files: &F, output: &str) -> bool
         ensures apart { result ≡ false → self.now.force ≡ false
-            → AllApart (F.known files.now) output.now (paths_in self.now.inputs)
-            × AllApart (F.known files.now) output.now (paths_in self.now.executables) }
+            → out_of self.now ≡ Some output.now → IsNoInput (F.known files.now) self.now }
         ensures forced { IsTrue result → self.now.force ≡ false }
-        ensures leads { IsTrue result
-            → LeadTo (F.known files.now) output.now (paths_in self.now.inputs)
-            ⊎ LeadTo (F.known files.now) output.now (paths_in self.now.executables) }
+        ensures leads { IsTrue result → out_of self.now ≡ Some output.now
+            → IsInput (F.known files.now) self.now }
     {
         !self.force
             && (has_file(files, paths_in(self.inputs), output)
@@ -171,9 +164,7 @@ fn has_file<F: FileSystem>(files: &F, names: &[&str], file: &str) -> bool
 /// Packs the inputs in order, then what each executable refers to, and writes the package: to the
 /// file OUT, or where that is `-` to `out`. Stops at the first refusal, prints it, and then writes
 /// nothing. Answers the status: 1 where an input is refused, or a package can't be made of them.
-///
-/// # Errors
-/// `Output` where the package's file can't be written, `Overwrites` where it is an input;
+/// Errors: `Output` where the package's file can't be written, `Overwrites` where it is an input;
 /// `BadCommand` where there is no name for it; `Line` or `Memory`; `Input` where nothing is split,
 /// and the executable can't be read a second time.
 #[tactic(auto, using(crate::proofs::Whys::early, crate::proofs::Causes::told_empty, crate::proofs::Whys::why_printing, crate::proofs::Whys::why_nameless, crate::proofs::Whys::why_stopped))]
@@ -272,17 +263,13 @@ fn packed_unsplit<F: FileSystem, E: LineOutput>(
     err: &mut E,
 ) -> Result<(WritableObject, Vec<DebugTypeSignature>, String), NoPackage>
     requires allowed { inputs.now.packing.now.lets_empty ≡ true }
-    requires empty { IsCauseFor (reads inputs.now.packing.now (F.offer inputs.now.files.now))
-        (declines inputs.now.packing.now (F.offer inputs.now.files.now)) inputs.now.packing.now
-        (Unfinished NoOutputObjectCreated) }
-    ensures made { IfOk result (λ made. IsMadeFor
-        (TellsTaken false false inputs.now.packing.now.partial)
-        (reads inputs.now.packing.now (F.offer inputs.now.files.now)) inputs.now.packing.now
+    requires empty { IsCauseFor (taken_by F.offer inputs.now) (declined_by F.offer inputs.now)
+        inputs.now.packing.now (Unfinished NoOutputObjectCreated) }
+    ensures made { IfOk result (λ made. IsMadeFor (TellsTaken false false
+        inputs.now.packing.now.partial) (taken_by F.offer inputs.now) inputs.now.packing.now
         (E.contents err.old) (E.contents err.new) made.0 made.1.items (string_bytes made.2)) }
-    ensures told { IfErr result (Refuses E.contents E.failed err.new (IsCauseFor
-        (reads inputs.now.packing.now (F.offer inputs.now.files.now))
-        (declines inputs.now.packing.now (F.offer inputs.now.files.now))
-        inputs.now.packing.now)) }
+    ensures told { IfErr result (Refuses E.contents E.failed err.new (IsCauseFor (taken_by F.offer
+        inputs.now) (declined_by F.offer inputs.now) inputs.now.packing.now)) }
 {
     let packing = inputs.packing;
     let Some(executable) = paths_in(packing.executables).first() else {
@@ -292,10 +279,8 @@ fn packed_unsplit<F: FileSystem, E: LineOutput>(
         return Err(NoPackage::Empty);
     }
     let mut list = inputs_of(alloc, packing)?;
-    match list.push(Input::Object(Path::new(*executable))) {
-        Ok(()) => {}
-        Err(_) => return Err(NoPackage::Command(Failure::Memory)),
-    }
+    list.push(Input::Object(Path::new(*executable)))
+        .map_err(|_| AllocError)?;
     let options = ReportOptions {
         alloc,
         verbose: false,

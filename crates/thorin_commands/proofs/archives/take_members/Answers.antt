@@ -23,8 +23,7 @@ loop-member-preserved g c = record {
     map-append,
     map-append,
     filter-append,
-  )
-      (each_append c.loop-member.invariant.took c.in_ok-take_split.ensures.took);
+  ) (each_append c.loop-member.invariant.took c.in_ok-take_split.ensures.took);
   kept = c.in_ok-take_split.ensures.kept ∙ c.loop-member.invariant.kept;
 }
 
@@ -58,5 +57,4 @@ returns-in_err-take_split-clause-told g c =
 
 pub returns-in-Err-clause-told : goal.returns-in-Err-clause-told
 returns-in-Err-clause-told g c = refuses_by g.E.LineOutput.contents g.E.LineOutput.failed
-    c.malformed.new.err
-    (bad c.in-Err.ensures) c.malformed.result c.malformed.ensures
+    c.malformed.new.err (bad c.in-Err.ensures) c.malformed.result c.malformed.ensures

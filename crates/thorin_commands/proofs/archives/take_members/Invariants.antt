@@ -7,7 +7,6 @@ abbrev pub invariant-loop-member : goal.invariant-loop-member
 invariant-loop-member g l = record {
   took : TookEach (manner_of l.inputs.packing.now)
       (reads l.inputs.packing.now (g.F.FileSystem.offer l.inputs.files.now))
-      (split_contents (map member (take l.member-index l.list))) l.fn.builder.state
-      l.builder.state;
+      (split_contents (map member (take l.member-index l.list))) l.fn.builder.state l.builder.state;
   kept : l.err ≡ l.fn.err;
 }

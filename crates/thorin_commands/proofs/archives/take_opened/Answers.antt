@@ -1,7 +1,6 @@
 use Rattle.thorin_commands.proofs.Terms.{declines, Ok, on_ok_weaker, reads, rules, ◌≡◌}
-use Rattle.thorin_commands.proofs.Causes.{archive, bytes_refused, err_by, plain, reason_by}
-use Rattle.thorin_commands.proofs.Causes.{unread_told}
-use Rattle.thorin_commands.proofs.Opened.{took_archive, took_object}
+use Rattle.thorin_commands.proofs.Causes.{archive, bytes_refused, err_by, reason_by, unread_told}
+use Rattle.thorin_commands.proofs.{Causes.plain, Opened.took_archive, Opened.took_object}
 use Rattle.thorin_commands.proofs.archives.take_opened.Goals as goal
 
 pub returns-in_ok-tell_refused-in-Err-clause-told :
@@ -35,11 +34,9 @@ pub returns-else-is_archive-clause-told : goal.returns-else-is_archive-clause-to
 returns-else-is_archive-clause-told g c =
     let packing = c.args.inputs.now.packing.now in
     let offer = g.F.FileSystem.offer c.args.inputs.now.files.now in
-    err_by g.E.LineOutput.contents g.E.LineOutput.failed
-    c.settle.new.err
+    err_by g.E.LineOutput.contents g.E.LineOutput.failed c.settle.new.err
     (plain c.requires (rw (← c.as_slice-bytes.ensures.value) at c.in-Ok.ensures.fetched)
-    (search (rules, c.is_archive.ensures, c.if-is_archive)))
-    c.settle.result
+    (search (rules, c.is_archive.ensures, c.if-is_archive))) c.settle.result
     (err_by g.E.LineOutput.contents g.E.LineOutput.failed c.settle.new.err
     (reason_by c.take_input-outcome.result (bytes_refused (reads packing offer)
     (declines packing offer) c.as_slice-bytes.result c.args.builder.now.state

@@ -1,10 +1,9 @@
-use Rattle.thorin_commands.proofs.Terms.{ap, Bool, declines, differing_in, false, left, manner_of}
-use Rattle.thorin_commands.proofs.Terms.{reads, refl, State, true, units_in, ◌∙◌, ◌≡◌}
+use Rattle.thorin_commands.proofs.Terms.{ap, Bool, declines, differing_in, false, left, ◌∙◌, ◌≡◌}
+use Rattle.thorin_commands.proofs.Terms.{IfOk-weaker, manner_of, reads, refl, State, true, units_in}
+use Rattle.thorin_commands.proofs.Made.{differing_left, if_refused, never_empty, none_began}
 use Rattle.thorin_commands.proofs.Causes.{err_by, finishing, refuses_by, taking}
-use Rattle.thorin_commands.proofs.Made.{differing_left, if_made, if_refused, never_empty}
-use Rattle.thorin_commands.proofs.Made.{none_began}
-use Rattle.thorin_commands.proofs.Opened.{all_joined}
-use Rattle.thorin_commands.proofs.Warned.{printed_as}
+use Rattle.thorin_commands.specs.Cause.{Finishing, Taking}
+use Rattle.thorin_commands.proofs.{Opened.all_joined, Warned.printed_as}
 use Rattle.thorin_commands.proofs.making.packed_inputs.Goals as goal
 
 -- a package without the list of units that executables refer to has the same units
@@ -23,22 +22,19 @@ returns-in-Ok-clause-made g c =
     let units : units_in done ≡ units_in state = ap units_in now ∙ units_left partial state in
     let differ : differing_in done ≡ differing_in state =
     ap differing_in now ∙ differing_left partial state in
-    if_made c.finished.result
-    (λ made finished packaged differing lines kept. record {
+    IfOk-weaker c.finished.result _ _ (λ made its. record {
       packed = record {
         state = state;
         took = took;
         joined = all_joined c.runs_go_on.ensures.joined took;
-        tested = rw now at finished.0;
-        finished = rw now at finished.1;
-        package_of = rw units at packaged;
+        tested = rw now at its.0;
+        finished = rw now at its.1;
+        package_of = rw units at its.2;
       };
-      told = rw kept filled.told;
-      differ = differing ∙ differ;
-      names_are = rw lines filled.names_are;
-    })
-    c.finished.ensures.finished c.finished.ensures.packaged c.finished.ensures.differing
-    c.finished.ensures.lines c.finished.ensures.kept
+      told = rw its.5 filled.told;
+      differ = its.3 ∙ differ;
+      names_are = rw its.4 filled.names_are;
+    }) c.finished.ensures.made
 
 pub returns-in-Ok-clause-tried : goal.returns-in-Ok-clause-tried
 returns-in-Ok-clause-tried g c =
@@ -49,8 +45,7 @@ returns-in-Ok-clause-tried g c =
       took = filled.fills.took;
       unbegun = none_began (rw (e, filled.fills.rest) at told);
       tells = t;
-    }) filled.told))
-    c.finished.ensures.empty c.finished.ensures.told
+    }) filled.told)) c.finished.ensures.empty c.finished.ensures.told
 
 pub returns-in-Ok-clause-told : goal.returns-in-Ok-clause-told
 returns-in-Ok-clause-told g c =
@@ -58,8 +53,7 @@ returns-in-Ok-clause-told g c =
     err_by g.E.LineOutput.contents g.E.LineOutput.failed c.finished.new.err
     (finishing {declines = declines c.args.inputs.now.packing.now
     (g.F.FileSystem.offer c.args.inputs.now.files.now)} c.args.options.partial
-    c.args.list.now c.fill.new.builder.state filled.fills)
-    c.finished.result c.finished.ensures.told
+    c.args.list.now c.fill.new.builder.state filled.fills) c.finished.result c.finished.ensures.told
 
 pub returns-clause-tried : goal.returns-clause-tried
 returns-clause-tried g c =
@@ -70,7 +64,6 @@ returns-clause-tried g c =
     g.E.LineOutput.failed c.fill.new.err c.in-Err.refusal c.in-Err.ensures.told
 
 pub returns-clause-told : goal.returns-clause-told
-returns-clause-told g c = refuses_by g.E.LineOutput.contents
-    g.E.LineOutput.failed c.fill.new.err
+returns-clause-told g c = refuses_by g.E.LineOutput.contents g.E.LineOutput.failed c.fill.new.err
     (taking c.args.options.partial c.args.list.now) c.in-Err.refusal
     (rw c.new-builder.ensures.state at c.in-Err.ensures.told)

@@ -19,5 +19,4 @@ returns-clause-line g c =
     ] in
     printed_ok (string_bytes c.in_ok-line.line) _ _ c.print_text.result
     (λ h. unsplit_told (path_of c.args.input) name why _ _ may (sym c.in-Some.ensures)
-    (rw line at h))
-    (rw c.as_str.ensures.value at c.print_text.ensures.printed)
+    (rw line at h)) (rw c.as_str.ensures.value at c.print_text.ensures.printed)
