@@ -6,6 +6,5 @@ use Rattle.thorin_c.proofs.finding.write_ranges.Given as goal
 
 abbrev pub invariant-loop-i : goal.invariant-loop-i
 invariant-loop-i l =
-    (length l.ranges ≡ 10)
-    × (take l.i l.ranges ≡ map (λ kind. range_of (range_in l.row kind))
+    (length l.ranges ≡ 10) × (take l.i l.ranges ≡ map (λ kind. range_of (range_in l.row kind))
     (take l.i contribution_kinds))
