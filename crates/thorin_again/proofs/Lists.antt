@@ -8,7 +8,7 @@ use Terms.{AreRowsOf, arith, bind-was, content_of, Contents, DwarfObject, each-a
 use Terms.{elf_of, Encoding, encoding_in, encoding_of, Endianness, File, file_encoding, file_text}
 use Terms.{finished-is, finished-order, finished-own, first_encoding, found_counted, Header}
 use Terms.{header_at, HoldsOwn, HoldsPlain, IfSome, IndexEntry, inl, InProgress, Input, input-keeps}
-use Terms.{input_encoding, inr, IsPlain, IsSound, IsSoundBegun, Joins, kind_of, KindsDiffer, length}
+use Terms.{input_encoding, inr, IsSound, IsSoundBegun, Joins, kind_of, KindsDiffer, length}
 use Terms.{length-append, length-map, List, list_all, lookup, made-order, map, Meaning, meaning_at}
 use Terms.{Members, members, NamesItself, None, Ok, older_at, opened, Option, own_encoding, Package}
 use Terms.{package_of, package_or_new, place_of, ReadError, Reads, refl, same-begun, same-ok}
@@ -85,15 +85,10 @@ plain-is bytes e = (λ found. grind arith, λ p. grind (arith, p))
 -- a unit with all that belongs to it, or with nothing
 abbrev pub meant_or : DwarfObject × Option Meaning → DwarfObject × Meaning
 meant_or u =
-    let none : Encoding = record { version = 0; format = Dwarf32; address_size = 0 } in (
-      u.0,
-      unwrap_or u.1 (record {
-        bytes = [];
-        contributions = λ k c. [];
-        strings = [];
-        encoding = none;
-      }),
-    )
+    let e : Encoding = record { version = 0; format = Dwarf32; address_size = 0 } in
+    let none : Meaning =
+    record { bytes = []; contributions = λ k c. []; strings = []; encoding = e } in
+    (u.0, unwrap_or u.1 none)
 
 pub there-back : (us : Members) → map meant_or (all_there us) ≡ us
 there-back [] = refl
@@ -115,10 +110,9 @@ record Each (e : Encoding) (accepted : List (List ℕ)) (old new : State) : Type
 -- what holds at the end says what each input was, and the other way round
 exactly : (e : Encoding) (accepted : List (List ℕ)) (old new : State) → IsSoundBegun old.begun
     → AreTaken accepted old new → Before new.begun new.own e ↔ Each e accepted old new
-exactly e [] old new fine are = (
-  λ h. assumption (All-nil (IsPlainOf e), ap units_in are.1, rw are.1 at h),
-  λ each. rw are.1 each.before,
-)
+exactly e [] old new fine are =
+    let none = All-nil (IsPlainOf e) in
+    (λ h. assumption (none, ap units_in are.1, rw are.1 at h), λ each. rw are.1 each.before)
 exactly e (bytes ∷ rest) old new fine are =
     let from : State = record old { targets = are.0 } in
     let next = are.1 in
@@ -134,11 +128,9 @@ exactly e (bytes ∷ rest) old new fine are =
           let a = (own-adds bytes from next e took).0 (later.before begun.0 begun.1) in
           let more : 0 < length j.added =
           omega (arith, joins-more bytes from next.begun (units_in next) refl j, a.more) in
-          record {
-            plain = All-cons (IsPlainOf e) bytes rest ((plain-is bytes e).0 a.found) later.plain;
-            adds = (units_in next, j, more, later.adds);
-            before = a.before;
-          },
+          let found = (plain-is bytes e).0 a.found in
+          let plain = All-cons (IsPlainOf e) bytes rest found later.plain in
+          record { plain = plain; adds = (units_in next, j, more, later.adds); before = a.before },
       λ each.
           let here = each.adds.1 in
           let same : each.adds.0 ≡ units_in next =
@@ -147,9 +139,8 @@ exactly e (bytes ∷ rest) old new fine are =
           omega (arith, joins-more bytes from next.begun each.adds.0 same here, each.adds.2) in
           let found = (plain-is bytes e).1 (All-head (IsPlainOf e) bytes rest each.plain) in
           let own = (own-adds bytes from next e took).1 (assumption (found, more)) in
-          let plain = All-tail (IsPlainOf e) bytes rest each.plain in
           let adds = subst (λ m. EachAdds rest m (units_in new)) same each.adds.3 in
-          others.1 (assumption (plain, adds, own)),
+          others.1 (assumption (All-tail (IsPlainOf e) bytes rest each.plain, adds, own)),
     )
 
 -- from a new builder
@@ -162,12 +153,9 @@ again-exactly accepted state are = (
       let each = (exactly own.0 accepted start state tt are).0 (λ made is. own.1) in
       record { encoding = own.0; plain = each.plain; adds = each.adds; sections = own.2 },
   λ is.
-      let before = (exactly is.encoding accepted start state tt are).1 (record {
-        plain = is.plain;
-        adds = is.adds;
-        before = λ made none. absurd cc;
-      }) in
-      grind (arith, before, is.sections),
+      let each : Each is.encoding accepted start state =
+      record { plain = is.plain; adds = is.adds; before = λ made none. absurd cc } in
+      grind (arith, (exactly is.encoding accepted start state tt are).1 each, is.sections),
 )
 
 -- rows in the format
@@ -203,7 +191,7 @@ read-encoded source all has h =
     let a = w.so.0.0 in
     places-encoding place w.place (section order r.1.unit.whole.bytes) (found, rest)
     (a.alone, a.rest) (ap (λ l. unit_at place (section order l)) (sym made.1) ∙ is) a.read
-    ∙ a.encoding ∙ w.so.1 ∙ sym made.0) all (sections-are source
+    ∙ sym a.shifted.encoding ∙ w.so.1 ∙ sym made.0) all (sections-are source
     (OfOne source) source.object.sections all (of-one source source.object.sections has) h)
 
 -- so of units with all that belongs to each
@@ -310,7 +298,7 @@ module _ (order : Endianness) (encoding : Encoding) (contents : Contents)
   abbrev Is : DwarfObject × Meaning → Type 0
   Is u = IsEncoded order u.1
 
-  rows-encoded : (rows : List IndexEntry)
+  pub rows-encoded : (rows : List IndexEntry)
       → AreRowsOf order contents strings rows (map {B = DwarfObject × Meaning} unit_of rows)
       → EachRow (NamesItself order encoding contents) rows → AllOf encoding (map {B = DwarfObject
       × Meaning} unit_of rows) → All Is (map {B = DwarfObject × Meaning} unit_of rows)
@@ -327,12 +315,6 @@ module _ (order : Endianness) (encoding : Encoding) (contents : Contents)
       All-cons Is (unit_of r) units (λ place found rest is. places-encoding place owns.place
       (section order bytes) (found, rest) u.0 is u.1 ∙ named.0 ∙ sym (All-head has
       (unit_of r) units all)) (rows-encoded rs are.1 names.1 (All-tail has (unit_of r) units all))
-
--- the units of an own package
-pub own-encoded : (made : InProgress) (encoding : Encoding) → IsSound made → IsPlain encoding made
-    → AllOf encoding (units_of made) → AreEncoded made.file.order (units_of made)
-own-encoded made encoding sound plain all = rows-encoded made.file.order encoding made.file.contents
-    made.strings made.rows sound.units.rows plain.units all
 
 -- a unit is encoded, and has the encoding
 abbrev pub IsAlike : Endianness → Encoding → DwarfObject × Meaning → Type 0
@@ -380,13 +362,10 @@ input-filled e bytes begun now one j h before =
     let old = package_or_new t.file begun in
     let info : 0 < length old.rows → HasInfo old = grind (arith, before.1) in
     let there = λ (u : TakesUnits t.file begun now).
-    info-there (source-made u.source old u.made u.with) u.encoding_is info in (
-      units-hold (λ unit. unit.encoding ≡ e) j t
-          (λ u all read. each-all _ (λ r unit made. made.0
-          ∙ one.1 u.source.encoding (rw (t.opens, u.object_is) u.encoding_is)) all)
-          before.0,
-      λ made is. grind (arith, t.does, is, info, there),
-    )
+    info-there (source-made u.source old u.made u.with) u.encoding_is info in
+    let all = units-hold (λ unit. unit.encoding ≡ e) j t (λ u all read. each-all _ (λ r unit made.
+    made.0 ∙ one.1 u.source.encoding (rw (t.opens, u.object_is) u.encoding_is)) all) before.0 in
+    (all, λ made is. grind (arith, t.does, is, info, there))
 
 pub inputs-alike : (e : Encoding) (accepted : List (List ℕ)) (state : State)
     → AreTaken accepted start state → All (IsOfEncoding e) accepted → (file : File)
@@ -399,11 +378,10 @@ inputs-alike e accepted state are one file f differ back k d within =
     (λ made none. absurd cc, (units, λ made none. absurd cc)) in
     let made = f.made in
     let filled = is.1.1 in
-    let encoded = is.1.0 made f.begun in
     let all : AllOf e (units_of made) = subst (AllOf e) (ap units_begun f.begun) filled.0 in
     let long = ap (λ b. length (units_begun b)) f.begun ∙ length-map made.rows _ in
     let some = filled.1 made f.begun (omega (arith, long, within)) in
     let first = first-of made file e (subst IsSoundBegun f.begun is.0) f.finished differ
-    (λ k d within. (encoded k d within, all k d within))
+    (λ k d within. (is.1.0 made f.begun k d within, all k d within))
     (subst (λ l. 0 < length l) (sym (finished-own made file f.finished places.Info)) some) in
     input-encoding file differ back ∙ first ∙ ap Ok (sym (filled.0 k d within))

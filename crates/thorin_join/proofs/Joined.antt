@@ -6,12 +6,12 @@ use Terms.{DwarfObject, Each, Elf, false, first, has_info, indexes_of, inl, InPr
 use Terms.{input_file_of, InputFile, inr, IsSound, IsSoundBegun, IsTable, joined_parts, joining}
 use Terms.{Joins, keys, kind_of, List, map, Meaning, Members, names_of, New, new_units, None}
 use Terms.{offsets_used, Ok, opened, Option, order_test, package_or_new, parts_of, refl, Represents}
-use Terms.{Some, Source, source_units, Str, subst, sum_by, sym, true, unit_bytes, units_begun}
+use Terms.{Some, Source, source_units, Str, subst, sum_by, sym, true, units_begun}
 use Terms.{units_of, with_input, with_new_units, with_parts, with_source, [], ℕ, ◌++◌, ◌∙◌, ◌∷◌}
-use Terms.{◌≡◌, ◌⊎◌}
+use Terms.{map-map, ◌≡◌, ◌⊎◌}
 use Rattle.thorin_join.specs.State.{held_units, with_all}
 use Rattle.thorin_join.specs.Meaning.{input_meaning, meant, object_meaning, source_meaning}
-use Rattle.thorin_join.proofs.Units.InRows.{apart-none, joined_distinct, keys-units, rows-keys}
+use Rattle.thorin_join.proofs.Units.InRows.{apart-none, joined_distinct, keys-units}
 use Rattle.thorin_join.proofs.Units.InRows.{units-are}
 use Rattle.thorin_join.proofs.Units.ReadInTurn.{added-keys, AreAdded, each-joining, News, Reads}
 use Rattle.thorin_join.proofs.Units.ReadInTurn.{units-joined}
@@ -25,7 +25,6 @@ use Rattle.thorin_join.proofs.Units.Whole.{Goes, units-go}
 use Rattle.thorin_input.specs.Encodings.{encoding_of}
 use Rattle.thorin_join.specs.Builder.{order_of, source_for, with_source_or_new, with_units}
 use Rattle.thorin_join.specs.FirstUse.{named_in, named_in_file, strings_begun, used_by, UsesStrings}
-use Rattle.dwp_base.specs.declared.section.SectionKind.TheVariants as kinds
 use Rattle.dwp_units.specs.declared.unit.UnitSection.TheVariants as places
 
 -- joining keeps what belongs to units
@@ -56,9 +55,8 @@ module _ (source : Source) (before : InProgress) (parts : Contents) (after : Lis
       → Ready source (with_parts parts before.file.contents) after ns rs
   ready [] [] are go = record { members = []; are = refl; can = tt }
   ready (n ∷ ns) (r ∷ rs) are go =
-      let made = is-unit_row source.indexes _ r.0 n.1.row are.0.row in
-      let s = row-shares source before.file.contents parts r n.1.row made before.strings after table
-      h are.0.tested in
+      let s = row-shares source before.file.contents parts r n.1.row (is-unit_row source.indexes _
+      r.0 n.1.row are.0.row) before.strings after table h are.0.tested in
       let can = can-lie source before parts n r are.0 go.0 in
       let rest = ready ns rs are.1 go.1 in
       record {
@@ -70,7 +68,7 @@ module _ (source : Source) (before : InProgress) (parts : Contents) (after : Lis
 
 -- the names of a package's units
 pub keys-held : (made : InProgress) → keys (held_units made) ≡ names_of made
-keys-held made = rows-keys (unit_bytes made.file.contents) made.rows
+keys-held made = rw map-map
 
 -- the package with the parts, before its units
 abbrev pub with_all_parts : InProgress → Contents → List (List ℕ) → List ℕ → InProgress
@@ -153,11 +151,7 @@ source-joins bytes source before now sound same meaning h =
         units = rw are at has;
         apart = rw (a.names, added, keys-held before)
             (joined_distinct (names_of before) j.all sound.apart);
-        laid = record {
-          info = rw a.order (a.lie.lies places.Info);
-          types = rw a.order (a.lie.lies places.Types);
-          once = a.lie.once;
-        };
+        laid = grind (arith, a.order, a.lie.lies places.Info, a.lie.lies places.Types, a.lie.once);
       };
     })
 
@@ -197,30 +191,6 @@ pub same-begun : {X : Type 0} (measure : Option InProgress → X) (file : Elf)
     → measure (Some (begun_by file)) ≡ measure None → (begun : Option InProgress)
     → measure (Some (package_or_new file begun)) ≡ measure begun
 same-begun measure file same begun = grind arith
-
-pub uses-strings : (bytes : List ℕ) (begun : Option InProgress) (now : InProgress) → IsSound now
-    → with_input bytes begun ≡ Ok (Some now) → UsesStrings bytes begun now
-unfolding used_by named_in_file
-uses-strings bytes begun now fine h =
-    let t = takes bytes begun (Some now) h in
-    let start = same-begun strings_begun t.file refl begun in
-    elim t.does [
-      | inl u ↦
-          let v = u.1 in
-          let brings = source-brings v.source _ v.made (source-made v.source _ v.made v.with) in
-          record {
-            used = named_in v.source v.source.object.sections;
-            named = rw (t.opens, u.0, v.object_is, v.encoding_is, v.indexes_are) refl;
-            strings = cc (v.is, brings.are, start);
-            distinct = fine.units.table.distinct;
-          }
-      | inr n ↦ record {
-        used = [];
-        named = rw (t.opens, n.0) refl;
-        strings = cc (n.1, start);
-        distinct = fine.units.table.distinct;
-      }
-    ]
 
 -- its units
 pub made-order : (file : Elf) (object : InputFile) (begun : Option InProgress)
@@ -265,4 +235,30 @@ input-keeps bytes begun now sound h =
           is = new-units t.file begun ∙ sym (append-nil (units_begun begun));
         };
       })
+    ]
+
+-- its strings
+pub uses-strings : (bytes : List ℕ) (begun : Option InProgress) (now : InProgress)
+    → IsSoundBegun begun → with_input bytes begun ≡ Ok (Some now) → UsesStrings bytes begun now
+unfolding used_by named_in_file
+uses-strings bytes begun now sound h =
+    let fine : IsSound now = (input-keeps bytes begun (Some now) sound h).sound in
+    let t = takes bytes begun (Some now) h in
+    let start = same-begun strings_begun t.file refl begun in
+    elim t.does [
+      | inl u ↦
+          let v = u.1 in
+          let brings = source-brings v.source _ v.made (source-made v.source _ v.made v.with) in
+          record {
+            used = named_in v.source v.source.object.sections;
+            named = rw (t.opens, u.0, v.object_is, v.encoding_is, v.indexes_are) refl;
+            strings = cc (v.is, brings.are, start);
+            distinct = fine.units.table.distinct;
+          }
+      | inr n ↦ record {
+        used = [];
+        named = rw (t.opens, n.0) refl;
+        strings = cc (n.1, start);
+        distinct = fine.units.table.distinct;
+      }
     ]

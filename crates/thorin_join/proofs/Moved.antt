@@ -1,15 +1,15 @@
 -- What is read of bytes is read alike wherever they stand, and a unit whatever follows it.
 use Rattle.thorin_join.proofs.Terms
-use Terms.{after, ap, arith, Bool, cond, drop, drop-append-le, Encoding, Endianness, entry_identity}
-use Terms.{Err, first_identifier, Format, Header, identity, Input, is_address_size, is_some, length}
+use Terms.{after, ap, arith, drop, drop-append-le, Encoding, Endianness, entry_identity}
+use Terms.{first_identifier, Format, Header, identity, Input, is_some, length}
 use Terms.{length-append, List, nat_tests, number_front, offset_size, Ok, ReadError, refl, Result}
-use Terms.{root_identity, suc, sym, take, take-append-drop, take-append-le, true, type_signature}
-use Terms.{unit_takes, UnitSection, zero, [], ℕ, ◌++◌, ◌+◌, ◌-◌, ◌>>=◌, ◌∙◌, ◌∷◌, ◌≡◌, ◌≤◌, ◌⊎◌}
+use Terms.{root_identity, suc, sym, take-append-drop, take-append-le, true, type_signature}
+use Terms.{unit_takes, UnitSection, zero, [], ℕ, ◌++◌, ◌+◌, ◌-◌, ◌>>=◌, ◌∙◌, ◌∷◌, ◌≡◌, ◌⊎◌}
 use Rattle.dwp_bytes.specs.Input.{byte_at, number_at, offset_at, relocated_at, skip_at, split_at}
 use Rattle.dwp_bytes.specs.Leb.{sleb_at, uleb_at}
 use Rattle.dwp_units.proofs.Readings.{Answer, bind-bind, bind_alike, by-result, more, Reads}
 use Rattle.dwp_units.proofs.Readings.{reads_byte, reads_sleb, reads_uleb}
-use Rattle.dwp_bytes.specs.declared.error.ReadError.TheVariants.{AddressSize, UnknownForm}
+use Rattle.dwp_bytes.specs.declared.error.ReadError.TheVariants.{UnknownForm}
 use Rattle.dwp_dwarf.specs.Abbreviations.{Specification}
 use Rattle.dwp_dwarf.specs.Entries.{attribute_at, attributes, DebugAttribute, number_of}
 use Rattle.dwp_units.specs.AbbreviationCodes.{code_at, root_code_at}
@@ -135,8 +135,7 @@ module _ (d : ℕ) where
       (attributes encoding specs (away i)) ≡ first_identifier (attributes encoding specs i)
   unfolding number_of
   first-same encoding [] i = refl
-  first-same encoding (s ∷ ss) i =
-      grind (arith, readings, attribute-shifts, first-same encoding ss)
+  first-same encoding (s ∷ ss) i = grind (arith, readings, attribute-shifts, first-same encoding ss)
 
   -- the identity in a root entry
   root-same : (section : Input) (unit other : Header) → IsShifted d unit other
@@ -173,14 +172,9 @@ module _ (d : ℕ) where
   unfolding offset_at relocated_at there
   offset-shifts format i = grind (arith, add_assoc)
 
-  -- a byte that passes a test
-  tested-shifts : (test : ℕ → Bool) (e : ReadError)
-      → Shifts d by ℕ (λ i. byte_at i >>= λ n. cond (test n.0) (Ok n) (Err e))
-  tested-shifts test e i = grind (arith, readings)
-
   address_size-shifts : Shifts d by ℕ address_size_at
   unfolding address_size_at
-  address_size-shifts = tested-shifts is_address_size AddressSize
+  address_size-shifts i = grind (arith, readings)
 
   unit_type-shifts : (code : ℕ) (format : Format) → Shifts d by UnitType (unit_type_at code format)
   unfolding unit_type_at type_at
@@ -200,8 +194,7 @@ module _ (d : ℕ) where
   unit-shifts : (place : UnitSection) (i : Input) → unit_at place (there d by i)
       ≡ moved (λ x. (unit_there x.0, there d by x.1)) (unit_at place i)
   unfolding unit_at header_at
-  unit-shifts place i =
-      grind (arith, length-shifts, readings, there-is, newer-shifts, older-shifts)
+  unit-shifts place i = grind (arith, length-shifts, readings, there-is, newer-shifts, older-shifts)
 
 -- with more behind them
 module _ (rest : List ℕ) where
@@ -239,13 +232,8 @@ pub record Moved (order : Endianness) (place : UnitSection) (own more : List ℕ
   pub unit : Header
   pub read : unit_at place (plain order d (own ++ more))
       ≡ Ok (unit, after (length u.whole.bytes) (plain order d (own ++ more)))
-  pub encoding : u.encoding ≡ unit.encoding
-  pub type : u.unit_type ≡ unit.unit_type
   pub whole : unit.whole ≡ plain order d u.whole.bytes
-  pub fits : length u.whole.bytes ≤ length own
-  pub front : take (length u.whole.bytes) own ≡ u.whole.bytes
-  pub offset : unit.abbrev_offset ≡ u.abbrev_offset
-  pub entries : unit.entries ≡ shifted d u.entries
+  pub shifted : IsShifted d u unit
 
 -- a unit of some bytes alone is read alike at another place, with more behind them
 pub unit-moves : (order : Endianness) (place : UnitSection) (own more : List ℕ) (d : ℕ) (u : Header)
@@ -262,13 +250,8 @@ unit-moves order place own rest d u r h =
     record {
       unit = unit_there d u;
       read = grind (arith, read, t.goes.is, size, drop-append-le k own rest t.goes.enough);
-      encoding = refl;
-      type = refl;
       whole = grind (arith, t.whole);
-      fits = rw size t.goes.enough;
-      front = grind (arith, size, t.whole);
-      offset = refl;
-      entries = grind (arith, t.inside.is, t.whole);
+      shifted = grind (arith, t.inside.is, t.whole);
     }
 
 -- the same of both sections: units of version 5

@@ -166,18 +166,12 @@ pub carried-used : (bytes : List ℕ) → carried_size bytes ≤ used_size bytes
 carried-used bytes = sum_by-le-sum_by carried (λ used. length used.bytes) (sections_of_input bytes)
     (λ s. grind arith)
 
-lengths-within : (inputs : List (List ℕ)) → All (λ bytes. used_size bytes ≤ length bytes) inputs
+pub lengths-within : (inputs : List (List ℕ)) → All (λ bytes. used_size bytes ≤ length bytes) inputs
     → sum_by carried_size inputs ≤ sum_by length inputs
 lengths-within [] h = omega arith
 lengths-within (bytes ∷ inputs) h =
     let later = lengths-within inputs (λ k d within. h (suc k) d (omega arith)) in
     omega (arith, h 0 [] (omega arith), carried-used bytes, later, sum_by-cons {X = List ℕ})
-
-pub files-within : (inputs : List (List ℕ)) (begun now : Option InProgress)
-    → All (λ bytes. used_size bytes ≤ length bytes) inputs → with_inputs inputs begun ≡ Ok now
-    → bytes_begun now ≤ bytes_begun begun + sum_by length inputs
-files-within inputs begun now apart h =
-    omega (arith, inputs-most bytes-grow inputs begun now h, lengths-within inputs apart)
 
 -- a finished package
 strings-long : (strings : List (List ℕ)) → length (data_of strings) ≡ bytes_of_strings strings

@@ -49,6 +49,7 @@ pub use Rattle.std.proofs.lemmas.List.{map-append, nil_from_length, take-append-
 pub use Rattle.std.proofs.lemmas.List.Elements.{filter-append, filter_passes}
 pub use Rattle.std.proofs.lemmas.List.Folds.{flat_map-map, list_any-append, list_any_at}
 pub use Rattle.std.proofs.lemmas.Option.{none-some, same_Some}
+pub use Rattle.std.proofs.lemmas.Simd.{map-map}
 pub use Rattle.std.specs.List.{AllByRecursion as Each, find, list_all, list_any, position_or_len}
 pub use Rattle.std.specs.List.{sum_by}
 pub use Rattle.std.specs.Map.{lookup}
@@ -61,7 +62,7 @@ pub use Rattle.thorin_index.specs.Entries.{contribution_to, entry_by}
 pub use Rattle.thorin_index.specs.EntryTests.{index_tests}
 pub use Rattle.thorin_index.specs.IndexText.{entry_ids, IsIndexOf}
 pub use Rattle.thorin_index.specs.declared.entry.IndexEntry.{IndexEntry}
-pub use Rattle.thorin_input.specs.Format.{is_copied, is_shared}
+pub use Rattle.thorin_input.specs.Format.{is_copied, is_in_format, is_shared}
 pub use Rattle.thorin_input.specs.Held.{unit_bytes}
 pub use Rattle.thorin_input.specs.Indexes.{Indexes, indexes_of, is_package, Source}
 unfoldable pub use Rattle.thorin_input.specs.InputStrings.{rewritten}

@@ -1,6 +1,8 @@
-//! What packing means, as laws.
+//! What packing means, what inputs add to a package, where their ranges lie, and which strings they
+//! bring, as laws.
 
-ghost use Rattle.std.specs.Prelude.{◌≡◌, ℕ, ◌+◌, ◌*◌, ◌^◌, ◌<◌, ◌≤◌, List, length, Option, Ok, All};
+ghost use Rattle.std.specs.Prelude.{◌≡◌, ℕ, ◌+◌, ◌*◌, ◌^◌, ◌<◌, ◌≤◌, List, length, Option, Some};
+ghost use Rattle.std.specs.Prelude.{Ok, All};
 ghost use Rattle.std.specs.List.{sum_by};
 ghost use Rattle.dwp_base.specs.declared.section.SectionKind.TheVariants.{CuIndex, TuIndex};
 ghost use Rattle.dwp_elf.specs.FileText.{Object, file_text};
@@ -10,14 +12,40 @@ ghost use Rattle.dwp_index.specs.Index.{Index};
 ghost use Rattle.dwp_index.specs.Package.{package_of};
 ghost use Rattle.thorin_join.specs.Builder.{State, finish_test, IsFinished, IsFinishedState};
 ghost use Rattle.thorin_join.specs.Builder.{with_input};
-ghost use Rattle.thorin_join.specs.FirstUse.{strings_begun};
-ghost use Rattle.thorin_join.specs.Join.{IsPackageOnceWritten};
-ghost use Rattle.thorin_join.specs.Represents.{IsSoundBegun, units_in};
+ghost use Rattle.thorin_join.specs.FirstUse.{strings_begun, UsesStrings};
+ghost use Rattle.thorin_join.specs.Join.{IsPackageOnceWritten, Joins};
+ghost use Rattle.thorin_join.specs.Represents.{IsSoundBegun, units_begun, units_in};
 ghost use Rattle.thorin_join.specs.Sizes.{bytes_of_contents, bytes_begun, carried_size, used_size};
 ghost use Rattle.thorin_join.specs.Sizes.{bytes_of_strings, offsets_size, strings_size};
 ghost use Rattle.thorin_join.specs.Sizes.{with_inputs, IsSizeFinished, container_most};
+ghost use Rattle.thorin_join.specs.StandApart.{StandApart};
 ghost use Rattle.thorin_join.specs.State.{InProgress};
 ghost use Rattle.thorin_join.specs.WrittenPackage.{IsIndexIn, package_with};
+
+/// The law of accepted inputs: a package whose units can be found and read has, once an input was
+/// taken, the units that it had and those that the input joins to them, and all of them can be
+/// found and read. It does nothing.
+pub fn inputs_are_joined()
+    ensures sound { (bytes : List ℕ) (begun now : Option InProgress) → IsSoundBegun begun
+        → with_input bytes begun ≡ Ok now → IsSoundBegun now }
+    ensures joins { (bytes : List ℕ) (begun now : Option InProgress) → IsSoundBegun begun
+        → with_input bytes begun ≡ Ok now → Joins bytes (units_begun begun) (units_begun now) }
+{}
+
+/// The law of ranges: those of an input's units lie behind all that were there, so that ranges of
+/// different inputs in one section don't overlap, and each lies inside its section and has bytes.
+/// It does nothing.
+pub fn inputs_stand_apart()
+    ensures { (bytes : List ℕ) (begun : Option InProgress) (now : InProgress) → IsSoundBegun begun
+        → with_input bytes begun ≡ Ok (Some now) → StandApart begun now }
+{}
+
+/// The law of strings: after an input the package's strings are those before and then those that
+/// the input's string offsets name, in order of first use, none twice. It does nothing.
+pub fn strings_stand_in_order_of_first_use()
+    ensures { (bytes : List ℕ) (begun : Option InProgress) (now : InProgress) → IsSoundBegun begun
+        → with_input bytes begun ≡ Ok (Some now) → UsesStrings bytes begun now }
+{}
 
 /// The law of written packages: a file that is written of contents of distinct kinds, and whose
 /// numbers fit its class, is read as the package of these contents, with the indexes that stand in

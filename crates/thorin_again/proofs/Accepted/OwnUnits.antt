@@ -92,9 +92,9 @@ module _ {encoding : Encoding} {file : File} {indexes : Indexes} {made : InProgr
       let i = inside.inside kind r there in (omega (arith, i, long), inside.some kind r there)) in
       let used = λ (some : 0 < length x). used-chosen kind made.rows (plain.named kind shared
       (rw (← finished-shared made file is.finished kind shared) (omega (arith, some, long)))) in
-      let compilations = column-there kind true a.compilation is.again.compilations in
-      let types = column-there kind false a.types is.again.types in
-      rw (some-index indexes.compilations indexes.types is.again.packed, own)
+      let compilations = column-there kind true a.compilation is.compilations in
+      let types = column-there kind false a.types is.types in
+      rw (some-index indexes.compilations indexes.types is.packed, own)
       (by-bool _ (has_column_for kind (own_index a row.id)) (λ mine. rw mine moved)
       (λ none. by-bool _ (has_column_for kind (other_index a row.id))
       (λ others. rw (none, others) tt) (λ no. rw (none, no) (none-fine kind x before (λ some.
@@ -217,10 +217,10 @@ module _ (Fresh : Type 0) (E : ErrorValue → Type 0)
         (identity-shifted _ u.offset u.alone h u.shifted ∙ alone.1)) in
         let parts_long = copied-or-offsets
         (λ k. length (joined_parts k parts_taken) ≡ length (content_of k file.contents))
-        (λ k copied. ap length (parts-first source is.again.packed before.strings parts_taken after
-        parts_are k copied ∙ is.again.held k))
-        ((rows-read source is.again.packed before.strings parts_taken after table
-        parts_are).size ∙ ap length (is.again.held StrOffsets)) in
+        (λ k copied. ap length (parts-first source is.packed before.strings parts_taken after
+        parts_are k copied ∙ is.held k))
+        ((rows-read source is.packed before.strings parts_taken after table
+        parts_are).size ∙ ap length (is.held StrOffsets)) in
         let given = row-given is plain u add.whole (λ k. joined_parts k parts_taken)
         before.file.contents parts_long
         (whole-part encoding before.file.contents parts_taken) in

@@ -11,9 +11,9 @@ use Terms.{list_any-append, list_any_none, lookup, Meaning, Members, nat_tests, 
 use Terms.{new_units, None, Ok, Option, own_encoding, own_source, package_or_new, Parts, parts_of}
 use Terms.{refl, rewritten, same_name, same_name-self, same_name-true, SectionKind, Some, subst}
 use Terms.{sym, true, units_begun, units_in, units_of, with_source, written_elf, written_object, []}
-use Terms.{ℕ, ◌++◌, ◌<◌, ◌∙◌, ◌∷◌, ◌≡◌}
+use Terms.{IsSound, ℕ, ◌++◌, ◌<◌, ◌∙◌, ◌∷◌, ◌≡◌}
 use Rattle.thorin_again.proofs.Lists.{answers-whole, AreEncoded, Finds, first-of, input-order}
-use Rattle.thorin_again.proofs.Lists.{meant_or, own-encoded, there-back}
+use Rattle.thorin_again.proofs.Lists.{meant_or, rows-encoded, there-back}
 use Rattle.std.proofs.Common.{Bool, cond, filter, IsPermutation, ltb-true, nat_lt, not, ◌||◌}
 use Rattle.thorin_join.specs.Builder.{begun_by, finish_test, IsFinishedState, order_of, start}
 use Rattle.thorin_join.specs.Builder.{State, taken, with_source_or_new}
@@ -85,9 +85,8 @@ alone-units : (bytes : List ℕ) (us now : Members) → IsDistinct same_name (ke
     → input_meaning bytes ≡ Ok meant → IsPermutation (all_meant us) meant) → IsPermutation us now
 alone-units bytes us now distinct joins means =
     let perm = means joins.units joins.meaning in
-    let apart = apart-again (all_meant us) joins.units perm (rw map-map distinct) in
-    let units : joins.units ≡ all_meant joins.added = sym (joining-apart [] joins.units apart)
-    ∙ joins.joined in
+    let units : joins.units ≡ all_meant joins.added = sym (joining-apart [] joins.units (apart-again
+    (all_meant us) joins.units perm (rw map-map distinct))) ∙ joins.joined in
     let full = IsPermutation-map meant_or (all_meant us) _ (rw units at perm) in
     rw joins.is (rw (there-back us, there-back joins.added) at full)
 
@@ -95,10 +94,9 @@ alone-units bytes us now distinct joins means =
 alone-finds : (us vs : Members) (bytes : List ℕ) → IsPermutation us vs → IsDistinct same_name
     (keys us) → (p : IsPackageOf vs bytes) → Finds p.pack us
 alone-finds us vs bytes perm distinct p name =
-    let same = found-again us vs distinct perm name in
     let limit : look_limit us name ≡ look_limit vs name =
     ap limit_of (count-again (λ u. same_sort name u.0) us vs perm) in
-    rw (limit, same) (p.finds name)
+    rw (limit, found-again us vs distinct perm name) (p.finds name)
 
 -- what the state of a written file has
 data-there : (strings : List (List ℕ)) → 0 < length strings → 0 < length (data_of strings)
@@ -130,7 +128,10 @@ module _ (state : State) (file : File) (sound : IsSoundBegun state.begun) (holds
   all = subst (λ b. AllOf encoding (units_begun b)) f.begun (holds.all encoding there.1)
 
   encoded : AreEncoded f.made.file.order (units_of f.made)
-  encoded = own-encoded f.made encoding (rw f.begun at sound) plain all
+  encoded =
+      let fine : IsSound f.made = rw f.begun at sound in
+      rows-encoded f.made.file.order encoding f.made.file.contents f.made.strings f.made.rows
+      fine.units.rows plain.units all
 
   abbrev own : IsOwn state encoding file
   own =
@@ -191,9 +192,8 @@ module _ (state : State) (file : File) (sound : IsSoundBegun state.begun) (holds
         offsets = λ some. (strings-there some, given.0);
       }) in
       let opens = opened-elf (file_text file) (written_elf file) back in
-      let object = object-written file differ in
-      rw (t.is, opens, info-written file info, object, own.first) (and-then E _ _
-      (and-then E _ _ (and-then E _ _ parts (λ p e. rw abbreviations-tested
+      rw (t.is, opens, info-written file info, object-written file differ, own.first)
+      (and-then E _ _ (and-then E _ _ (and-then E _ _ parts (λ p e. rw abbreviations-tested
       (and-then E _ _ (given.1 p e) (λ new h. tt)))) (λ m h. tt)) (λ now h. tt))
 
   -- a package of its byte order takes them, unless it is foreseen otherwise

@@ -47,11 +47,9 @@ module _ (rest : List ℕ) where
   lie-more : (ds : List (ℕ × Declaration)) (i left : Input) → DeclarationsLie i ds left
       → DeclarationsLie (more i rest) ds (more left rest)
   lie-more [] i left lie = ap (λ j. more j rest) lie
-  lie-more (d ∷ ds) i left lie = (
-    more lie.0 rest,
-    takes_more (next_takes i (d, lie.0) lie.1) rest,
-    lie-more ds lie.0 left lie.2,
-  )
+  lie-more (d ∷ ds) i left lie =
+      let next = takes_more (next_takes i (d, lie.0) lie.1) rest in
+      (more lie.0 rest, next, lie-more ds lie.0 left lie.2)
 
   found-stays : (code : ℕ) (i : Input) (d : Declaration) → declaration code i ≡ Ok (Some d)
       → declaration code (more i rest) ≡ Ok (Some d)
@@ -74,8 +72,7 @@ module _ (rest : List ℕ) where
   root-stays : (section : Input) (unit : Header) (name : Option DwarfObject)
       → root_identity section unit ≡ Ok name → root_identity (more section rest) unit ≡ Ok name
   unfolding root_identity
-  root-stays section unit name h =
-      grind (arith, from-stays unit.abbrev_offset section, found-stays)
+  root-stays section unit name h = grind (arith, from-stays unit.abbrev_offset section, found-stays)
 
 -- the identity that a unit has by a table of abbreviations it has too where bytes follow the table
 pub identity-stays : (section : Input) (rest : List ℕ) (unit : Header) (name : Option DwarfObject)
@@ -101,12 +98,11 @@ pub keep-names : (order : Endianness) (encoding : Encoding) (c d : Contents) →
     → (rows : List IndexEntry) → EachRow (LieInside c) rows
     → EachRow (NamesItself order encoding c) rows → EachRow (NamesItself order encoding d) rows
 keep-names order encoding c d grows [] lie names = tt
-keep-names order encoding c d grows (row ∷ rows) lie names = (
-  λ unit rest read. let same = keep-part c d row grows lie.0 in
-      rw (same kinds.Abbrev) (names.0 unit rest
-      (rw (same (kind_of (place_of row.id row.debug_types))) at read)),
-  keep-names order encoding c d grows rows lie.1 names.1,
-)
+keep-names order encoding c d grows (row ∷ rows) lie names =
+    let same = keep-part c d row grows lie.0 in
+    let own = same (kind_of (place_of row.id row.debug_types)) in
+    let later = keep-names order encoding c d grows rows lie.1 names.1 in
+    (λ unit rest read. rw (same kinds.Abbrev) (names.0 unit rest (rw own at read)), later)
 
 grows-self : (c : Contents) → Grows c c
 grows-self c kind = record { rest = []; is = sym (append-nil (content_of kind c)) }
@@ -140,7 +136,7 @@ module _ {source : Source} {before now : InProgress} (plain : is_package source.
       let id = row-name n.1.row c n.0 x place in
       let place_is : place_of row.id row.debug_types ≡ place =
       ap (λ n. place_of n row.debug_types) id
-      ∙ sym (own-place n.1.row c n.0 x place (can-lie source before a.parts n r is goes).fits) in
+      ∙ sym (own-place n.1.row c n.0 x place (can-lie source before a.parts n r is goes)) in
       let own : unit_bytes d row ≡ x = ap (λ p. part_of (content_of (kind_of p) d)
       (contribution_to (kind_of p) row)) place_is ∙ ap (part_of (content_of k d))
       (row-own n.1.row c n.0 x place) ∙ put-stays (content_of k c) x (content-put k x c) (up k) in
@@ -160,7 +156,7 @@ module _ {source : Source} {before now : InProgress} (plain : is_package source.
       ∙ put-stays (content_of kinds.Abbrev before.file.contents) (joined_parts kinds.Abbrev a.parts)
       (content-with_parts kinds.Abbrev a.parts before.file.contents) (grown kinds.Abbrev)
       ∙ parts-copied source before.strings a.parts a.after a.parts_are kinds.Abbrev refl ∙ f.is in (
-        ap (λ (u : Header). u.encoding) same ∙ v.encoding ∙ w.so.1,
+        ap (λ (u : Header). u.encoding) same ∙ sym v.shifted.encoding ∙ w.so.1,
         (λ i. identity (section order (part i)) (same i))
             ∙ identity-stays (section order table) f.rest v.alone (Some r.0)
             (sym (identity-shifted (section order table) v.behind v.alone r.1.unit v.shifted)
@@ -189,14 +185,11 @@ module _ {source : Source} {before now : InProgress} (plain : is_package source.
   names-kept has sound same named =
       let c = before.file.contents in
       let b = (parted a).file.contents in
-      let new = news-are a (OfOne source) (of-one source source.object.sections has) IsNew
-      (λ n r is goes w. (r, is, goes, w)) in
-      let all = with-each a Name _ one-named new (
-        grows-self b,
-        λ d up. keep-names order source.encoding c d
-            (grows-trans c b d (grows-with_parts a.parts c) up) before.rows
-            (sound-inside before sound) (rw same named),
-      ) in
+      let old = λ (d : Contents) (up : Grows b d). keep-names order source.encoding c d
+      (grows-trans c b d (grows-with_parts a.parts c) up) before.rows (sound-inside before sound)
+      (rw same named) in
+      let all = with-each a Name _ one-named (news-are a (OfOne source) (of-one source
+      source.object.sections has) IsNew (λ n r is goes w. (r, is, goes, w))) (grows-self b, old) in
       rw (order-added a ∙ sym same) (all.1 now.file.contents (grows-self _))
 
 -- a unit in info is of version 5, or no type unit
@@ -209,10 +202,6 @@ unit-none i rest u h = grind (arith, newer-five)
 first-read : (encoding : Encoding) (reads : Listed) → first_encoding reads ≡ Ok encoding
     → (unit : Header) × (slice_get reads 0 ≡ Some (Ok unit)) × (unit.encoding ≡ encoding)
 first-read encoding reads h = grind arith
-
--- units of the name go to info, wherever they stand
-abbrev GoesToInfo : Encoding → DwarfObject → Type 0
-GoesToInfo encoding name = (encoding.version ≡ 5) ⊎ (name_signature name ≡ None)
 
 -- a name is of these
 abbrev IsThere : DwarfObject → List DwarfObject → Type 0
@@ -233,7 +222,8 @@ module _ (source : Source) (encoding : Encoding) where
 
   first-named : (sections : List Used) (all : Reads) → named_sections source sections ≡ Ok all
       → first_encoding (units places.Info (section source.object.order (first kinds.Info sections)))
-      ≡ Ok encoding → (name : DwarfObject) × IsThere name (keys all) × GoesToInfo encoding name
+      ≡ Ok encoding → (name : DwarfObject) × IsThere name (keys all)
+      × ((encoding.version ≡ 5) ⊎ (name_signature name ≡ None))
   unfolding named_sections units units_within
   first-named [] all h e = absurd cc
   first-named (from ∷ rest) all h e =
@@ -247,10 +237,9 @@ module _ (source : Source) (encoding : Encoding) where
       grind (arith, a.1, is-same from.kind kinds.Info is) in
       let head = head-named from.kind _ a.0 read f.0 f.1 in
       let five = unit-none _ _ _ known.read in
-      let goes : GoesToInfo encoding head.0 =
-      grind (arith, five, known.encoding, f.2, head.2, known.type) in
-      let there = list_any-append (same_name head.0) (keys a.0) (keys b.0) in
-      (head.0, there ∙ rw head.1 refl, goes))
+      let goes : (encoding.version ≡ 5) ⊎ (name_signature head.0 ≡ None) =
+      grind (arith, five, known.shifted.encoding, f.2, head.2, known.shifted.type) in
+      (head.0, list_any-append (same_name head.0) (keys a.0) (keys b.0) ∙ rw head.1 refl, goes))
       (λ other. let l = first-named rest b.0 b.1 (rw other at e) in
       (l.0, list_any-append (same_name l.0) (keys a.0) (keys b.0) ∙ or-right _ _ l.1, l.2)))
 
@@ -285,10 +274,9 @@ module _ (name : DwarfObject) where
       let c = p.file.contents in
       let content = content-with_bytes kinds.Info (kind_of u.1.place) u.1.bytes c in
       let long = length-append (content_of kinds.Info c) u.1.bytes in
-      let later = units-put (with_unit_added p u) us in
       let stays = each-added HasInfo (λ u. Unit {0}) (λ p u one. has-more p u) (with_unit_added p u)
       us (each-all _ (λ u. tt) us) in
-      grind (arith, names-added p u, content, long, later, stays)
+      grind (arith, names-added p u, content, long, units-put (with_unit_added p u) us, stays)
 
 -- once an object with units was added, info has bytes
 pub info-there : {source : Source} {before now : InProgress} → Made source before now

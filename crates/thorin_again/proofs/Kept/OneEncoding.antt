@@ -8,7 +8,7 @@ use Terms.{IfSome, IfSome_then, index_in, IndexEntry, Indexes, indexes_of, inl, 
 use Terms.{input-keeps, input_meaning, InputFile, inr, is_index, is_package, is_plain, IsPlain}
 use Terms.{IsSoundBegun, Joins, keys, length, length-map, List, list_all, list_any, made-order}
 use Terms.{Meaning, meaning_by, Members, nat_tests, new-sound, new-units, None, Ok, Option}
-use Terms.{own_encoding, package_or_new, Ranges, Reads, refl, same-ok, same_Some, section_has, Some}
+use Terms.{own_encoding, package_or_new, Reads, refl, same-ok, same_Some, section_has, Some}
 use Terms.{Source, source-made, source_units, subst, sym, Takes, takes, TakesUnits, true, TuIndex}
 use Terms.{UnitRead, units_begun, units_of, Used, with_input, [], ℕ, ◌<◌, ◌↔◌, ◌∙◌, ◌∷◌, ◌≡◌}
 use Rattle.thorin_again.proofs.Kept.EachUnit.{encoding-eq, named-kept}
@@ -22,15 +22,10 @@ use Rattle.thorin_join.specs.Builder.{names_in, State, taken}
 abbrev pub MadeOf : Source → List ℕ → Meaning → Type 0
 MadeOf source bytes unit = (unit.encoding ≡ source.encoding) × (unit.bytes ≡ bytes)
 
-by-made : (source : Source) (bytes : List ℕ) (row : Option Ranges)
-    → IfSome (meaning_by source bytes row) (MadeOf source bytes)
-unfolding meaning_by
-by-made source bytes row = grind arith
-
 unit-made : (source : Source) (read : DwarfObject × UnitRead)
     → IfSome (unit_meaning source read) (MadeOf source read.1.unit.whole.bytes)
-unfolding unit_meaning
-unit-made source read = grind (arith, by-made)
+unfolding unit_meaning meaning_by
+unit-made source read = grind arith
 
 -- the units that an input adds
 module _ (P : Meaning → Type 0) where
@@ -112,10 +107,8 @@ pub record AddsOwn (bytes : List ℕ) (old new : State) (e : Encoding) : Type 0 
 pub own-adds : (bytes : List ℕ) (old new : State) (e : Encoding) → taken bytes old ≡ Ok new
     → (new.own ≡ Some e) ↔ AddsOwn bytes old new e
 unfolding taken
-own-adds bytes old new e h = (
-  λ k. grind (arith, nat_tests, encoding-eq),
-  λ a. grind (arith, nat_tests, a),
-)
+own-adds bytes old new e h =
+    (λ k. grind (arith, nat_tests, encoding-eq), λ a. grind (arith, nat_tests, a))
 
 pub units-names : (begun : Option InProgress) → length (units_begun begun) ≡ length (names_in begun)
 units-names begun = grind (arith, length-map)
@@ -129,9 +122,8 @@ taken-holds bytes old new sound holds h = record {
       let now = begun-now bytes old new h in
       let t = takes bytes old.begun new.begun now in
       let a = (own-adds bytes old new e h).0 k in
-      let keeps = input-keeps bytes old.begun new.begun sound now in
-      units-hold (λ unit. unit.encoding ≡ e) keeps.joins t
-      (λ u all read. each-all _ (λ r unit made. made.0 ∙ (own-units a.found t u).is) all)
+      units-hold (λ unit. unit.encoding ≡ e) (input-keeps bytes old.begun new.begun sound now).joins
+      t (λ u all read. each-all _ (λ r unit made. made.0 ∙ (own-units a.found t u).is) all)
       (begun-all (λ unit. unit.encoding ≡ e) old.begun
       (λ made is. rw is at (holds.all e (a.before made is))));
 }

@@ -96,7 +96,7 @@ module _ {encoding : Encoding} {file : File} {indexes : Indexes} {made : InProgr
       × ((version : ℕ) × HasEntries version chosen i)
   there =
       let has : HasRows (index_for indexes row.id) chosen =
-      grind (arith, read.again.compilations, read.again.types) in
+      grind (arith, read.compilations, read.types) in
       some-index (index_for indexes row.id) chosen row number has at
 
   abbrev index : Index
@@ -139,11 +139,11 @@ module _ {encoding : Encoding} {file : File} {indexes : Indexes} {made : InProgr
   -- what belongs to it
   bytes-are : (k : SectionKind) → part_of (first k source.object.sections) (range_in parts.row k) ≡
       part_of (content_of k file.contents) (contribution_to k row)
-  bytes-are k = ap₂ part_of (read.again.held k) (found-range k)
+  bytes-are k = ap₂ part_of (read.held k) (found-range k)
 
   outside : (k : SectionKind) → is_outside (first k source.object.sections) (range_in parts.row k) ≡
       false
-  outside k = ap₂ is_outside (read.again.held k) (found-range k)
+  outside k = ap₂ is_outside (read.held k) (found-range k)
       ∙ not-outside _ _ _ refl (row-lies.inside k)
 
   means : meaning_by source u.own (Some parts.row) ≡ Some (mean row)
@@ -155,9 +155,9 @@ module _ {encoding : Encoding} {file : File} {indexes : Indexes} {made : InProgr
       let inside : lie_inside source (Some parts.row) ≡ true = λ i. is_none (find (λ k. outside k i)
       shared_kinds) in
       let strings_are = (λ i. strings_of file.order (joined.1 i)
-      ((read.again.held kinds.Str ∙ read.again.strings_are) i) (bytes-are kinds.StrOffsets i))
+      ((read.held kinds.Str ∙ read.strings_are) i) (bytes-are kinds.StrOffsets i))
       ∙ strings-are _ _ _ _ _
-      (is.shares.string made.strings read.again.table (take-length made.strings)) in
+      (is.shares.string made.strings read.own.sound.units.table (take-length made.strings)) in
       rw inside (ap (meaning_with source u.own (Some parts.row)) strings_are
       ∙ (λ i. Some (record {
         bytes = own_is i;
@@ -203,23 +203,20 @@ module _ {encoding : Encoding} {file : File} {indexes : Indexes} {made : InProgr
       let id = name-identity source kind h name named in
       let is_name : name ≡ row.id = same-name indexes row.id name
       (sym (identity-sort id.0 h name id.1) ∙ u.sort) (λ c alike. same-id name
-      (grind (arith, nat_tests, tested c, read.again.packed, own-range, there.1, row-first))) in
+      (grind (arith, nat_tests, tested c, read.packed, own-range, there.1, row-first))) in
       let whole = ap (λ (i : Input). meaning_by source i.bytes (Some parts.row)) u.whole ∙ means in
-      (is_name, rw (read.again.packed, is_name, own-range, there.1, row-first, parts.there) whole)
+      (is_name, rw (read.packed, is_name, own-range, there.1, row-first, parts.there) whole)
 
   -- it passes the test of its row
   pub row-tested : row_test indexes kind row.id h ≡ Ok tt
   unfolding row_test
-  row-tested = grind (arith, nat_tests, read.again.packed, own-range, there.1, row-first, looked)
+  row-tested = grind (arith, nat_tests, read.packed, own-range, there.1, row-first, looked)
 
-  abbrev abbreviations : Input
-  abbreviations =
-      section file.order (part_of (content_of kinds.Abbrev file.contents) row.debug_abbrev)
-
-  -- it has the name of its row
-  pub named-again : identity abbreviations h ≡ Ok (Some row.id) → name_for source kind h ≡ Ok row.id
+  -- it has the name of its row, by its row's abbreviations
+  pub named-again : identity (section file.order (part_of (content_of kinds.Abbrev file.contents)
+      row.debug_abbrev)) h ≡ Ok (Some row.id) → name_for source kind h ≡ Ok row.id
   unfolding name_for abbreviations_for row_abbreviations numbered_abbreviations identity
   named-again named =
       let inside = outside kinds.Abbrev in
       let bytes = bytes-are kinds.Abbrev in
-      grind (arith, read.again.packed, there.1, own-range, row-first, parts.there, inside, bytes)
+      grind (arith, read.packed, there.1, own-range, row-first, parts.there, inside, bytes)

@@ -82,8 +82,7 @@ sections-split source [] all differ h =
 sections-split source ((kind, []) ∷ cs) all differ h =
     let rest = sections-split source cs all (rest-differ (kind, []) cs differ) h in
     let info = empty-first kinds.Info kind cs differ in
-    let types = empty-first kinds.Types kind cs differ in
-    (rest.0, rest.1, rw info rest.2, rw types rest.3, rest.4)
+    (rest.0, rest.1, rw info rest.2, rw (empty-first kinds.Types kind cs differ) rest.3, rest.4)
 sections-split source ((kind, b ∷ bs) ∷ cs) all differ h =
     let c : SectionKind × List ℕ = (kind, b ∷ bs) in
     let s1 = bind-was (named_at source (section_of c) (unit_section kind)) _ all

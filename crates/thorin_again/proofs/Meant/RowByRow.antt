@@ -1,26 +1,15 @@
--- What the rows of a written package are for an input, and which begin before a place. A section of
--- units of such a package is read as the units of its rows, one after another.
+-- Which rows of a written package begin before a place. A section of units of such a package is
+-- read as the units of its rows, one after another.
 use Rattle.thorin_again.proofs.Terms
 use Terms.{after, All, All-nil, ap, append_assoc, arith, by-bool, content_of, Contents}
-use Terms.{Contribution, contribution_to, data_of, Endianness, false, first, HasRows, HaveOneRange}
-use Terms.{Header, IndexEntry, Input, is_at, is_package, IsShifted, IsTable, kind_of, length}
+use Terms.{Contribution, contribution_to, Endianness, false, HaveOneRange}
+use Terms.{Header, IndexEntry, Input, is_at, IsShifted, kind_of, length}
 use Terms.{length-append, Lie, List, name_signature, ne_eqb, Ok, part-inside, part_of, place_of}
-use Terms.{plain, ReadError, refl, Result, rows_at, rows_of, same_place, section, SectionKind}
-use Terms.{slice_get, Some, Source, suc, sym, true, type_signature, unit-moves, unit_at, unit_bytes}
+use Terms.{plain, ReadError, refl, Result, rows_at, same_place, section, SectionKind}
+use Terms.{slice_get, Some, suc, sym, true, type_signature, unit-moves, unit_at, unit_bytes}
 use Terms.{units, units_within, UnitSection, zero, [], ℕ, ◌++◌, ◌+◌, ◌-◌, ◌<◌, ◌∙◌, ◌∷◌, ◌≡◌, ◌≤◌}
 use Rattle.std.proofs.lemmas.List.Elements.{All-push, All-weaker}
 use Rattle.std.proofs.Math.Seq.{drop-append_seam, take-append_seam}
-use Rattle.dwp_base.specs.declared.section.SectionKind.TheVariants as kinds
-
--- an input that was read of a written package of these rows
-pub record IsAgain (source : Source) (contents : Contents) (strings : List (List ℕ))
-    (rows : List IndexEntry) : Type 0 where
-  pub packed : is_package source.indexes ≡ true
-  pub held : (kind : SectionKind) → first kind source.object.sections ≡ content_of kind contents
-  pub strings_are : content_of kinds.Str contents ≡ data_of strings
-  pub table : IsTable strings
-  pub compilations : HasRows source.indexes.compilations (rows_of true rows)
-  pub types : HasRows source.indexes.types (rows_of false rows)
 
 -- where these bytes lie, which begin at this offset
 abbrev pub range_at : ℕ → List ℕ → Contribution
@@ -131,11 +120,11 @@ module _ (order : Endianness) (contents : Contents) (place : UnitSection) (rows 
         range = head.range;
         part = part-middle pre own head.rest _ offset content_is at;
         whole = moved.whole ∙ ap (plain order offset) head.is.whole;
-        sort = ap type_signature (sym moved.type) ∙ head.is.sort;
+        sort = ap type_signature moved.shifted.type ∙ head.is.sort;
         alone = head.is.unit;
         rest = head.is.rest;
         read = head.is.read;
-        shifted = assumption (sym moved.type, sym moved.encoding);
+        shifted = moved.shifted;
       }) (from (before ++ r ∷ []) rs (pre ++ own) head.rest end (n - 1) next once.1
       (All-push (IsBelow kind end) before r
       (All-weaker (IsBelow kind offset) (IsBelow kind end) (λ x h c e. omega (arith, h c e))

@@ -183,10 +183,9 @@ module _ (order : Endianness) (encoding : Encoding) where
   unfolding ranges_test
   tile-tested size at end last [] tile inside behind = refl
   tile-tested size at end last (y ∷ ys) tile inside behind =
-      let within = tile-end (at + y.size) end ys tile.2 in
       let rest = tile-tested size (at + y.size) end (y.offset.0 + y.size) ys tile.2 inside
       (omega (arith, tile.0)) in
-      grind (arith, nat_tests, tile.0, tile.1.long, within, rest)
+      grind (arith, nat_tests, tile.0, tile.1.long, tile-end (at + y.size) end ys tile.2, rest)
 
   -- a whole range has its entries behind its header
   pub whole-remapped : (section bytes : List ℕ) (size : ℕ) (strings : List (List ℕ))
@@ -240,11 +239,10 @@ module _ (order : Endianness) (encoding : Encoding) where
   all-rewritten section bytes at [] strings can = tt
   all-rewritten section bytes at (r ∷ rs) strings can =
       let here = can r (inl refl) in
-      let is = whole-remapped section (range_bytes bytes r) r.size strings here.0 in
       let one = entries-rewritten section _ here.0.count strings here.1 in
       let rest = λ (after : List (List ℕ)). all-rewritten section bytes (r.offset.0 + r.size) rs
       after (λ x h. can x (inr h)) in
-      grind (arith, is, one, rest)
+      grind (arith, whole-remapped section (range_bytes bytes r) r.size strings here.0, one, rest)
 
   -- so many entries, rewritten from these strings on, give those
   abbrev pub Lead : (section bytes : List ℕ) → ℕ → (before after : List (List ℕ)) → Type 0

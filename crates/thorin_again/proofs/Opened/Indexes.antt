@@ -14,8 +14,8 @@ use Terms.{own_source, part-inside, range_bytes, refl, rewritten, rows_at, rows_
 use Terms.{same-ok, same_Some, SectionKind, slice_get, Some, source_for, subst, sym, take-length}
 use Terms.{TakesUpToParts, true, units_of, UnitSection, UnlessStringOffset, version_test}
 use Terms.{with_input, with_units, written_elf, written_object, [], ℕ, ◌<◌, ◌∙◌, ◌∷◌, ◌≡◌}
-use Rattle.thorin_join.proofs.Files.Finished.{finished-compilations, finished-content}
-use Rattle.thorin_join.proofs.Files.Finished.{finished-grows, finished-types, Tested, tested-state}
+use Rattle.thorin_join.proofs.Files.Finished.{finished-content, finished-grows, Tested}
+use Rattle.thorin_join.proofs.Files.Finished.{tested-state}
 use Rattle.std.proofs.Common.{Bool, cond, is_some, not, slice_index, ◌^◌, ◌||◌}
 use Rattle.thorin_join.specs.Builder.{IsFinished, order_of, order_test, same_order, State}
 use Rattle.thorin_index.proofs.Each.{have_passed, used_known}
@@ -24,13 +24,11 @@ use Rattle.thorin_again.proofs.Opened.Sections.{first-written, info-written, obj
 use Rattle.thorin_again.proofs.Opened.Sections.{opened-elf}
 use Rattle.dwp_table.specs.Columns.{column_of}
 use Rattle.thorin_join.proofs.Units.InRows.{distinct_chosen}
-use Rattle.thorin_again.proofs.Meant.RowByRow.{IsAgain}
 use Rattle.thorin_again.proofs.Offsets.RewrittenAgain.{all-rewritten, are-named, CanRewrite}
 use Rattle.thorin_again.proofs.Offsets.RewrittenAgain.{ranges-are, tile-lies, tile-tested}
 use Rattle.thorin_again.proofs.Offsets.RewrittenAgain.{used-chosen}
 use Rattle.thorin_package_input.specs.PackagedOffsets.{packaged_offsets, rewritten_from}
 use Rattle.dwp_table.specs.Table.{AreDistinct}
-use Rattle.thorin_join.specs.State.{names_of}
 use Rattle.thorin_join.proofs.Parts.Added.{rewritten-package, slice-long}
 use Rattle.dwp_base.specs.declared.section.SectionKind.TheVariants as kinds
 use Rattle.dwp_units.specs.declared.unit.UnitSection.TheVariants as places
@@ -99,10 +97,15 @@ lie-kept made file laid f places.Types =
 -- a finished package, read again of its file with these indexes
 pub record IsReadOf (encoding : Encoding) (file : File) (indexes : Indexes)
     (made : InProgress) : Type 0 where
+  pub packed : is_package indexes ≡ true
+  pub held : (kind : SectionKind)
+      → first kind (written_object file).sections ≡ content_of kind file.contents
+  pub strings_are : content_of kinds.Str file.contents ≡ data_of made.strings
+  pub compilations : HasRows indexes.compilations (rows_of true made.rows)
+  pub types : HasRows indexes.types (rows_of false made.rows)
   pub finished : IsFinished made file
   pub kinds : KindsDiffer file.contents
   pub own : OwnMade encoding made
-  pub again : IsAgain (own_source file encoding indexes) file.contents made.strings made.rows
 
 module _ {state : State} {encoding : Encoding} {file : File} (own : IsOwn state encoding file) where
   abbrev made : InProgress
@@ -142,16 +145,16 @@ module _ {state : State} {encoding : Encoding} {file : File} (own : IsOwn state 
       (first kind (written_object file).sections)) (sym (finished-order made file f))
       (rw (first-written kind file.contents own.kinds) (index-taken _ encoding _ _ text tested
       (chosen-fit b made.rows own.finished.identifiers)
-      (distinct_chosen b made.rows (names_of made) refl own-made.sound.apart)
+      (distinct_chosen b made.rows own-made.sound.apart)
       (All-filter (is_chosen b) (λ row. row.encoding.version ≡ encoding.version) made.rows
       own-made.version)))
 
   taken : (b : Bool) → IndexTaken file.order encoding (rows_of b made.rows)
       (first (cond b kinds.CuIndex kinds.TuIndex) (written_object file).sections)
-  taken true = sort-taken true kinds.CuIndex (rw (finished-compilations made file f
-      own-made.sound.units.no_compilations) f.compilations) own-made.tests.compilation_rows
-  taken false = sort-taken false kinds.TuIndex (rw (finished-types made file f
-      own-made.sound.units.no_types) f.types) own-made.tests.type_rows
+  taken true = sort-taken true kinds.CuIndex (rw (rw own-made.sound.units.no_compilations at
+      (finished-content made file f kinds.CuIndex)) f.compilations) own-made.tests.compilation_rows
+  taken false = sort-taken false kinds.TuIndex (rw (rw own-made.sound.units.no_types at
+      (finished-content made file f kinds.TuIndex)) f.types) own-made.tests.type_rows
 
   abbrev indexes-taken : Indexes
   indexes-taken = record { compilations = (taken true).index; types = (taken false).index }
@@ -171,12 +174,11 @@ module _ {state : State} {encoding : Encoding} {file : File} (own : IsOwn state 
       → IsReadOf encoding file indexes made
   read-of indexes read =
       let same : indexes ≡ indexes-taken = same-ok _ _ (sym read ∙ indexes-read) in
-      let units = own-made.sound.units in
       let held = λ (kind : SectionKind). first-written kind file.contents own.kinds in
-      let strings = finished-strings made file f units.no_strings in
-      let again : IsAgain (own_source file encoding indexes) file.contents made.strings made.rows =
-      rw same (assumption (indexes-packed, held, strings, (taken true).has, (taken false).has)) in
-      assumption own-made
+      let strings = finished-strings made file f own-made.sound.units.no_strings in
+      let c = (taken true).has in
+      let t = (taken false).has in
+      rw same (assumption (own-made, indexes-packed, held, strings, c, t))
 
 -- an own file is taken up to its parts
 pub up-to-parts : (state : State) (encoding : Encoding) (file : File)
@@ -242,13 +244,11 @@ module _ (order : Endianness) (encoding : Encoding) (c : Contents) (strings : Li
       let own = range_bytes bytes range in
       let inside = are.0.lie.inside kinds.StrOffsets range e in
       let part = part-inside bytes range inside in
-      let same = all 0 m (omega arith) in
       let read = λ (k : ℕ). are.0.shares.string strings table (take-length strings) k in
-      let long = slice-long bytes range.offset.0 range.size inside in (
-        whole,
-        are-named order encoding (data_of strings) own range.size long whole
-            (slice_get m.1.strings) (λ k. grind (arith, e, part, same, read k)),
-      )
+      let long = slice-long bytes range.offset.0 range.size inside in
+      let named = are-named order encoding (data_of strings) own range.size long whole
+      (slice_get m.1.strings) (λ k. grind (arith, e, part, all 0 m (omega arith), read k)) in
+      (whole, named)
   some-can (row ∷ rows) (m ∷ ms) are all (inr h) = some-can rows ms are.1
       (All-tail (λ (u : DwarfObject × Meaning). u.1.encoding ≡ encoding) m ms all) h
 
@@ -265,14 +265,13 @@ module _ {encoding : Encoding} {file : File} {indexes : Indexes} {made : InProgr
   unfolding packaged_offsets
   offsets-are strings =
       let f = is.finished in
-      let again = is.again in
       let size = length (content_of kinds.StrOffsets made.file.contents) in
       let ranges = ranges-are _ encoding size tiled.ranges tiled.tile _ _ made.rows
-      again.compilations again.types tiled.rows tiled.named in
+      is.compilations is.types tiled.rows tiled.named in
       let tested = tile-tested _ encoding size 0 size 0 _ tiled.tile (omega arith) (omega arith) in
-      rewritten-package (own_source file encoding indexes) _ strings again.packed ∙ (λ i.
+      rewritten-package (own_source file encoding indexes) _ strings is.packed ∙ (λ i.
       packaged_offsets (finished-order made file f i) encoding indexes.compilations indexes.types
-      ((again.held kinds.Str ∙ again.strings_are) i)
+      ((is.held kinds.Str ∙ is.strings_are) i)
       (finished-shared made file f kinds.StrOffsets refl i) strings) ∙ rw (ranges, tested) refl
 
   -- unless an offset doesn't fit

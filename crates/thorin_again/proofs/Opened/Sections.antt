@@ -95,8 +95,7 @@ pub input-encoding : (file : File) → KindsDiffer file.contents → elf_of (fil
     (written_elf file) → input_encoding (file_text file) ≡ encoding_of (written_object file)
 unfolding input_encoding
 input-encoding file differ back =
-    let opens = opened-elf (file_text file) (written_elf file) back in
-    rw (opens, object-written file differ) refl
+    rw (opened-elf (file_text file) (written_elf file) back, object-written file differ) refl
 
 -- the first section of a kind is the content of that kind
 pub first-written : (kind : SectionKind) (cs : Contents) → KindsDiffer cs
@@ -202,7 +201,6 @@ module _ (E : ErrorValue → Type 0) (source : Source) where
   parts-tried ((kind, b ∷ bs) ∷ cs) before fresh can =
       let c : SectionKind × List ℕ = (kind, b ∷ bs) in
       let differ = fresh-differ (Had before) (c ∷ cs) fresh in
-      let rest = fresh-rest (Had before) c cs fresh in
       let same-strings = can-rest c cs before.1 before.1 differ (λ s. refl) can in
       let more = λ (put : List ℕ) (k : SectionKind) (is : kind ≡ k).
       fresh-more (λ j (part : SectionKind × List ℕ). same_kind part.0 j) before.0 (k, put) c cs
@@ -213,7 +211,7 @@ module _ (E : ErrorValue → Type 0) (source : Source) where
       (λ s. grind (arith, none-behind StrOffsets c cs differ same)) can) in
       let copied = parts-tried cs (before.0 ++ c ∷ [], before.1) (more (b ∷ bs) kind refl)
       same-strings in
-      let left = parts-tried cs before rest same-strings in
+      let left = parts-tried cs before (fresh-rest (Had before) c cs fresh) same-strings in
       let new = not-seen (Had before) c cs fresh in
       grind (arith, nat_tests, can.format kind, front c cs, new, can.offsets, offsets, copied, left)
 

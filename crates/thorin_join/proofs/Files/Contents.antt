@@ -4,14 +4,14 @@ use Terms.{another_kind, AreDistinct, arith, Bool, by-bool, codes, content_of, c
 use Terms.{Endianness, entry_ids, Err, file_text, HasContent, IdentifiersFit, Index, index_tests}
 use Terms.{index_version_of, IndexEntry, inl, inr, is-same, IsIndexOf, KindsDiffer, length}
 use Terms.{length-KindsDiffer, List, None, Ok, Option, refl, rows_of, same_kind, SectionKind}
-use Terms.{slice_index, Some, [], ℕ, ◌+◌, ◌<◌, ◌^◌, ◌∷◌, ◌≡◌, ◌≤◌}
+use Terms.{nat_tests, nil_from_length, slice_index, Some, [], ℕ, ◌+◌, ◌<◌, ◌^◌, ◌∷◌, ◌≡◌, ◌≤◌}
 use Rattle.dwp_base.specs.declared.class.Class.TheVariants.{Elf32, Elf64}
 use Rattle.dwp_base.specs.declared.section.SectionKind.TheVariants.{CuIndex, TuIndex}
 use Rattle.dwp_elf_read.specs.Layout.{word_size}
 use Rattle.dwp_elf.specs.FileText.{headers_place, name_table, Object}
 use Rattle.dwp_elf.specs.Numbers.{Fits}
 use Rattle.dwp_elf.specs.Written.{written_elf, written_sections}
-use Rattle.dwp_index.proofs.HeldContents.{empty, foreign, index_missing, index_there, package_is}
+use Rattle.dwp_index.proofs.HeldContents.{empty, foreign, index_missing, package_is}
 use Rattle.dwp_elf.proofs.ReadingBack.{elf_of-file_text}
 use Rattle.thorin_join.specs.WrittenPackage.{IsIndexIn, package_with}
 use Rattle.dwp_index.specs.IndexBytes.{index_of, version_of}
@@ -33,9 +33,7 @@ fitting Elf64 machine order cs fits = let second = fits 1 0 (omega arith) in ome
 pub nothing : (kind : SectionKind) (cs : List (SectionKind × List ℕ)) → count_of kind cs ≡ 0
     → content_of kind cs ≡ []
 nothing kind [] h = refl
-nothing kind (c ∷ cs) h =
-    by-bool _ (same_kind c.0 kind) (λ same. absurd (let one = rw same at h in omega arith))
-    (λ other. let none = rw other at h in rw other (nothing kind cs (omega arith)))
+nothing kind (c ∷ cs) h = grind (arith, nothing kind cs)
 
 -- each content of a kind is in its section, or has no bytes and nothing follows
 held_from : (kind : SectionKind) (number : ℕ) (names : List ℕ) (cs : List (SectionKind × List ℕ))
@@ -87,14 +85,10 @@ pub no-bytes : (order : Endianness) → index_of order [] ≡ Err UnexpectedEof
 unfolding index_of version_of
 no-bytes order = refl
 
-some-bytes : (order : Endianness) (bytes : List ℕ) (index : Index) → index_of order bytes ≡ Ok index
-    → 0 < length bytes
-some-bytes order [] index h = let none = no-bytes order in absurd cc
-some-bytes order (b ∷ bs) index h = omega arith
-
 pub index-read : (order : Endianness) (rows : List IndexEntry) (bytes : List ℕ)
     → IsIndexOf order rows bytes → index_tests rows ≡ Ok tt → AreDistinct (entry_ids rows)
     → ((r : ℕ) → slice_index (entry_ids rows) r < 2 ^ 64) → IndexRead order rows bytes
+unfolding index_in_section
 index-read order [] bytes text tested distinct fit =
     record { index = None; read = index_missing order bytes text; has = refl }
 index-read order (row ∷ rows) bytes text tested distinct fit =
@@ -103,7 +97,7 @@ index-read order (row ∷ rows) bytes text tested distinct fit =
     read in
     record {
       index = Some _;
-      read = index_there order bytes _ (some-bytes order bytes _ read) read;
+      read = grind (arith, nat_tests, read, no-bytes order, nil_from_length bytes);
       has = (index_version_of row.encoding.version, entries, omega arith);
     }
 

@@ -6,7 +6,7 @@ use Terms.{contribution_to, data_of, DwarfObject, Endianness, entry_ids, false, 
 use Terms.{filter, GivesNone, held_content, identifier_of, IdentifiersFit, Index, index_for}
 use Terms.{index_tests, IndexEntry, InProgress, is_chosen, is_compilation, IsFinished, IsRowOf}
 use Terms.{IsSound, IsSoundBegun, IsTable, kind_of, length, length-map, List, lookup, map}
-use Terms.{MatchOption, Meaning, meaning_at, Members, names_of, nat_tests, None, not, Ok, Option}
+use Terms.{MatchOption, Meaning, meaning_at, Members, nat_tests, None, not, Ok, Option}
 use Terms.{Package, part_of, range_in, refl, row_bytes, rows_of, same_kind, same_name, SectionKind}
 use Terms.{sections_of, slice_get, slice_index, Some, suc, sym, take-length, true, units_in}
 use Terms.{units_of, UnitSection, with_bytes, zero, [], ℕ, ◌++◌, ◌+◌, ◌<◌, ◌∙◌, ◌∷◌, ◌≡◌, ◌≤◌}
@@ -175,13 +175,10 @@ module _ (order : Endianness) (contents : Contents) (compilations types : Option
         let found = found-unit unit f i has.0 has.1 in
         let g = present_unit finds_exactly pack name (entry_ids own) i f.place _ f.is.owns.encoding
         (record { index_is = there; slots = has.1.slots }) found in
-        record {
-          found = _;
-          count = g.count;
-          few = grind (arith, rows-counted of rows name, found.within, g.few);
-          counted = g.counted;
-          is = found-is unit f i has.0 has.1;
-        }
+        let few : g.count ≤ limit_of units =
+        grind (arith, rows-counted of rows name, found.within, g.few) in
+        let is = found-is unit f i has.0 has.1 in
+        record { found = _; count = g.count; few = few; counted = g.counted; is = is }
 
     pub package-finds : Gives (lookup (same_name name) (members of rows))
     package-finds =
@@ -225,14 +222,6 @@ module _ (made : InProgress) (file : File) (f : IsFinished made file) where
       file.contents ≡ data_of made.strings
   finished-strings none = rw none at (finished-content kinds.Str)
 
-  pub finished-compilations : content_of kinds.CuIndex made.file.contents ≡ []
-      → content_of kinds.CuIndex file.contents ≡ f.compilation_index
-  finished-compilations none = rw none at (finished-content kinds.CuIndex)
-
-  pub finished-types : content_of kinds.TuIndex made.file.contents ≡ [] → content_of kinds.TuIndex
-      file.contents ≡ f.type_index
-  finished-types none = rw none at (finished-content kinds.TuIndex)
-
   -- the units' own bytes
   pub finished-own : (place : UnitSection) → content_of (kind_of place) file.contents ≡ content_of
       (kind_of place) made.file.contents
@@ -244,7 +233,7 @@ module _ (made : InProgress) (file : File) (f : IsFinished made file) where
   package-is sound tested fits differ back =
       let of = meaning_at made.file.order made.file.contents made.strings in
       let units = sound.units in
-      let apart = λ (b : Bool). distinct_chosen b made.rows (names_of made) refl sound.apart in
+      let apart = λ (b : Bool). distinct_chosen b made.rows sound.apart in
       let c = index-read made.file.order (rows_of true made.rows) f.compilation_index f.compilations
       tested.compilation_rows (apart true) (chosen-fit true made.rows fits) in
       let t = index-read made.file.order (rows_of false made.rows) f.type_index f.types
@@ -256,8 +245,9 @@ module _ (made : InProgress) (file : File) (f : IsFinished made file) where
       record {
         pack = _;
         parsed = package_held (file_text file) file differ back c.index t.index
-            (rw (finished-order, finished-compilations units.no_compilations) c.read)
-            (rw (finished-order, finished-types units.no_types) t.read);
+            (rw (finished-order, rw units.no_compilations at (finished-content kinds.CuIndex))
+            c.read)
+            (rw (finished-order, rw units.no_types at (finished-content kinds.TuIndex)) t.read);
         named = rw (
           ← ids-chosen of is_compilation made.rows,
           ← ids-chosen of (λ name. not (is_compilation name)) made.rows,

@@ -13,7 +13,7 @@ use Terms.{refl, remapped, result_unwrap_or, rewritten, same-ok, same-self, same
 use Terms.{slice_range, Source, stands_once, Str, string_at, strings_of, StrOffsets, subst, suc}
 use Terms.{sum_by, sym, take, take-length, true, Used, with_bytes, with_each_part, with_new_unit}
 use Terms.{with_new_units, with_offsets, with_part, with_parts, with_string, with_unit_added, zero}
-use Terms.{[], ℕ, ◌&&◌, ◌*◌, ◌++◌, ◌+◌, ◌-◌, ◌<◌, ◌||◌, ◌∙◌, ◌∷◌, ◌≡◌, ◌≤◌, ◌⊎◌}
+use Terms.{is_in_format, [], ℕ, ◌&&◌, ◌*◌, ◌++◌, ◌+◌, ◌-◌, ◌<◌, ◌||◌, ◌∙◌, ◌∷◌, ◌≡◌, ◌≤◌, ◌⊎◌}
 use Rattle.std.proofs.Math.Nat.{mul-le-mul_right}
 use Rattle.std.proofs.lemmas.List.Sums.{sum_by-append, sum_by-cons, sum_by_push}
 use Rattle.thorin_strings.specs.StringOffsets.{offset_at, remapped_entries, remapped_entry}
@@ -25,20 +25,13 @@ use Rattle.thorin_join.specs.FirstUse.{named_by_ranges, named_by_section, named_
 use Rattle.thorin_join.proofs.Parts.Ranges.{count-fits, count-none, range-of}
 use Rattle.thorin_join.proofs.Units.ReadInTurn.{News}
 use Rattle.thorin_join.specs.Strings.{each_from, offset_of_entry, strings_at}
-use Rattle.std.proofs.lemmas.Bool.{false_from_ne_true}
-
-pub differ : (a b : SectionKind) → (a ≡ b → ⊥) → same_kind a b ≡ false
-differ a b apart = false_from_ne_true _ (λ same. apart (is-same a b same))
 
 -- bytes that are added to a section
 pub content-appended : (kind k : SectionKind) (bytes : List ℕ) (c : Contents) → content_of kind
     (appended k bytes c) ≡ cond (same_kind k kind) (content_of kind c ++ bytes) (content_of kind c)
 content-appended kind k bytes [] = refl
 content-appended kind k bytes (d ∷ ds) =
-    by-bool _ (same_kind d.0 k) (λ same. rw (same, ← is-same d.0 k same)
-    (by-bool _ (same_kind d.0 kind) (λ here. rw here) (λ later. rw later)))
-    (λ other. rw other (by-bool _ (same_kind d.0 kind) (λ here. rw here (grind arith))
-    (λ later. rw (later, content-appended kind k bytes ds))))
+    grind (arith, is-same d.0 k, content-appended kind k bytes ds)
 
 pub content-with_bytes : (kind k : SectionKind) (bytes : List ℕ) (c : Contents)
     → content_of kind (with_bytes k bytes c) ≡ (if same_kind k kind then content_of kind c ++ bytes
@@ -60,8 +53,7 @@ pub joined_parts-more : (kind : SectionKind) (a : Contents) (k : SectionKind) (b
     (same_kind k kind) bytes []
 joined_parts-more kind [] k bytes = ap (λ v. cond (same_kind k kind) v []) (append-nil bytes)
 joined_parts-more kind (p ∷ ps) k bytes =
-    rw (joined_parts-more kind ps k bytes) (by-bool _ (same_kind p.0 kind)
-    (λ same. rw same (sym (append_assoc p.1 (joined_parts kind ps) _))) (λ other. rw other))
+    grind (arith, joined_parts-more kind ps k bytes, append_assoc p.1 (joined_parts kind ps))
 
 pub joined_parts-other : (kind : SectionKind) (a : Contents) (k : SectionKind) (bytes : List ℕ)
     → same_kind k kind ≡ false → joined_parts kind (a ++ (k, bytes) ∷ []) ≡ joined_parts kind a
@@ -88,9 +80,10 @@ module _ (source : Source) where
       × (next ≡ (before.0 ++ (s.kind, s.bytes) ∷ [], before.1)))
       ⊎ ((same_kind s.kind StrOffsets ≡ false) × (is_copied s.kind ≡ false) × (next ≡ before)))
 
-  -- the section doesn't stand twice where it may not
+  -- the section doesn't stand twice where it may not, and is in the format
   pub record Step (before : Parts) (s : Used) (next : Parts) : Type 0 where
     pub once : (stands_once source s.kind && has_part s.kind before.0) ≡ false
+    pub format : is_in_format source.encoding s.kind ≡ true
     pub adds : Adds before s next
 
   pub step : (before : Parts) (s : Used) (next : Parts) → with_part source before s ≡ Ok next
@@ -219,8 +212,7 @@ string-more : (section : List ℕ) (f : ℕ → ℕ) (i n j : ℕ) (l : List (Li
 unfolding strings_at
 string-more section f i zero j l string at h k =
     let here : i ≡ j = omega arith in grind arith
-string-more section f i (suc n) j l string at h k =
-    grind (arith, string-more section f (i + 1) n j)
+string-more section f i (suc n) j l string at h k = grind (arith, string-more section f (i + 1) n j)
 
 pub no-entries : (encoding : Encoding) → entry_count encoding 0 ≡ 0
 no-entries encoding = count-none encoding.format 0 (header_size encoding) (omega arith)
@@ -356,9 +348,8 @@ pub each-unit : (P : InProgress → News → InProgress → Type 0) → ((p : In
 unfolding with_new_units with_new_unit
 each-unit P none passed added p [] = none p
 each-unit P none passed added p (u ∷ us) =
-    let old = each-unit P none passed added p us in
     let new = each-unit P none passed added (with_unit_added p u) us in
-    grind (arith, passed p u us _ old, added p u us _ new)
+    grind (arith, passed p u us _ (each-unit P none passed added p us), added p u us _ new)
 
 -- units bring no strings
 pub units-strings : (p : InProgress) (us : News) → (with_new_units p us).strings ≡ p.strings

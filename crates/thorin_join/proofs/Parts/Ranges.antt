@@ -108,8 +108,7 @@ unfolding strings_at
 all-are section [] [] h = refl
 all-are section [] (y ∷ ys) h = grind (arith, h 0)
 all-are section (o ∷ os) [] h = grind (arith, h 0)
-all-are section (o ∷ os) (y ∷ ys) h =
-    grind (arith, h 0, all-are section os ys (λ i. h (suc i)))
+all-are section (o ∷ os) (y ∷ ys) h = grind (arith, h 0, all-are section os ys (λ i. h (suc i)))
 
 -- the strings of a range
 module _ (order : Endianness) (encoding : Encoding) (section range : List ℕ) where

@@ -2,7 +2,7 @@
 -- package those of each row, where each kind of section has one part at most.
 use Rattle.thorin_join.proofs.Terms
 use Terms.{append-nil, append_assoc, arith, Bool, by-bool, Contents, Contribution, data_of}
-use Terms.{Encoding, entry_count, false, first, has_part, Index, Indexes, inl, InputFile, inr}
+use Terms.{Encoding, entry_count, false, first, has_part, Index, inl, InputFile, inr}
 use Terms.{is-same, is_copied, is_package, IsTable, joined_offsets, joined_parts, joined_read}
 use Terms.{kept_more, length, length-append, List, no_header, offset_size, Ok, Parts, parts_of}
 use Terms.{range_in, range_named, Ranges, ReadsAlike, refl, row_in, same-self, same_kind}
@@ -107,18 +107,15 @@ module _ (source : Source) (plain : is_package source.indexes ≡ false) where
       object.sections ([], strings) (parts, after) h []
       (grind (arith, empty-alike object.order encoding section))).read
 
--- one of the indexes
-abbrev pub IsOneOf : Index → Indexes → Type 0
-IsOneOf index indexes = (indexes.compilations ≡ Some index) ⊎ (indexes.types ≡ Some index)
-
 -- the string offsets of a package were rewritten: each row's range reads alike
 pub record RowsRead (source : Source) (old new : List ℕ) (after : List (List ℕ)) : Type 0 where
   pub size : length new ≡ length old
-  pub rows : (index : Index) → IsOneOf index source.indexes → (number : ℕ) (row : Ranges)
-      (range : Contribution) → row_in index number ≡ Ok row → range_in row StrOffsets ≡ Some range
-      → range.offset.0 + range.size ≤ length old → 0 < range.size → (final : List (List ℕ))
-      → IsTable final → take (length after) final ≡ after → (k : ℕ)
-      → ReadsAlike source.object.order source.encoding (first Str source.object.sections)
+  pub rows : (index : Index)
+      → (source.indexes.compilations ≡ Some index) ⊎ (source.indexes.types ≡ Some index)
+      → (number : ℕ) (row : Ranges) (range : Contribution) → row_in index number ≡ Ok row
+      → range_in row StrOffsets ≡ Some range → range.offset.0 + range.size ≤ length old
+      → 0 < range.size → (final : List (List ℕ)) → IsTable final → take (length after) final ≡ after
+      → (k : ℕ) → ReadsAlike source.object.order source.encoding (first Str source.object.sections)
       (range_bytes old range) (data_of final) (range_bytes new range) k
 
 module _ (source : Source) (packed : is_package source.indexes ≡ true) where

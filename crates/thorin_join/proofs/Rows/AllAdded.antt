@@ -33,13 +33,10 @@ module _ (order : Endianness) (place : UnitSection) (row : IndexEntry) (own : Li
       let head = h.0 in
       let next : at ≡ offset + length head.own + length head.rest =
       omega (arith, ap length head.are, length-append head.own head.rest) in
-      let first : Heads order place offset r (bytes ++ own) = record {
-        own = head.own;
-        rest = head.rest ++ own;
-        are = rw (head.are, append_assoc);
-        range = head.range;
-        is = head.is;
-      } in
+      let rest = head.rest ++ own in
+      let are : bytes ++ own ≡ head.own ++ rest = rw (head.are, append_assoc) in
+      let first : Heads order place offset r (bytes ++ own) =
+      record { own = head.own; rest = rest; are = are; range = head.range; is = head.is } in
       (first, lie-append (offset + length head.own) rs head.rest next h.1)
 
 -- how the rows of a package lie
@@ -62,13 +59,13 @@ module _ (order : Endianness) (c : Contents) (rows : List IndexEntry) (u : Dwarf
 
   at-is : (other : UnitSection) → is_at other row ≡ same_place other place
   at-is other = rw (row-name u.1.row c u.0 u.1.bytes place)
-      (ap (same_place other) (sym (own-place u.1.row c u.0 u.1.bytes place can.fits)))
+      (ap (same_place other) (sym (own-place u.1.row c u.0 u.1.bytes place can)))
 
   pub unit-lies : RowsLie order rows c
       → RowsLie order (rows ++ row ∷ []) (with_bytes (kind_of place) u.1.bytes c)
   unit-lies lie =
       let range = row-own u.1.row c u.0 u.1.bytes place
-      ∙ place-put (kind_of place) u.1.bytes c can.fits.some in
+      ∙ place-put (kind_of place) u.1.bytes c can.whole.some in
       let behind = lie-append order place row u.1.bytes _ range (rw
       (row-name u.1.row c u.0 u.1.bytes place) can.whole) 0 _ _ (omega arith) (lie.lies place) in
       record {
@@ -80,7 +77,7 @@ module _ (order : Endianness) (c : Contents) (rows : List IndexEntry) (u : Dwarf
         once = All-append (λ row. (other : UnitSection) → is_at other row ≡ false
             → contribution_to (kind_of other) row ≡ None) rows (row ∷ []) lie.once (
               λ other apart.
-                  grind (arith, row-other, kinds-same, at-is other, can.no_info, can.fits.no_types),
+                  grind (arith, row-other, kinds-same, at-is other, can.no_info, can.no_types),
               tt,
             );
       }
@@ -105,8 +102,7 @@ pub laid-lies : (made : InProgress) (parts : Contents)
     → ((place : UnitSection) → joined_parts (kind_of place) parts ≡ []) → IsLaid made
     → RowsLie made.file.order made.rows (with_parts parts made.file.contents)
 laid-lies made parts none laid =
-    let empty = append-nil {A = ℕ} in
-    grind (arith, content-with_parts, none, empty, laid.info, laid.types, laid.once)
+    grind (arith, content-with_parts, none, append-nil {A = ℕ}, laid.info, laid.types, laid.once)
 
 -- units whose names are new
 abbrev pub AllNew : List DwarfObject → List DwarfObject → Type 0
@@ -117,13 +113,11 @@ AllNew names (u ∷ us) = (list_any (same_name u) names ≡ false) × AllNew (na
 pub joined-new : {X : Type 0} (names : List DwarfObject) (us : List (DwarfObject × X))
     → AllNew names (keys (joining names us))
 joined-new names [] = tt
-joined-new names (u ∷ us) =
-    grind (arith, joined-new names us, joined-new (names ++ u.0 ∷ []) us)
+joined-new names (u ∷ us) = grind (arith, joined-new names us, joined-new (names ++ u.0 ∷ []) us)
 
 pub names-added : (p : InProgress) (u : DwarfObject × NewUnit) → names_of (with_unit_added p u) ≡
     names_of p ++ u.0 ∷ []
-names-added p u =
-    rw (map-append, row-name u.1.row p.file.contents u.0 u.1.bytes u.1.place) refl
+names-added p u = rw (map-append, row-name u.1.row p.file.contents u.0 u.1.bytes u.1.place) refl
 
 -- units that can be added
 abbrev pub AllCanBeAdded : Endianness → Contents → List (List ℕ) → News → Members → Type 0
@@ -165,7 +159,6 @@ units-added base p (u ∷ us) ms (m ∷ added) grows new can rows lie =
     let a = units-added base q us (ms ++ m ∷ []) added (grows-trans base c q.file.contents grows
     more) (rw names new.1) can.1 (rows-next order q.file.contents p.strings p.rows ms _ m before
     row) (unit-lies order c p.rows u can.0.can lie) in
-    let rest = append_assoc ms (m ∷ []) added in
     let named = append_assoc (names_of p) (u.0 ∷ []) (keys us) in
-    rw new.0 (grind (arith, a, rest, names, named, content-with_bytes))
+    rw new.0 (grind (arith, a, append_assoc ms (m ∷ []) added, names, named, content-with_bytes))
 units-added base p _ ms _ grows new can rows lie = absurd can

@@ -135,8 +135,7 @@ pub record RowShares (source : Source) (before parts : Contents) (after : List (
 none-found : {X : Type 0} (other test : X → Bool) → ((x : X) → other x ≡ true → test x ≡ false)
     → (xs : List X) → list_all other xs ≡ true → is_none (find test xs) ≡ true
 none-found other test fails [] pass = refl
-none-found other test fails (x ∷ xs) pass =
-    grind (arith, fails x, none-found other test fails xs)
+none-found other test fails (x ∷ xs) pass = grind (arith, fails x, none-found other test fails xs)
 
 module _ (source : Source) (before parts : Contents) (read : DwarfObject × UnitRead)
     (row : IndexEntry) (made : IsUnitRow source.indexes (whole_row source.encoding before parts)
@@ -147,8 +146,7 @@ module _ (source : Source) (before parts : Contents) (read : DwarfObject × Unit
   -- a kind of which it has a range is shared
   has-shared : (kind : SectionKind) (range : Contribution) → contribution_to kind row ≡ Some range
       → is_shared kind ≡ true
-  has-shared kind range h =
-      grind (arith, whole-else source.encoding before parts)
+  has-shared kind range h = grind (arith, whole-else source.encoding before parts)
 
   -- the unit by these ranges, which has these parts
   shares-by : (after : List (List ℕ)) (ranges : Option Ranges) (part : SectionKind → List ℕ)
@@ -159,10 +157,9 @@ module _ (source : Source) (before parts : Contents) (read : DwarfObject × Unit
       → RowShares source before parts after read row
   unfolding meaning_by
   shares-by after ranges part table is lies copied inside reads =
-      let old = first Str source.object.sections in
-      let offsets = offsets_by source ranges in
-      let strings = strings-there source.object.order source.encoding old offsets (λ i.
-      (reads after table (take-length after) i).readable) in
+      let strings = strings-there source.object.order source.encoding
+      (first Str source.object.sections) (offsets_by source ranges)
+      (λ i. (reads after table (take-length after) i).readable) in
       record {
         unit = record {
           bytes = read.1.unit.whole.bytes;
@@ -202,8 +199,7 @@ module _ (source : Source) (before parts : Contents) (read : DwarfObject × Unit
     unfolding row_test row_of
     own =
         let part = made.parts Abbrev refl in
-        let found = adjusted-packed source.indexes name packed Abbrev _ _ part in
-        grind (arith, test, packed, found.1)
+        grind (arith, test, packed, (adjusted-packed source.indexes name packed Abbrev _ _ part).1)
 
     each-placed : (kind : SectionKind) → is_shared kind ≡ true → Placed (content_of kind before)
         (joined_parts kind parts) (range_in own.row kind) (contribution_to kind row)

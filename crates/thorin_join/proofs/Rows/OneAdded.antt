@@ -182,18 +182,12 @@ pub not-shared : (place : UnitSection) → (is_copied (kind_of place) ≡ false)
     × (same_kind kinds.StrOffsets (kind_of place) ≡ false)
 not-shared place = grind arith
 
--- the place of a unit is that of its name and its range in types
-pub record Fits (shared : IndexEntry) (name : DwarfObject) (x : List ℕ)
-    (place : UnitSection) : Type 0 where
-  pub no_types : shared.debug_types ≡ None
-  pub some : 0 < length x
-  pub types_only : place ≡ places.Types → (signature : ℕ)
-      × (name ≡ TypeUnit (record { 0 = signature }))
-
--- a unit that can be put behind the others
+-- a unit that can be put behind the others: its place is that of its name and its range in types
 pub record CanLie (order : Endianness) (u : DwarfObject × NewUnit) : Type 0 where
-  pub fits : Fits u.1.row u.0 u.1.bytes u.1.place
   pub no_info : u.1.row.debug_info ≡ None
+  pub no_types : u.1.row.debug_types ≡ None
+  pub types_only : u.1.place ≡ places.Types → (signature : ℕ)
+      × (u.0 ≡ TypeUnit (record { 0 = signature }))
   pub whole : IsWhole order u.1.place u.0 u.1.bytes
 
 -- a unit that can be added: it has its place in what its row shares
@@ -214,10 +208,11 @@ module _ (shared : IndexEntry) (c : Contents) (name : DwarfObject) (x : List ℕ
   row-parts places.Info = same-each _ _ refl
   row-parts places.Types = same-each _ _ refl
 
-  pub own-place : (place : UnitSection) → Fits shared name x place
+  pub own-place : {order : Endianness} (place : UnitSection)
+      → CanLie order (name, record { place = place; bytes = x; row = shared })
       → place ≡ index.place_of name (contribution_to kinds.Types (row_at shared c name x place))
-  own-place place fits =
-      grind (arith, fits.no_types, fits.types_only, place-put kinds.Types x c fits.some)
+  own-place place can =
+      grind (arith, can.no_types, can.types_only, place-put kinds.Types x c can.whole.some)
 
   pub row-name : (place : UnitSection) → (row_at shared c name x place).id ≡ name
   row-name place = grind arith
@@ -261,7 +256,7 @@ module _ (shared : IndexEntry) (c : Contents) (name : DwarfObject) (x : List ℕ
           shares = grind (arith, is-same, not-shared place, row-other, kept.content, kept.string);
           owns = record {
             place = place;
-            place_is = rw (← added.name) (own-place place can.fits);
+            place_is = rw (← added.name) (own-place place can);
             bytes = rw (row-own, content-put (kind_of place) x c)
                 ((lies-whole (content_of (kind_of place) c) x).part_is ∙ added.bytes);
             encoding = can.whole.unit.encoding;

@@ -9,7 +9,8 @@ use Rattle.thorin_join.proofs.Units.ReadInTurn.{AreAdded, News, Reads, units-joi
 use Rattle.thorin_join.proofs.Rows.OneAdded.{front-long, Grows, grows-trans, grows-with_bytes}
 use Rattle.thorin_join.proofs.Rows.OneAdded.{lies-whole, row-part}
 use Rattle.thorin_join.proofs.Rows.OfUnits.{is-unit_row, row-behind}
-use Rattle.thorin_join.proofs.Joined.{grows-with_parts, new-sound, same-begun, source-made, takes}
+use Rattle.thorin_join.proofs.Joined.{grows-with_parts, input-keeps, new-sound, same-begun}
+use Rattle.thorin_join.proofs.Joined.{source-made, takes}
 use Rattle.thorin_join.proofs.Parts.Added.{each-unit}
 
 -- units that are added
@@ -60,9 +61,9 @@ sound-inside made sound = each-inside made.file.order made.file.contents made.st
     sound.units.rows
 
 pub stand-apart : (bytes : List ℕ) (begun : Option InProgress) (now : InProgress)
-    → IsSoundBegun begun → IsSound now → with_input bytes begun ≡ Ok (Some now)
-    → StandApart begun now
-stand-apart bytes begun now sound fine h =
+    → IsSoundBegun begun → with_input bytes begun ≡ Ok (Some now) → StandApart begun now
+stand-apart bytes begun now sound h =
+    let fine : IsSound now = (input-keeps bytes begun (Some now) sound h).sound in
     let t = takes bytes begun (Some now) h in
     let before = package_or_new t.file begun in
     let from = λ (n : InProgress). Appended before.file.contents before.rows n.rows in

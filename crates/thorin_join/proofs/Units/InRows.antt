@@ -7,13 +7,12 @@ use Terms.{false, filter_passes, get_or-at, identifier_of, IndexEntry, InProgres
 use Terms.{is_compilation, IsRowOf, IsTable, joining, keys, length-map, List, list_any, list_any_at}
 use Terms.{map, Meaning, meaning_at, Members, names_of, Ok, part_of, refl, Represents}
 use Terms.{result_unwrap_or, rows_of, same_name, strings_of, StrOffsets, sym, take-length, true}
-use Terms.{unit_bytes, units_of, [], ℕ, ◌++◌, ◌∷◌, ◌≡◌}
+use Terms.{map-map, unit_bytes, units_of, [], ℕ, ◌++◌, ◌∷◌, ◌≡◌}
 use Rattle.std.proofs.lemmas.List.Kept.{AllPairs-filter}
 use Rattle.std.proofs.lemmas.List.Quantifiers.{all_pairs_push}
 use Rattle.thorin_join.proofs.Parts.Ranges.{strings-are}
 
 -- one name is the other
-
 pub same_name-true : (a b : DwarfObject) → same_name a b ≡ true → a ≡ b
 same_name-true a b h = grind arith
 
@@ -22,11 +21,6 @@ same_name-self a = grind arith
 
 pub same_name-sym : (a b : DwarfObject) → same_name a b ≡ true → same_name b a ≡ true
 same_name-sym a b h = grind arith
-
-pub apart-more : (names : List DwarfObject) (name : DwarfObject) → AreApart names
-    → list_any (same_name name) names ≡ false → AreApart (names ++ name ∷ [])
-apart-more names name h e = all_pairs_push (λ a b. same_name a b ≡ false) names name h
-    (λ k d within. grind (arith, list_any_at (same_name name) names k d within, same_name-sym))
 
 pub apart-none : AreApart []
 apart-none i j d before within = absurd (omega arith)
@@ -37,11 +31,12 @@ pub joined_distinct : {X : Type 0} (names : List DwarfObject) (all : List (Dwarf
 joined_distinct names [] h = rw (append-nil names) h
 joined_distinct names (u ∷ rest) h =
     let new = λ (n : list_any (same_name u.0) names ≡ false). rw append_assoc at
-    (joined_distinct (names ++ u.0 ∷ []) rest (apart-more names u.0 h n)) in
+    (joined_distinct (names ++ u.0 ∷ []) rest (all_pairs_push (λ a b. same_name a b ≡ false) names
+    u.0 h (λ k d within. grind (arith, n, list_any_at (same_name u.0) names k d within,
+    same_name-sym)))) in
     grind (arith, joined_distinct names rest h, new)
 
 -- two rows of one kind with one identifier have one name
-
 pub same-sort : (a b : DwarfObject) → is_compilation a ≡ is_compilation b
     → identifier_of a ≡ identifier_of b → same_name a b ≡ true
 same-sort a b sort e = grind arith
@@ -61,14 +56,14 @@ chosen-distinct b (d ∷ rest) chosen apart i j hi hj h =
     grind (arith, long, at i d 0, at j d 0, chosen, sort, same-sort, apart i j d, apart j i d)
 
 -- rows whose names are apart: those of one kind have distinct identifiers
-pub distinct_chosen : (b : Bool) (rows : List IndexEntry) (names : List DwarfObject)
-    → map (λ r. r.id) rows ≡ names → AreApart names → AreDistinct (entry_ids (rows_of b rows))
-distinct_chosen b rows names h apart =
+pub distinct_chosen : (b : Bool) (rows : List IndexEntry) → AreApart (map (λ r. r.id) rows)
+    → AreDistinct (entry_ids (rows_of b rows))
+distinct_chosen b rows apart =
     chosen-distinct b (rows_of b rows) (filter_passes (is_chosen b) rows)
     (AllPairs-filter (λ r s. same_name r.id s.id ≡ false) (is_chosen b) rows
     (λ i j d before within. let at = get_or-at (λ (r : IndexEntry). r.id) rows in
     let long = length-map rows (λ (r : IndexEntry). r.id) in
-    grind (arith, h, long, at i d d.id, at j d d.id, apart i j d.id)))
+    grind (arith, long, at i d d.id, at j d d.id, apart i j d.id)))
 
 module _ (order : Endianness) (contents : Contents) (strings : List (List ℕ))
     (table : IsTable strings) where
@@ -103,10 +98,5 @@ pub units-are : (made : InProgress) (ms : Members) → Represents made ms → ms
 units-are made ms has = rows-are made.file.order made.file.contents made.strings has.table
     made.rows ms has.rows
 
-pub rows-keys : {X : Type 0} (of : IndexEntry → X) (rows : List IndexEntry)
-    → keys (map {B = DwarfObject × X} (λ row. (row.id, of row)) rows) ≡ map (λ row. row.id) rows
-rows-keys of [] = refl
-rows-keys of (r ∷ rs) = ap (λ l. r.id ∷ l) (rows-keys of rs)
-
 pub keys-units : (made : InProgress) → keys (units_of made) ≡ names_of made
-keys-units made = rows-keys (meaning_at made.file.order made.file.contents made.strings) made.rows
+keys-units made = rw map-map

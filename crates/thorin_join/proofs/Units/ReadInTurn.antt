@@ -81,15 +81,11 @@ module _ (source : Source) (T : UnitSection → Header → Type 0) where
   section-are used so (Some place) at us h =
       each-named source used.kind (λ reads us. ((k : ℕ) (unit : Header)
       → slice_get reads k ≡ Some (Ok unit) → T place unit) → Each (WasRead source T) us) (λ _. tt)
-      (λ unit name reads us named others so. (
-        record {
-          place = place;
-          from = kind-place used.kind place at;
-          so = so 0 unit refl;
-          named = named;
-        },
-        others (λ k. so (suc k)),
-      )) _ us h (so place at)
+      (λ unit name reads us named others so.
+      let from = kind-place used.kind place at in
+      let first = so 0 unit refl in
+      (record { place = place; from = from; so = first; named = named }, others (λ k. so (suc k))))
+      _ us h (so place at)
 
   pub sections-are : (sections : List Used) (us : Reads) → Each AllSo sections
       → named_sections source sections ≡ Ok us → Each (WasRead source T) us
@@ -116,8 +112,7 @@ module _ (adding : Adding) where
   steps-append : (before mid after : New) (us vs : Reads)
       → Steps before us mid → Steps mid vs after → Steps before (us ++ vs) after
   steps-append before mid after [] vs h k = rw h k
-  steps-append before mid after (u ∷ us) vs h k =
-      (h.0, h.1, steps-append h.0 mid after us vs h.2 k)
+  steps-append before mid after (u ∷ us) vs h k = (h.0, h.1, steps-append h.0 mid after us vs h.2 k)
 
   -- the units of a meaning are read and added
   pub record AreRead (before after : New) (meaning : Result Reads ErrorValue) : Type 0 where
@@ -164,8 +159,7 @@ module _ (adding : Adding) where
   pub units-read : (new : New) → new_units adding ≡ Ok new
       → AreRead (record { units = []; differing = [] }) new (source_units adding.source)
   unfolding new_units
-  units-read new h =
-      grind (arith, sections-read (none_met, record { units = []; differing = [] }))
+  units-read new h = grind (arith, sections-read (none_met, record { units = []; differing = [] }))
 
 -- a unit is added for one that was read, with its row
 pub record IsAdded (adding : Adding) (new : DwarfObject × NewUnit) (read : DwarfObject
@@ -201,12 +195,9 @@ record AreJoined (adding : Adding) (before after : New) (all : Reads) : Type 0 w
 steps-joined : (adding : Adding) (before after : New) (us : Reads)
     → Steps adding before us after → AreJoined adding before after us
 unfolding with_unit with_first
-steps-joined adding before after [] same = record {
-  added = [];
-  units = ap (λ (n : New). n.units) (sym same) ∙ sym (append-nil before.units);
-  are = tt;
-  defined = refl;
-}
+steps-joined adding before after [] same =
+    let units = ap (λ (n : New). n.units) (sym same) ∙ sym (append-nil before.units) in
+    record { added = []; units = units; are = tt; defined = refl }
 steps-joined adding before after (u ∷ us) h =
     let named = same_name u.0 in
     let there = is_some-lookup named before.units in

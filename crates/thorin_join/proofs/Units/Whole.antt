@@ -32,8 +32,6 @@ pub record ReadsAlone (order : Endianness) (place : UnitSection) (unit : Header)
   pub rest : Input
   pub read : unit_at place (section order unit.whole.bytes) ≡ Ok (alone, rest)
   pub whole : alone.whole.bytes ≡ unit.whole.bytes
-  pub type : alone.unit_type ≡ unit.unit_type
-  pub encoding : alone.encoding ≡ unit.encoding
   pub behind : ℕ
   pub shifted : IsShifted behind alone unit
 
@@ -81,17 +79,14 @@ module _ (order : Endianness) (place : UnitSection) where
       let s = bind-was (unit_at place (section order own)) _ unit.encoding
       (units_alone unit_taken order place unit bytes k h) in
       let moved = unit-moves order place own more at.0 s.0.0 s.0.1 s.1 in
-      let same : moved.unit ≡ unit = ap (λ (x : Header × Input). x.0) (same-ok _ _
-      (sym moved.read ∙ ap (λ l. unit_at place (plain order at.0 l)) whole_is ∙ at.3)) in
+      let same : moved.unit ≡ unit = cc (moved.read, whole_is, at.3) in
       let known : ReadsAlone order place unit = record {
         alone = s.0.0;
         rest = s.0.1;
         read = s.1;
         whole = sym (ap (λ (i : Input). i.bytes) (rw same at moved.whole));
-        type = rw same at moved.type;
-        encoding = same-ok _ _ s.2;
         behind = at.0;
-        shifted = grind (arith, same, moved.type, moved.encoding, moved.offset, moved.entries);
+        shifted = rw same at moved.shifted;
       } in
       (known, λ is. unit-five i at.2 unit (ap (λ p. unit_at p i) (sym is) ∙ at.3))
 
@@ -99,7 +94,8 @@ module _ (order : Endianness) (place : UnitSection) where
 pub goes-alone : (order : Endianness) (place : UnitSection) (name : DwarfObject) (unit : Header)
     → IsKnown order place unit → type_signature unit.unit_type ≡ name_signature name
     → ReadsAlone order (place_for name (kind_of place)) unit
-goes-alone order place name unit known sort = grind (arith, unit-anywhere place places.Info)
+goes-alone order place name unit known sort =
+    grind (arith, known.0.shifted, unit-anywhere place places.Info)
 
 -- all units of an input do so
 pub units-go : (source : Source) (all : Reads) → source_units source ≡ Ok all
@@ -111,6 +107,6 @@ units-go source all h =
     let sort = identity-sort id.0 r.1.unit r.0 id.1 in
     let a = goes-alone order w.place r.0 r.1.unit w.so sort in
     let t = unit_taken _ (section order r.1.unit.whole.bytes) a.rest a.alone a.read in
-    grind (arith, w.from, a.read, a.whole, a.type, t.0.some, t.0.enough, sort)) all
+    grind (arith, w.from, a.read, a.whole, a.shifted.type, t.0.some, t.0.enough, sort)) all
     (sections-are source (IsKnown order) source.object.sections all
     (each-all _ (λ used place at. known-in order place used.bytes) source.object.sections) h)

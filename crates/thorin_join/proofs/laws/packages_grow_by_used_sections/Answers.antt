@@ -1,5 +1,6 @@
-use Rattle.thorin_join.proofs.Sizes.{bytes-grow, carried-used, files-within, input-most}
-use Rattle.thorin_join.proofs.Sizes.{inputs-most}
+use Rattle.thorin_join.proofs.Sizes.{bytes-grow, carried-used, input-most, inputs-most}
+use Rattle.thorin_join.proofs.Sizes.{lengths-within}
+use Rattle.thorin_join.proofs.Terms.{arith}
 use Rattle.thorin_join.proofs.laws.packages_grow_by_used_sections.Goals as goal
 
 pub returns : goal.returns
@@ -7,5 +8,6 @@ returns c = record {
   input = input-most bytes-grow;
   inputs = inputs-most bytes-grow;
   carried = carried-used;
-  files = files-within;
+  files = λ inputs begun now apart h.
+      omega (arith, inputs-most bytes-grow inputs begun now h, lengths-within inputs apart);
 }

@@ -1,5 +1,0 @@
-use Rattle.thorin_again.proofs.Lists.{inputs-alike}
-use Rattle.thorin_again.proofs.inputs.packages_have_the_encoding_of_their_inputs.Goals as goal
-
-pub returns : goal.returns
-returns c = inputs-alike

@@ -1,8 +1,0 @@
-use Rattle.thorin_again.proofs.Kept.OneEncoding.{begun-now}
-use Rattle.thorin_again.proofs.Lists.{input-order}
-use Rattle.thorin_again.proofs.Opened.Sections.{opened-elf}
-use Rattle.thorin_again.proofs.inputs.the_first_byte_order_stays.Goals as goal
-
-pub returns : goal.returns
-returns c bytes file old new order is h = input-order bytes file old.begun new.begun order
-    (opened-elf bytes file is) (begun-now bytes old new h)

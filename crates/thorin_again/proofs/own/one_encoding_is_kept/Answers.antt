@@ -1,5 +1,0 @@
-use Rattle.thorin_again.proofs.Kept.OneEncoding.{taken-holds}
-use Rattle.thorin_again.proofs.own.one_encoding_is_kept.Goals as goal
-
-pub returns : goal.returns
-returns c = taken-holds

@@ -1,6 +1,0 @@
-use Rattle.thorin_again.proofs.Opened.Indexes.{up-to-parts}
-use Rattle.thorin_again.proofs.Opened.Sections.{own-parts}
-use Rattle.thorin_again.proofs.own.own_packages_are_taken_up_to_their_parts.Goals as goal
-
-pub returns : goal.returns
-returns c = record { tests = up-to-parts; parts = own-parts }

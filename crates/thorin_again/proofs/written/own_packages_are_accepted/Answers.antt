@@ -1,5 +1,0 @@
-use Rattle.thorin_again.proofs.Accepted.Written.{own-all}
-use Rattle.thorin_again.proofs.written.own_packages_are_accepted.Goals as goal
-
-pub returns : goal.returns
-returns c = own-all

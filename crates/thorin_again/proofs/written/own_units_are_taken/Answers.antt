@@ -1,9 +1,0 @@
-use Rattle.thorin_again.proofs.Terms.{inr, IsForeseen, refl}
-use Rattle.thorin_again.proofs.Opened.Indexes.{own-plain, read-of}
-use Rattle.thorin_again.proofs.Accepted.OwnUnits.{taken-all}
-use Rattle.thorin_again.proofs.written.own_units_are_taken.Goals as goal
-
-pub returns : goal.returns
-returns c state encoding file own made begun plain indexes read before =
-    taken-all ⊥ IsForeseen (inr (λ id. inr (id, refl))) (read-of own indexes read)
-    (own-plain own begun plain) before (λ never. absurd never)

@@ -1,5 +1,0 @@
-use Rattle.thorin_again.proofs.Kept.OneEncoding.{taken-plain}
-use Rattle.thorin_again.proofs.written.plain_packages_are_kept.Goals as goal
-
-pub returns : goal.returns
-returns c = taken-plain
