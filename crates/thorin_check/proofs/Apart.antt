@@ -16,10 +16,7 @@ use Rattle.thorin_check.specs.declared.overlaps.Placed.{Placed}
 
 -- two ranges that are the same, or both absent
 pub one_range : (a b : Option Contribution) → same_range a b ≡ true → a ≡ b
-one_range None None e = refl
-one_range None (Some b) e = absurd cc
-one_range (Some a) None e = absurd cc
-one_range (Some a) (Some b) e = grind (arith, nat_tests)
+one_range a b e = grind (arith, nat_tests)
 
 before_or : (j k : ℕ) → j < k + 1 → (j < k) ⊎ (j ≡ k)
 before_or j k lt = grind arith
@@ -84,8 +81,7 @@ gone_more ranges i e lt farthest further before g here more end = record {
 pub is_behind : (twin : Bool) (farthest offset : ℕ)
     → (twin || (nat_le farthest offset && nat_lt farthest (2 ^ 64 - 1))) ≡ true
     → (twin ≡ true) ⊎ ((farthest ≤ offset) × (farthest < 2 ^ 64 - 1))
-is_behind true farthest offset e = inl refl
-is_behind false farthest offset e = inr (grind (arith, nat_tests))
+is_behind twin farthest offset e = grind (arith, nat_tests)
 
 pub gone_on : (ranges : List Placed) (i : ℕ) (e : Placed) → i < length ranges
     → (farthest further : ℕ) (before : Option Placed) (any twin behind : Bool)
@@ -113,11 +109,7 @@ gone_on ranges i e lt farthest further before true twin behind g last goes more 
 
 begun : (range : Option Contribution) (offset size : ℕ) → contribution offset size ≡ range
     → (c : Contribution) → range ≡ Some c → 0 < c.size
-begun range offset size e c is = by-bool _ (nat_eq size 0)
-    (λ none. let absent = rw none at e in absurd (let some = absent ∙ is in cc))
-    (λ some. let there = rw some at e in
-    let same = same_Some (record { offset = record { 0 = offset }; size = size }) c (there ∙ is) in
-    rw (← same) (grind (arith, nat_tests)))
+begun range offset size e c is = grind (arith, nat_tests)
 
 range_has : (row : Ranges) (kind : SectionKind) (place : Option ℕ)
     → column_place row.version row.columns kind ≡ place → (c : Contribution)
@@ -144,28 +136,16 @@ AreTwoApart a b = ((a.offset.0 ≡ b.offset.0) × (a.size ≡ b.size))
 
 not_overlap : (a b : Contribution) → 0 < a.size → 0 < b.size → AreTwoApart a b
     → overlap (Some a) (Some b) ≡ false
-not_overlap a b some more (inl same) =
-    let offset = same.0 in let size = same.1 in grind (arith, nat_tests)
-not_overlap a b some more (inr (inl le)) = grind (arith, nat_tests)
-not_overlap a b some more (inr (inr le)) = grind (arith, nat_tests)
+not_overlap a b some more apart = grind (arith, nat_tests)
 
-module _ (p q : Placed) (a b : Contribution) (p_at : p.offset ≡ a.offset.0) (p_of : p.size ≡ a.size)
-    (q_at : q.offset ≡ b.offset.0) (q_of : q.size ≡ b.size) where
-  two_apart : IsApart p q → AreTwoApart a b
-  two_apart (inl same) = inl (sym p_at ∙ same.0 ∙ q_at, sym p_of ∙ same.1 ∙ q_of)
-  two_apart (inr le) = inr (inl (rw (← p_at, ← p_of, ← q_at) le))
+two_apart : (p q : Placed) (a b : Contribution) → p.offset ≡ a.offset.0 → p.size ≡ a.size
+    → q.offset ≡ b.offset.0 → q.size ≡ b.size → IsApart p q ⊎ IsApart q p → AreTwoApart a b
+two_apart p q a b p_at p_of q_at q_of apart = grind (arith)
 
-two_swapped : (a b : Contribution) → AreTwoApart a b → AreTwoApart b a
-two_swapped a b (inl same) = inl (sym same.0, sym same.1)
-two_swapped a b (inr (inl le)) = inr (inr le)
-two_swapped a b (inr (inr le)) = inr (inl le)
-
-module _ (p q : Placed) (a : Contribution) (s t : Option Contribution) (some : 0 < a.size)
-    (p_at : p.offset ≡ a.offset.0) (p_of : p.size ≡ a.size) (q_at : q.offset ≡ a.offset.0)
-    (q_of : q.size ≡ a.size) (p_by : p.tables ≡ s) (q_by : q.tables ≡ t) where
-  read_alike : IsApart p q → s ≡ t
-  read_alike (inl same) = sym p_by ∙ same.2 ∙ q_by
-  read_alike (inr le) = absurd (omega arith)
+read_alike : (p q : Placed) (a : Contribution) (s t : Option Contribution) → 0 < a.size
+    → p.offset ≡ a.offset.0 → p.size ≡ a.size → q.offset ≡ a.offset.0 → q.size ≡ a.size
+    → p.tables ≡ s → q.tables ≡ t → IsApart p q ⊎ IsApart q p → s ≡ t
+read_alike p q a s t some p_at p_of q_at q_of p_by q_by apart = grind (arith)
 
 module _ (pack : Package) (slots : List UnitEntry) (kind : SectionKind) (ranges : List Placed)
     (has : HasRanges pack slots kind ranges) (apart : AllPairs IsApart ranges) where
@@ -188,20 +168,13 @@ module _ (pack : Package) (slots : List UnitEntry) (kind : SectionKind) (ranges 
 
   both_apart : (a b : Contribution) (s t : Option Contribution) → HasRange ranges a s
       → HasRange ranges b t → AreTwoApart a b
-  both_apart a b s t one other = elim (placed_apart one.0 other.0 one.1 other.1) [
-    | inl apart ↦ two_apart one.0 other.0 a b one.2 one.3 other.2 other.3 apart
-    | inr apart ↦ two_swapped b a
-        (two_apart other.0 one.0 b a other.2 other.3 one.2 one.3 apart)
-  ]
+  both_apart a b s t one other = two_apart one.0 other.0 a b one.2 one.3 other.2 other.3
+      (placed_apart one.0 other.0 one.1 other.1)
 
   both_alike : (a : Contribution) (s t : Option Contribution) → 0 < a.size → HasRange ranges a s
       → HasRange ranges a t → s ≡ t
-  both_alike a s t some one other = elim (placed_apart one.0 other.0 one.1 other.1) [
-    | inl apart ↦ read_alike one.0 other.0 a s t some one.2 one.3 other.2 other.3 one.4 other.4
-        apart
-    | inr apart ↦ sym (read_alike other.0 one.0 a t s some other.2 other.3 one.2 one.3 other.4
-        one.4 apart)
-  ]
+  both_alike a s t some one other = read_alike one.0 other.0 a s t some one.2 one.3 other.2
+      other.3 one.4 other.4 (placed_apart one.0 other.0 one.1 other.1)
 
   slots_by : (a b : UnitEntry) → Contains slots a → Contains slots b → (r s : Option Contribution)
       → slot_range pack a kind ≡ r → slot_range pack b kind ≡ s → overlap r s ≡ false

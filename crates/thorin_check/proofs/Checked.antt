@@ -38,18 +38,11 @@ module _ (executable : List ℕ) (named : Named)
       → of_unit named.0 text ∷ [] ≡ missing_faults executable named looked
   missing_none e text is = rw (e, is) refl
 
-long_is : (path : List ℕ) → longest_path < length path → long_size path ≡ length path
-long_is path long = grind (arith, nat_tests)
-
 -- the end behind one more, that takes some room
 end_behind : (executable : List ℕ) (room less : ℕ) (x : Named) (first : List Named)
     (left : Listed) (faults : List FaultValue) → room ≤ less + long_size x.1
     → TellsEnd executable less first left faults → TellsEnd executable room (x ∷ first) left faults
-end_behind executable room less x first ([], None) faults fits h = h
-end_behind executable room less x first ([], Some error) faults fits h = h
-end_behind executable room less x first (named ∷ left, end) faults fits h =
-    let over : less < long_bytes (first ++ (named ∷ [])) = h.1 in
-    (h.0, omega (arith, over, fits), h.2)
+end_behind executable room less x first left faults fits h = grind (arith)
 
 module _ (pack : Package) (executable : List ℕ) where
   -- no unit is left, but the end
@@ -85,7 +78,7 @@ module _ (pack : Package) (executable : List ℕ) where
       → longest_path < length first.1 → room < length first.1 → IsBroken executable faults
       → TellsListed pack executable room (first ∷ after.0, after.1) faults
   long_first room first after faults long over broken =
-      let size = long_is first.1 long in
+      let size : long_size first.1 ≡ length first.1 = grind (arith, nat_tests) in
       let all : room < long_bytes (first ∷ []) = omega (arith, size, over) in
       record {
         first = [];

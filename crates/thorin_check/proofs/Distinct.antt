@@ -22,13 +22,8 @@ use Rattle.thorin_check.proofs.Told.{told_as, tells_as, in_turn, for_each_more, 
 
 among_more : (pack : Package) (objects more : List DwarfObject) (range : StringRange)
     → IsRangeOfOne pack objects range → IsRangeOfOne pack (objects ++ more) range
-among_more pack objects more range one = record {
-  object = one.object;
-  is_one = Contains-append_left objects more one.object one.is_one;
-  unit = one.unit;
-  is_found = one.is_found;
-  is_range = one.is_range;
-}
+among_more pack objects more range one =
+    grind (arith, Contains-append_left objects more one.object one.is_one)
 
 -- a unit has no string offsets behind some, if there are some
 abbrev pub IsUpTo : Package → Option StringRange → DwarfObject → Type 0
@@ -50,9 +45,6 @@ module _ (pack : Package) (range : StringRange) (object : DwarfObject)
       → IsUpTo pack before other → IsUpTo pack (Some range) other
   up_to_next None behind other up = absurd up
   up_to_next (Some last) behind other up = λ has is. let le = up has is in omega arith
-
-  up_to_this : IsUpTo pack (Some range) object
-  up_to_this has is = rw (one_range pack object has range is this) (omega arith)
 
   shares_none : (before : Option StringRange) → IsBehind before range → (other : DwarfObject)
       → IsUpTo pack before other → ShareNone pack other object
@@ -91,15 +83,8 @@ module _ (pack : Package) (listed : Listed) where
     -- those of the next one have the range before
     pub first_again : before ≡ Some (get_or listed i e).0 → (faults : List FaultValue)
         → TellsFirst i before faults → TellsFirst (i + 1) before faults
-    first_again same faults t = record {
-      objects = t.objects;
-      once = t.once;
-      up_to = t.up_to;
-      last = t.last;
-      told = t.told;
-      others = All-more (IsOneOf t.objects) listed i e lt t.others
-          (t.last (get_or listed i e).0 same);
-    }
+    first_again same faults t = grind (arith, All-more (IsOneOf t.objects) listed i e lt t.others
+        (t.last (get_or listed i e).0 same))
 
     -- those of the next one were told of
     pub first_more : (are : All (IsOfUnit pack) listed) → IsBehind before (get_or listed i e).0
@@ -125,7 +110,7 @@ module _ (pack : Package) (listed : Listed) where
           up_to = All-push (IsUpTo pack (Some range)) t.objects object
               (All-weaker (IsUpTo pack before) (IsUpTo pack (Some range))
               (up_to_next pack range object is before behind) t.objects t.up_to)
-              (up_to_this pack range object is);
+              (λ has there. rw (one_range pack object has range there is) (omega arith));
           last = λ other e. rw (← same_Some range other e) here;
           told = for_each_more (λ object. TellsStringsOf object (found pack object)) t.objects
               object faults more t.told told;
@@ -162,13 +147,8 @@ for_each_weaker : {X : Type 0} (P Q : X → List FaultValue → Type 0)
     → ((x : X) (faults : List FaultValue) → P x faults → Q x faults) → (xs : List X)
     → (faults : List FaultValue) → ForEach P xs faults → ForEach Q xs faults
 for_each_weaker P Q goes [] faults h = h
-for_each_weaker P Q goes (x ∷ xs) faults h = record {
-  first = h.first;
-  rest = h.rest;
-  is_first = goes x h.first h.is_first;
-  is_rest = for_each_weaker P Q goes xs h.rest h.is_rest;
-  all = h.all;
-}
+for_each_weaker P Q goes (x ∷ xs) faults h =
+    grind (arith, goes x h.first h.is_first, for_each_weaker P Q goes xs h.rest h.is_rest)
 
 -- what is told of the units of slots; where that is nothing, none of their ranges clash
 abbrev pub TellsUnitsOnly : Package → Listed → List UnitEntry → List FaultValue → Type 0
@@ -203,15 +183,11 @@ module _ (pack : Package) (entries : List UnitEntry) (listed : Listed) (any : Bo
       → (any ≡ false → AreApart pack entries contribution_kinds)
       → (any && nat_eq b.count a.count) ≡ false → Told (ForEach (TellsSeen pack listed) entries) a b
       → Told (TellsUnitsOnly pack listed entries) a b
-  units_apart {a} {b} apart not_all t = record {
-    faults = t.faults;
-    are = (t.are, λ none. apart (by_count any a.count b.count not_all (rw none at t.counted)));
-    handed = t.handed;
-    added = t.added;
-    split = t.split;
-    counted = t.counted;
-    formed = t.formed;
-  }
+  units_apart {a} {b} apart not_all t =
+      let none = λ (none : t.faults ≡ []).
+      apart (by_count any a.count b.count not_all (rw none at t.counted)) in
+      let are : TellsUnitsOnly pack listed entries t.faults = (t.are, none) in
+      grind (arith)
 
 -- ---- units that are gone through
 
@@ -223,8 +199,7 @@ stays_seen pack seen is = record { seen = is; kept = λ range there. there }
 pub text_made : {E : Type 0} {P : Type 0} (object : DwarfObject)
     (text : Result (Option (String Global)) E) (a b : Progress) → OnOk text P
     → TellsText object text a b (Ok tt) → P
-text_made object (Ok text) a b is h = is
-text_made object (Err cause) a b is h = absurd (let e = h.0 in cc)
+text_made object text a b is h = grind (arith)
 
 module _ (pack : Package) where
   pub text_seen : {E : Type 0} (listed : Listed) (entry : UnitEntry)
@@ -242,9 +217,7 @@ module _ (pack : Package) where
       (kept : (range : StringRange) → IsGathered pack old range → IsGathered pack new range) where
     kept_in : (looked : Result (Option FoundUnit) PackageError) → IsGatheredIn pack old looked
         → IsGatheredIn pack new looked
-    kept_in (Err cause) g = tt
-    kept_in (Ok None) g = tt
-    kept_in (Ok (Some unit)) g = λ range has. kept range (g range has)
+    kept_in looked g = grind (arith, kept)
 
     -- one more unit was told of, and more may be gathered
     pub seen_next : (entries : List UnitEntry) (i : ℕ) (d : UnitEntry) {a b c : Progress}

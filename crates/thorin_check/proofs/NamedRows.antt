@@ -8,9 +8,8 @@ use Rattle.thorin_check.proofs.Terms.{map, map-append, nat_tests, place_by, plac
 use Rattle.thorin_check.proofs.Terms.{range_with_len, refl, string_bytes, sym, true, ℕ, [], ◌++◌}
 use Rattle.thorin_check.proofs.Terms.{◌+◌, ◌-◌, ◌<◌, ◌∙◌, ◌∷◌, ◌≡◌, ◌≤◌, ◌⊎◌}
 use Rattle.std.specs.Ordering.{nat_cmp}
-use Rattle.std.proofs.lemmas.List.Elements.{All-append, All-from_get_or, All-nil}
-use Rattle.std.proofs.lemmas.List.Elements.{Contains-append_left, Contains-append_right}
-use Rattle.std.proofs.lemmas.List.Elements.{Contains-get_or}
+use Rattle.std.proofs.lemmas.List.Elements.{All-append, Contains-append_left, Contains-append_right}
+use Rattle.std.proofs.lemmas.List.Elements.{All-from_get_or, All-nil, Contains-get_or}
 use Rattle.std.proofs.lemmas.List.FromFn.{get_or-range_with_len, length-range_with_len}
 use Rattle.std.proofs.lemmas.List.FromFn.{map-range_with_len_more}
 use Rattle.std.proofs.lemmas.List.Sorted.{IsNonDecreasingBy-from_sort}
@@ -22,9 +21,6 @@ use Rattle.thorin_check.proofs.Told.{what_told, none_told, then_or, told_then, t
 
 -- ---- rows that are told one after the other
 
-nothing_from : (kind : List ℕ) (first : ℕ) → [] ≡ row_faults kind first first
-nothing_from kind first = let none : first - first ≡ 0 = omega arith in rw none refl
-
 rows_more : (kind : List ℕ) (first row : ℕ) → first ≤ row
     → row_faults kind first (row + 1) ≡ row_faults kind first row ++ (row_fault kind row ∷ [])
 rows_more kind first row le =
@@ -33,7 +29,8 @@ rows_more kind first row le =
 
 pub rows_none : (kind : List ℕ) (first : ℕ) (a : Progress)
     → Told (Is (row_faults kind first first)) a a
-rows_none kind first a = none_told (Is (row_faults kind first first)) (nothing_from kind first) a
+rows_none kind first a = none_told (Is (row_faults kind first first))
+    (let none : first - first ≡ 0 = omega arith in rw none refl) a
 
 -- one more row, of which a text was made
 pub row_or : {E : Type 0} (kind : List ℕ) (first row : ℕ) {a b : Progress} (c : Progress)
@@ -54,12 +51,7 @@ pub of_one_kind : (P : Bool → DwarfObject → DwarfObject → Type 0)
     → ((x y : DwoId) → P false (Compilation x) (Compilation y))
     → ((x y : DebugTypeSignature) → P true (TypeUnit x) (TypeUnit y)) → (is_types : Bool)
     → (a b : DwarfObject) → is_of is_types a ≡ true → is_of is_types b ≡ true → P is_types a b
-of_one_kind P cu tu false (Compilation x) (Compilation y) is so = cu x y
-of_one_kind P cu tu false (Compilation x) (TypeUnit y) is so = absurd cc
-of_one_kind P cu tu false (TypeUnit x) b is so = absurd cc
-of_one_kind P cu tu true (TypeUnit x) (TypeUnit y) is so = tu x y
-of_one_kind P cu tu true (TypeUnit x) (Compilation y) is so = absurd cc
-of_one_kind P cu tu true (Compilation x) b is so = absurd cc
+of_one_kind P cu tu is_types a b is so = grind (arith, cu, tu)
 
 le_of : (m n : ℕ) (is_types : Bool) (a b : DwarfObject) → is_of is_types a ≡ true
     → is_of is_types b ≡ true → place_by a m ≤ place_by b n → m ≤ n
@@ -100,10 +92,7 @@ module _ (kind : List ℕ) (is_types : Bool) (end : ℕ) (slots : List UnitEntry
 
   past_on : (next later : ℕ) (slot : UnitEntry) → next ≤ later → IsPast next slot
       → IsPast later slot
-  past_on next later slot le h is = elim (h is) [
-    | inl lt ↦ inl (omega arith)
-    | inr past ↦ inr past
-  ]
+  past_on next later slot le h is = let past = h is in grind (arith)
 
   passed_by : (next : ℕ) (slot : UnitEntry) → is_next is_types end slot next ≡ false
       → IsPast next slot
@@ -143,27 +132,22 @@ module _ (kind : List ℕ) (is_types : Bool) (end : ℕ) (slots : List UnitEntry
               let same = named.is_row in omega arith)
         ]
 
-    unnamed_row : (row : ℕ) → next ≤ row → row < last → IsUnnamed slots is_types end row
-    unnamed_row row le lt =
-        let some = c.some in (omega arith, omega arith, unnamed_between row le lt)
-
     in_range : (row : ℕ) → next ≤ row → row < last
         → Contains (range_with_len next (last - next)) row
     in_range row le lt =
-        let here : row - next < last - next = omega arith in
-        let size = length-range_with_len next (last - next) in (
+        let back : next + (row - next) ≡ row = omega arith in (
           row - next,
-          rw size here,
-          get_or-range_with_len next (last - next) (row - next) row here
-              ∙ (let back : next + (row - next) ≡ row = omega arith in back),
+          omega (arith, length-range_with_len next (last - next)),
+          get_or-range_with_len next (last - next) (row - next) row (omega arith) ∙ back,
         )
 
     all_unnamed : All (IsUnnamed slots is_types end) (range_with_len next (last - next))
     all_unnamed = All-from_get_or (IsUnnamed slots is_types end)
         (range_with_len next (last - next)) 0
         (λ k lt. let here : k < last - next = rw (length-range_with_len next (last - next)) at lt in
+        let some = c.some in
         rw (get_or-range_with_len next (last - next) k 0 here)
-        (unnamed_row (next + k) (omega arith) (omega arith)))
+        (omega arith, omega arith, unnamed_between (next + k) (omega arith) (omega arith)))
 
     pub reached : (told : List FaultValue) → Is (row_faults kind next last) told
         → TellsBefore last (faults ++ told)

@@ -9,7 +9,7 @@ use Rattle.thorin_check.proofs.Terms.{drop-take, false, find, length, nat_eq, na
 use Rattle.thorin_check.proofs.Terms.{own_of, range_in, refl, result_ok, row_in, same-ok, same_Some}
 use Rattle.thorin_check.proofs.Terms.{sym, true, ℕ, [], ◌++◌, ◌+◌, ◌-◌, ◌∙◌, ◌∷◌, ◌≡◌, ◌≤◌}
 use Rattle.dwp_base.proofs.EveryKind.{each, HoldsAll}
-use Rattle.dwp_index.specs.Finding.{LiesInside, own_bytes, own_place}
+use Rattle.dwp_index.specs.Finding.{LiesInside, own_bytes, own_place, unit_of}
 use Rattle.dwp_index.specs.Package.{FoundUnit, Package, all_inside, as_error, encoding_in}
 use Rattle.dwp_index.specs.Package.{first_outside, found, found_by, found_counted, index_for}
 use Rattle.dwp_index.specs.Package.{is_outside, kind_of, lies_inside, part_of, place_of, row_bytes}
@@ -59,31 +59,23 @@ module _ (contents : Sections) (row : Ranges) where
   IsInside kind = (range : Contribution) → range_in row kind ≡ Some range
       → range.offset.0 + range.size ≤ length (content contents kind)
 
-  pub no_column : (kind : SectionKind) → column_of row.version kind ≡ None
-      → range_in row kind ≡ None
+  absent_inside : (kind : SectionKind) → column_of 5 kind ≡ None → column_of 2 kind ≡ None
+      → IsInside kind
   unfolding range_in column_place
-  no_column kind e = rw e refl
-
-  absent_inside : (kind : SectionKind) → column_of row.version kind ≡ None → IsInside kind
-  absent_inside kind e range is = let none = no_column kind e in absurd cc
-
-  pub columnless : (version : ℕ) (kind : SectionKind) → column_of 5 kind ≡ None
-      → column_of 2 kind ≡ None
-      → column_of version kind ≡ None
-  columnless version kind standard gnu = by-bool _ (nat_eq version 5)
-      (λ e. rw e standard) (λ e. rw e gnu)
+  absent_inside kind standard gnu range is =
+      let column : column_of row.version kind ≡ None = by-bool _ (nat_eq row.version 5)
+      (λ e. rw e standard) (λ e. rw e gnu) in
+      let none : range_in row kind ≡ None = rw column refl in absurd cc
 
   pub all_inside_of : first_outside contents row ≡ None → LiesInside contents row
   unfolding first_outside
   all_inside_of e =
-      let none = λ (kind : SectionKind) (s : column_of 5 kind ≡ None) (g : column_of 2 kind ≡ None).
-      absent_inside kind (columnless row.version kind s g) in
       each IsInside (find_misses
       (λ kind. is_outside (content contents kind) (range_in row kind)) IsInside
       (λ kind. inside_of (content contents kind) (range_in row kind)) contribution_kinds
       (kinds.Str ∷ kinds.CuIndex ∷ kinds.TuIndex ∷ [])
-      (none kinds.Str refl refl, (none kinds.CuIndex refl refl, (none kinds.TuIndex refl refl, tt)))
-      e)
+      (absent_inside kinds.Str refl refl, (absent_inside kinds.CuIndex refl refl,
+      (absent_inside kinds.TuIndex refl refl, tt))) e)
 
 -- ---- the unit that is found
 
@@ -98,46 +90,44 @@ pub record IsRowOf (pack : Package) (object : DwarfObject) (unit : FoundUnit) : 
   pub bytes : unit.bytes ≡ own_bytes pack.contents object unit.row
 
 module _ (pack : Package) (object : DwarfObject) (unit : FoundUnit) where
-  pub record IsReadAs (number : ℕ) (row : Ranges) : Type 0 where
-    pub number_is : unit.number ≡ number
-    pub row_is : unit.row ≡ row
-    pub inside : first_outside pack.contents row ≡ None
-    pub contents : unit.contents ≡ pack.contents
-    pub order : unit.order ≡ pack.order
-    pub bytes : unit.bytes ≡ own_bytes pack.contents object row
-
   read_ok : (read : Result Ranges ReadError) (row : Ranges) → as_error errors.Index read ≡ Ok row
       → read ≡ Ok row
   read_ok (Ok x) row e = ap Ok (same-ok x row e)
   read_ok (Err cause) row e = absurd cc
 
-  read_in : (number : ℕ) (row : Ranges) → unit_in pack object number row ≡ Ok unit
-      → IsReadAs number row
+  read_in : (index : Index) (number : ℕ) (row : Ranges) → index_for pack object ≡ Some index
+      → found_row index.signatures index.rows (identifier_of object) ≡ Some number
+      → row_in index number ≡ Ok row → unit_in pack object number row ≡ Ok unit
+      → IsRowOf pack object unit
   unfolding unit_in
-  read_in number row e =
+  read_in index number row there looked read e =
       let inside = bind-was (all_inside (first_outside pack.contents row)) _ _ e in
       let made = bind-was (as_error errors.Unit (encoding_in pack.order _ _)) _ _ inside.2 in
-      let same = same-ok _ _ made.2 in
-      let outside = outside_none _ inside.0 inside.1 in
+      let same : unit ≡ unit_of pack object number row made.0 = sym (same-ok _ _ made.2) in
       record {
-        number_is = sym (ap (λ (u : FoundUnit). u.number) same);
-        row_is = sym (ap (λ (u : FoundUnit). u.row) same);
-        inside = outside;
-        contents = sym (ap (λ (u : FoundUnit). u.contents) same);
-        order = sym (ap (λ (u : FoundUnit). u.order) same);
-        bytes = sym (ap (λ (u : FoundUnit). u.bytes) same);
+        index = index;
+        index_is = there;
+        looked = rw same looked;
+        row = rw same read;
+        inside = rw same (all_inside_of pack.contents row (outside_none _ inside.0 inside.1));
+        contents = rw same refl;
+        order = rw same refl;
+        bytes = rw same refl;
       }
 
-  at_row : (index : Index) (number count : ℕ) (x : Option FoundUnit × ℕ) → x.0 ≡ Some unit
-      → unit_at_row pack object index number count ≡ Ok x
-      → (row : Ranges) × (row_in index number ≡ Ok row) × IsReadAs number row
+  at_row : (index : Index) (number count : ℕ) (x : Option FoundUnit × ℕ)
+      → index_for pack object ≡ Some index
+      → found_row index.signatures index.rows (identifier_of object) ≡ Some number
+      → x.0 ≡ Some unit → unit_at_row pack object index number count ≡ Ok x
+      → IsRowOf pack object unit
   unfolding unit_at_row
-  at_row index number count x is e =
+  at_row index number count x there looked is e =
       let row = bind-was (as_error errors.Index (row_in index number)) _ _ e in
       let made = bind-was (unit_in pack object number row.0) _ _ row.2 in
       let same = same-ok _ _ made.2 in
       let this = same_Some made.0 unit (ap (λ (p : Option FoundUnit × ℕ). p.0) same ∙ is) in
-      (row.0, read_ok (row_in index number) row.0 row.1, read_in number row.0 (rw this at made.1))
+      read_in index number row.0 there looked (read_ok (row_in index number) row.0 row.1)
+      (rw this at made.1)
 
   by_number : (index : Index) (number : Option ℕ) (count : ℕ) (x : Option FoundUnit × ℕ)
       → found_row index.signatures index.rows (identifier_of object) ≡ number
@@ -145,18 +135,7 @@ module _ (pack : Package) (object : DwarfObject) (unit : FoundUnit) where
       → unit_found pack object index number count ≡ Ok x → IsRowOf pack object unit
   by_number index None count x looked there is e = absurd cc
   by_number index (Some number) count x looked there is e =
-      let row = at_row index number count x is e in
-      let read = row.2 in
-      record {
-        index = index;
-        index_is = there;
-        looked = rw read.number_is looked;
-        row = rw (read.number_is, read.row_is) row.1;
-        inside = rw read.row_is (all_inside_of pack.contents row.0 read.inside);
-        contents = read.contents;
-        order = read.order;
-        bytes = rw read.row_is read.bytes;
-      }
+      at_row index number count x there looked is e
 
   by_index : (index : Option Index) (x : Option FoundUnit × ℕ) → index_for pack object ≡ index
       → x.0 ≡ Some unit → found_by pack object index ≡ Ok x → IsRowOf pack object unit
@@ -242,20 +221,15 @@ known_again pack object unit shared read is all among same =
     let h = rw (← among.1.1) at (all among.0 read among.1.0) in
     h ∙ (rw same (own_is pack object unit is))
 
--- one more place is remembered
-pub known_more : {K : Type 0} (cmp : K → K → Ordering) (pack : Package)
-    (old new : List (K × PlaceRead)) (key : K) (read : PlaceRead)
-    → new ≡ insert_entry cmp old key read → All (IsReadIn pack) (values_of old)
-    → IsReadIn pack read → All (IsReadIn pack) (values_of new)
-known_more cmp pack old new key read e all is =
-    rw e (All-values-insert_entry cmp key read (IsReadIn pack) old all is)
-
--- what was read of a unit is what stands at its place
-pub read_at : (pack : Package) (object : DwarfObject) (unit : FoundUnit) (read : PlaceRead)
+-- one more place is remembered, by what was read of a unit there
+pub known_more : {K : Type 0} (cmp : K → K → Ordering) (pack : Package) (object : DwarfObject)
+    (unit : FoundUnit) (old new : List (K × PlaceRead)) (key : K) (read : PlaceRead)
     → found pack object ≡ Ok (Some unit) → read.place ≡ place_in object unit
-    → said_of read.own ≡ own_of object unit → IsReadIn pack read
-read_at pack object unit read is same said =
-    said ∙ (rw same (sym (own_is pack object unit is)))
+    → said_of read.own ≡ own_of object unit → new ≡ insert_entry cmp old key read
+    → All (IsReadIn pack) (values_of old) → All (IsReadIn pack) (values_of new)
+known_more cmp pack object unit old new key read is same said e all =
+    let here : IsReadIn pack read = said ∙ (rw same (sym (own_is pack object unit is))) in
+    rw e (All-values-insert_entry cmp key read (IsReadIn pack) old all here)
 
 -- ---- units of one row
 

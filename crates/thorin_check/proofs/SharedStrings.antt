@@ -76,14 +76,10 @@ all_read ends order strings h encoding range end le below i =
 
 -- ---- ranges
 
-ranges_same : (a b : StringRange) → IsTrue (ranges.eq-value.it a b) → a ≡ b
-ranges_same a b equal = grind (arith, nat_tests)
-
 -- string offsets are those before, as `==` tells
 pub same_range : (before : Option StringRange) (range : StringRange)
     → IsTrue (option_eq ranges.eq-value.it before (Some range)) → before ≡ Some range
-same_range None range equal = absurd cc
-same_range (Some last) range equal = ap Some (ranges_same last range equal)
+same_range before range equal = grind (arith, nat_tests)
 
 -- the size of addresses is nothing to strings
 read_alike : (order : Endianness) (encoding : Encoding) (strings bytes : List ℕ) (i : ℕ)
@@ -155,30 +151,16 @@ nothing_gathered pack strings ends last none = record {
   are = rw none (All-nil (IsOfUnit pack));
 }
 
-kept_behind : (pack : Package) (listed more : Listed) (range : StringRange)
-    → IsGathered pack listed range → IsGathered pack (listed ++ more) range
-kept_behind pack listed more range (inl all) = inl all
-kept_behind pack listed more range (inr there) =
-    inr (there.0, Contains-append_left listed more (range, there.0) there.1)
-
 module _ (pack : Package) (old : UnreadStrings) (unit : FoundUnit) (object : DwarfObject)
     (g : Gathers pack old) (is : found pack object ≡ Ok (Some unit)) where
   -- it has no string offsets
   pub none_added : None ≡ range_of unit → Adds pack old old unit
-  none_added none = record {
-    gathers = g;
-    kept = λ range there. there;
-    added = λ range e. absurd (let some = none ∙ e in cc);
-  }
+  none_added none = grind (arith)
 
   module _ (range : StringRange) (has : Some range ≡ range_of unit) where
     -- it has those of the unit before
     pub last_added : old.last ≡ Some range → Adds pack old old unit
-    last_added last = record {
-      gathers = g;
-      kept = λ other there. there;
-      added = λ other e. g.last other (last ∙ has ∙ e);
-    }
+    last_added last = grind (arith, g.last)
 
     this : (other : StringRange) → range_of unit ≡ Some other → range ≡ other
     this other e = same_Some range other (has ∙ e)
@@ -213,8 +195,11 @@ module _ (pack : Package) (old : UnreadStrings) (unit : FoundUnit) (object : Dwa
             are = rw unread (All-push (IsOfUnit pack) old.unread.items (range, object) g.are
                 (unit, is, sym has));
           };
-          kept = λ other there.
-              rw unread (kept_behind pack old.unread.items _ other there);
+          kept = λ other there. elim there [
+            | inl all ↦ inl all
+            | inr listed ↦ inr (listed.0, rw unread (Contains-append_left old.unread.items
+                ((range, object) ∷ []) (other, listed.0) listed.1))
+          ];
           added = λ other e. rw (← this other e) here;
         }
 

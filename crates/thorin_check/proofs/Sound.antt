@@ -65,33 +65,26 @@ module _ (pack : Package) (entry : UnitEntry) where
 
   in_its_row : (unit : FoundUnit) → TellsFound pack entry unit []
       → (unit.number ≡ entry.row) × TellsInRow pack entry.object unit (is_bare pack unit) []
-  in_its_row unit (inl h) = absurd (some_told _ _ h.1)
-  in_its_row unit (inr h) = h
+  in_its_row unit h = grind (arith)
 
   whole_row : (unit : FoundUnit) (bare : Bool) → TellsInRow pack entry.object unit bare []
       → (bare ≡ false) × TellsItself pack entry.object unit []
-  whole_row unit true h = absurd (some_told _ _ h)
-  whole_row unit false h = (refl, h)
+  whole_row unit bare h = grind (arith)
 
   by_own : (own : Option (Option DwarfObject)) → TellsOwn entry.object own []
       → own ≡ Some (Some entry.object)
-  by_own None h = absurd (some_told _ _ h.1)
-  by_own (Some None) h = absurd (some_told _ _ h)
-  by_own (Some (Some own)) (inl h) = rw h.0 refl
-  by_own (Some (Some own)) (inr h) = absurd (some_told _ _ h.1)
+  by_own own h = grind (arith)
 
   its_own : (unit : FoundUnit) → TellsItself pack entry.object unit []
       → own_of entry.object unit ≡ Some (Some entry.object)
-  its_own unit (inl h) = absurd (some_told _ _ h.2)
-  its_own unit (inr h) = by_own (own_of entry.object unit) h
+  its_own unit h = grind (arith, by_own (own_of entry.object unit))
 
 -- ---- strings
 
 module _ (unit : FoundUnit) where
   read_whole : (object : DwarfObject) (i : ℕ) (read : Result (Option (List ℕ)) ReadError)
       → TellsString object i read [] → result_err read ≡ None
-  read_whole object i (Ok string) h = refl
-  read_whole object i (Err cause) h = absurd (some_told _ _ h.1)
+  read_whole object i read h = grind (arith)
 
   past_all : (i : ℕ) → string_count unit ≤ i → result_err (string_of unit i) ≡ None
   unfolding string_count string_in entry_in
@@ -171,14 +164,7 @@ named_once pack all is_types a b here there is so row =
 
 end_none : (executable : List ℕ) (room : ℕ) (first : List Named) (left : Listed)
     → TellsEnd executable room first left [] → (left.0 ≡ []) × (left.1 ≡ None)
-end_none executable room first ([], None) h = (refl, refl)
-end_none executable room first ([], Some error) h = absurd (some_told _ _ h.1)
-end_none executable room first (named ∷ left, end) h = absurd (some_told _ _ h.2.1)
-
-not_missing : (executable : List ℕ) (named : Named)
-    (looked : Result (Option FoundUnit) PackageError)
-    → missing_faults executable named looked ≡ [] → looked ≢ Ok None
-not_missing executable named looked h e = let told = rw e at h in absurd cc
+end_none executable room first left h = grind (arith)
 
 none_missing : (pack : Package) (executable : List ℕ) (named : List Named)
     → flat_map (λ named. missing_faults executable named (found pack named.0)) named ≡ []
@@ -187,7 +173,7 @@ none_missing pack executable [] e = All-nil _
 none_missing pack executable (first ∷ named) e =
     let both = none_of_both (missing_faults executable first (found pack first.0)) _ (sym e) in
     All-cons (λ named. found pack named.0 ≢ Ok None) first named
-    (not_missing executable first (found pack first.0) both.0)
+    (λ (e : found pack first.0 ≡ Ok None). let told = rw e at both.0 in absurd cc)
     (none_missing pack executable named both.1)
 
 module _ (offer : Offer) (reading : Reading) (pack : Package) where
@@ -212,16 +198,8 @@ module _ (offer : Offer) (reading : Reading) (pack : Package) where
 
   has_units : (executable : List ℕ) → TellsExecutable offer reading pack executable []
       → HasUnitsOf offer reading pack executable
-  has_units executable t =
-      let units = of_named executable (room_of t.bytes)
-      (skeletons_by reading.nameless t.bytes) t.tells in
-      record {
-        bytes = t.bytes;
-        read = t.read;
-        whole = units.0;
-        names = units.1;
-        present = units.2;
-      }
+  has_units executable t = grind (arith, of_named executable (room_of t.bytes)
+      (skeletons_by reading.nameless t.bytes) t.tells)
 
   all_units : (executables : List (Bor (List ℕ)))
       → TellsExecutables offer reading pack executables []
@@ -235,27 +213,16 @@ module _ (offer : Offer) (reading : Reading) (pack : Package) where
 
 none_wrong : (kind : SectionKind) (is_so : Bool) (what : List ℕ)
     → Is (section_faults kind is_so what) [] → is_so ≡ false
-none_wrong kind true what h = absurd (some_told _ _ h)
-none_wrong kind false what h = refl
+none_wrong kind is_so what h = grind (arith)
 
 one_version : (versions : Option (ℕ × ℕ)) → Is (versions_faults versions) [] → versions ≡ None
-one_version None h = refl
-one_version (Some versions) h = absurd (some_told _ _ h)
+one_version versions h = grind (arith)
 
 map_none : {X Y : Type 0} (f : X → Y) (xs : List X) → [] ≡ map f xs → xs ≡ []
-map_none f [] e = refl
-map_none f (x ∷ xs) e = absurd cc
+map_none f xs e = grind (arith)
 
 -- the slots are the entries, in another order
 module _ (pack : Package) (entries : List UnitEntry) (by_row : AreByRow pack entries) where
-  of_slots : All (IsSoundUnit pack) entries → All (IsSoundUnit pack) (slots pack)
-  of_slots all = All-permutation (IsSoundUnit pack) entries (slots pack)
-      (IsPermutation-sym (slots pack) entries by_row.all) all
-
-  among_slots : (entry : UnitEntry) → Contains entries entry → Contains (slots pack) entry
-  among_slots entry = Contains-permutation entries (slots pack) entry
-      (IsPermutation-sym (slots pack) entries by_row.all)
-
   in_entries : (slot : UnitEntry) → Contains (slots pack) slot → Contains entries slot
   in_entries slot = Contains-permutation (slots pack) entries slot by_row.all
 
@@ -272,7 +239,8 @@ module _ (pack : Package) (entries : List UnitEntry) (by_row : AreByRow pack ent
         | inl told ↦ (let there = rw none at told in let l = there.1 in absurd (omega arith))
         | inr named ↦ record {
           slot = named.slot;
-          is_slot = among_slots named.slot named.is_slot;
+          is_slot = Contains-permutation entries (slots pack) named.slot
+              (IsPermutation-sym (slots pack) entries by_row.all) named.is_slot;
           is_kind = named.is_kind;
           is_row = named.is_row;
         }
@@ -291,7 +259,8 @@ no_fault_told offer executables pack entries by_row t =
     let behind = none_in_turn _ _ tables.1 in
     let indexes = none_in_turn _ _ behind.0 in
     let rows = none_in_turn _ _ behind.1 in
-    let sound = of_slots pack entries by_row
+    let sound = All-permutation (IsSoundUnit pack) entries (slots pack)
+    (IsPermutation-sym (slots pack) entries by_row.all)
     (All-weaker (λ entry. TellsSlot pack parts.0.0 entry []) (IsSoundUnit pack)
     (sound_unit pack parts.0.0 units.1) entries
     (none_for_each (TellsSlot pack parts.0.0) entries units.0.0)) in

@@ -1,12 +1,11 @@
 -- The names that proofs of this crate cite most, passed on from one place. Declares nothing.
-pub use Rattle.std.proofs.Common.{Bool, Bor, Err, Global, IfOk, IsTrue, List, None, Ok, OnOk}
-pub use Rattle.std.proofs.Common.{Option, Result, Some, String, ap, append-nil, append_assoc, arith}
-pub use Rattle.std.proofs.Common.{below_more, codes, decimal, drop, eqb, false, find, get_or}
-pub use Rattle.std.proofs.Common.{get_or-drop, inl, inr, length, length-drop, lit<, map, min}
-pub use Rattle.std.proofs.Common.{nat_eq, nat_le, nat_lt, not, option_map, refl, rules}
-pub use Rattle.std.proofs.Common.{string_bytes, subst, suc, sym, take, take_all, true, zero, ℕ, []}
-pub use Rattle.std.proofs.Common.{◌&&◌, ◌++◌, ◌+◌, ◌-◌, ◌<◌, ◌^◌, ◌||◌, ◌∙◌, ◌∷◌, ◌≡◌, ◌≢◌, ◌≤◌}
-pub use Rattle.std.proofs.Common.{◌⊎◌}
+pub use Rattle.std.proofs.Common.{Bool, IfOk, List, None, OnOk, Some, codes, false, rules, subst, ℕ}
+pub use Rattle.std.proofs.Common.{Bor, drop, find, lit<, refl, take, true, zero, ◌&&◌, ◌++◌, ◌||◌}
+pub use Rattle.std.proofs.Common.{Err, eqb, inl, inr, map, min, not, suc, sym, ◌+◌, ◌-◌, ◌<◌, ◌^◌}
+pub use Rattle.std.proofs.Common.{Global, IsTrue, Option, below_more, decimal, option_map, take_all}
+pub use Rattle.std.proofs.Common.{Ok, Result, String, arith, get_or, length, nat_eq, nat_le, nat_lt}
+pub use Rattle.std.proofs.Common.{ap, [], ◌∙◌, ◌∷◌, ◌≡◌, ◌≢◌, ◌≤◌, ◌⊎◌}
+pub use Rattle.std.proofs.Common.{append-nil, append_assoc, get_or-drop, length-drop, string_bytes}
 pub use Rattle.std.proofs.lemmas.Bool.Decides.{nat_tests}
 pub use Rattle.std.proofs.lemmas.List.{drop-take, get_or_default, map-append, take_more}
 pub use Rattle.std.proofs.lemmas.Option.{same_Some}

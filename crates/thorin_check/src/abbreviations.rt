@@ -29,16 +29,8 @@ use thorin_errors::Error;
 use thorin_find::{header_of, short_kind};
 use thorin_identity::RangeTables;
 
-/// What a unit's own bytes say of its identifier.
-#[derive(Drop)]
-pub(crate) enum OwnIdentifier {
-    /// The identifier.
-    Is(DwarfObject),
-    /// It has none.
-    Nameless,
-    /// Why it can't be read.
-    Unread(String),
-}
+/// The identifier that a unit's own bytes give, where it has one; or why it can't be read.
+type OwnIdentifier = Result<Option<DwarfObject>, String>;
 
 /// The places of a unit's own bytes and its abbreviations: what they say depends on nothing else.
 #[derive(Clone, Copy, PartialEq)]
@@ -84,7 +76,6 @@ pub(crate) struct PlaceRead {
 /// bytes: these are read once.
 #[derive(Drop)]
 pub(crate) struct Remembered<'a> {
-    alloc: Global,
     tables: TablesByTurns<'a>,
     shared: BTreeMap<[u64; 3], PlaceRead>,
 }
@@ -96,7 +87,6 @@ impl<'a> Remembered<'a> {
     {
         let order = pack.order();
         Remembered {
-            alloc,
             tables: TablesByTurns {
                 alloc,
                 order,
@@ -128,22 +118,21 @@ impl<'a> Remembered<'a> {
             let place = UnitPlace::of(unit, object);
             if let Some(read) = self.shared.get(&place.key()) {
                 if read.place == place {
-                    return own_fault(self.alloc, &read.own, object);
+                    return own_fault(self.tables.alloc, &read.own, object);
                 }
             }
-            let own = read(self.alloc, &mut self.tables, pack, object, unit)?;
-            let text = own_fault(self.alloc, &own, object)?;
+            let own = read(&mut self.tables, pack, object, unit)?;
+            let text = own_fault(self.tables.alloc, &own, object)?;
             self.shared.insert(place.key(), PlaceRead { place, own })?;
             return Ok(text);
         }
-        let own = read(self.alloc, &mut self.tables, pack, object, unit)?;
-        own_fault(self.alloc, &own, object)
+        let own = read(&mut self.tables, pack, object, unit)?;
+        own_fault(self.tables.alloc, &own, object)
     }
 }
 
 /// Reads what a unit's own bytes say of its identifier.
 fn read<'a>(
-    alloc: Global,
     tables: &mut TablesByTurns<'a>,
     pack: &PackageFile<'a>,
     object: DwarfObject,
@@ -155,14 +144,13 @@ fn read<'a>(
     ensures kept { tables.new ≡ tables.old }
 {
     match header_of(unit, object, pack.order()) {
-        Ok(header) => read_behind(alloc, tables, unit, &header),
-        Err(error) => Ok(OwnIdentifier::Unread(format!(in alloc; "{error}")?)),
+        Ok(header) => read_behind(tables, unit, &header),
+        Err(error) => Ok(Err(format!(in tables.alloc; "{error}")?)),
     }
 }
 
 /// The identifier that a unit with this header says itself, by its abbreviations.
 fn read_behind<'a>(
-    alloc: Global,
     tables: &mut TablesByTurns<'a>,
     unit: &PackagedUnit<'a>,
     header: &UnitHeader<SliceReader<'a>>,
@@ -179,9 +167,8 @@ fn read_behind<'a>(
         .saturating_add(size)
         .min(tables.first.bytes().len() as u64);
     match tables.identifier(start as usize, end as usize, header) {
-        Ok(Some(own)) => Ok(OwnIdentifier::Is(own)),
-        Ok(None) => Ok(OwnIdentifier::Nameless),
-        Err(error) => Ok(OwnIdentifier::Unread(format!(in alloc; "{error}")?)),
+        Ok(own) => Ok(Ok(own)),
+        Err(error) => Ok(Err(format!(in tables.alloc; "{error}")?)),
     }
 }
 
@@ -189,10 +176,7 @@ fn read_behind<'a>(
 fn numbers_of(range: Option<Contribution>) -> (u64, u64)
     ensures { result ≡ numbers_of range }
 {
-    match range {
-        Some(range) => (range.offset.0, range.size),
-        None => (0, 0),
-    }
+    range.map_or((0, 0), |range| (range.offset.0, range.size))
 }
 
 /// What is told of a unit whose own bytes say this of its identifier, if anything.
@@ -205,7 +189,7 @@ fn own_fault(
     ensures { IsTextOf (TellsOwn object (said_of own.now)) object result }
 {
     match own {
-        OwnIdentifier::Is(own) => {
+        Ok(Some(own)) => {
             if *own == object {
                 return Ok(None);
             }
@@ -213,8 +197,8 @@ fn own_fault(
             let id = own.index();
             some(format!(in alloc; "its own identifier is {kind} 0x{id:016x}"))
         }
-        OwnIdentifier::Nameless => some(format!(in alloc; "it has no identifier of its own")),
-        OwnIdentifier::Unread(cause) => {
+        Ok(None) => some(format!(in alloc; "it has no identifier of its own")),
+        Err(cause) => {
             let cause = cause.as_str();
             some(format!(in alloc; "its own identifier can't be read: {cause}"))
         }
@@ -261,9 +245,6 @@ impl<'a> TablesByTurns<'a> {
     /// What `RangeTables` says of a unit whose abbreviations stand in the section from the byte
     /// `start` up to the byte `end`. Where a unit's identifier stands behind them it goes on with
     /// the tables of this range, or for want of memory with those of the ranges used first.
-    ///
-    /// # Errors
-    /// Those of `dwo_identifier_of_unit`, of the range.
     pub(crate) fn identifier(
         &mut self,
         start: usize,

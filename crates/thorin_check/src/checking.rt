@@ -62,7 +62,6 @@ pub fn check_by<F: FileReader, O: Write>(
 /// A package that is checked.
 #[derive(Clone, Copy)]
 pub(crate) struct IndexedPackage<'m, 'a> {
-    /// The package.
     pub pack: &'m PackageFile<'a>,
     /// The units that its slots name, by row.
     pub entries: &'m [UnitEntry],
@@ -136,5 +135,5 @@ fn finish<O: Write>(units: usize, faults: &mut Faults, out: &mut O) -> Result<u8
     put_totals(faults.form, units as u64, count, &mut faults.waiting)?;
     print(faults.waiting.as_str(), out)?;
     flush(out)?;
-    Ok(if count == 0 { 0 } else { 1 })
+    Ok(u8::from(count != 0))
 }

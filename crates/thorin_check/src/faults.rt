@@ -27,10 +27,6 @@ pub(crate) struct Faults {
 }
 
 /// Tells a fault: counts it, and hands what waits to the writer where that is much.
-///
-/// # Errors
-/// `Memory` where there was none for what is printed of it, `Line` where the writer doesn't take
-/// all.
 #[tactic(auto, using(crate::proofs::Told::one_waits, crate::proofs::Told::one_handed))]
 pub(crate) fn tell_fault<O: Write>(
     fault: Fault<'_>,

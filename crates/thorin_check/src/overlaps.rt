@@ -130,8 +130,7 @@ impl Overlaps {
         for kind in &CONTRIBUTION_KINDS {
             let mut ranges = sorted_ranges(alloc, pack, entries, *kind)?;
             ranges.retain(|range| found.get(range.entry).copied().unwrap_or(false));
-            self.mark_earlier(*kind, ranges.as_slice(), entries);
-            self.mark_later(*kind, ranges.as_slice(), entries);
+            self.mark_overlaps(*kind, ranges.as_slice(), entries);
             columns.push((*kind, ranges))?;
         }
         for (kind, ranges) in &columns {
@@ -150,42 +149,33 @@ impl Overlaps {
         Ok(())
     }
 
-    /// Marks each range that one before it overlaps.
-    fn mark_earlier(&mut self, kind: SectionKind, ranges: &[Placed], entries: &[UnitEntry]) {
+    /// Marks each range that one before it overlaps, and each that the next one behind it overlaps.
+    fn mark_overlaps(&mut self, kind: SectionKind, ranges: &[Placed], entries: &[UnitEntry]) {
         let mut farthest: Option<Placed> = None;
         let mut before: Option<Placed> = None;
-        for range in ranges {
+        // The first of those that are the same as the one before.
+        let mut first = 0usize;
+        for i in 0..ranges.len() {
+            let range = ranges[i];
             if let Some(last) = before {
-                let is_farther = farthest.is_none_or(|other| end(last) > end(other));
-                if is_farther && !is_same(last, *range) {
-                    farthest = Some(last);
+                if !is_same(last, range) {
+                    if farthest.is_none_or(|other| end(last) > end(other)) {
+                        farthest = Some(last);
+                    }
+                    if range.offset < end(last) {
+                        for earlier in ranges.get(first..i).unwrap_or(&[]) {
+                            self.mark(kind, *earlier, range, entries);
+                        }
+                    }
+                    first = i;
                 }
             }
             if let Some(other) = farthest {
                 if range.offset < end(other) {
-                    self.mark(kind, *range, other, entries);
+                    self.mark(kind, range, other, entries);
                 }
             }
-            before = Some(*range);
-        }
-    }
-
-    /// Marks each range that the next one behind it overlaps.
-    fn mark_later(&mut self, kind: SectionKind, ranges: &[Placed], entries: &[UnitEntry]) {
-        let mut next: Option<Placed> = None;
-        let mut behind: Option<Placed> = None;
-        for range in ranges.iter().rev() {
-            if let Some(last) = behind {
-                if !is_same(last, *range) {
-                    next = Some(last);
-                }
-            }
-            if let Some(other) = next {
-                if other.offset < end(*range) {
-                    self.mark(kind, *range, other, entries);
-                }
-            }
-            behind = Some(*range);
+            before = Some(range);
         }
     }
 
@@ -193,9 +183,7 @@ impl Overlaps {
     fn mark(&mut self, kind: SectionKind, range: Placed, other: Placed, entries: &[UnitEntry]) {
         if let Some(clash) = self.clashes.get_mut(range.entry) {
             if let Some(other) = entries.get(other.entry) {
-                if clash.is_none() {
-                    *clash = Some((kind, other.object));
-                }
+                clash.get_or_insert((kind, other.object));
             }
         }
     }

@@ -55,13 +55,12 @@ impl Ends {
 
     /// Why the string of a number of a unit can't be read, where that is so: what
     /// `PackagedUnit::string` answers, but no string is read.
+    #[tactic(auto, using(crate::proofs::SharedStrings::none_there))]
     pub(crate) fn error_of(self, unit: &PackagedUnit<'_>, i: u64) -> Option<ReadError>
         requires { HasEnds self unit.now.order (content unit.now.contents SectionKind.Str) }
         ensures { result ≡ result_err (string_of unit.now i) }
     {
-        let Some(offset) = self.offsets_of(unit).entry(i) else {
-            return None;
-        };
+        let offset = self.offsets_of(unit).entry(i)?;
         if offset < self.reach {
             None
         } else if self.size < offset {
@@ -114,9 +113,7 @@ pub(crate) struct StringRange {
     offset: u64,
     /// How many bytes they have.
     size: u64,
-    /// The unit's version.
     version: u16,
-    /// The unit's format.
     format: Format,
 }
 
@@ -159,10 +156,7 @@ fn comes_behind(before: Option<StringRange>, range: StringRange) -> bool
 fn is_wide(format: Format) -> bool
     ensures { result ≡ is_wide format }
 {
-    match format {
-        Format::Dwarf32 => false,
-        Format::Dwarf64 => true,
-    }
+    matches!(format, Format::Dwarf64)
 }
 
 /// The units whose strings are still to be checked. Most units' are while the unit is at hand.

@@ -97,20 +97,15 @@ fn check_versions<O: Write>(
 fn lacks_column(pack: &PackageFile<'_>, kind: SectionKind) -> bool
     ensures { result ≡ lacks_column pack.now kind }
 {
-    if pack.content(kind).is_empty() {
-        return false;
-    }
-    !(has_column(pack.compilation_index(), kind) || has_column(pack.type_index(), kind))
+    !pack.content(kind).is_empty()
+        && !(has_column(pack.compilation_index(), kind) || has_column(pack.type_index(), kind))
 }
 
 /// Whether an index has a column for a section.
 fn has_column(index: Option<&UnitIndex<'_>>, kind: SectionKind) -> bool
     ensures { result ≡ has_column kind (option_copied index.entry) }
 {
-    match index {
-        Some(index) => index.has_column(kind),
-        None => false,
-    }
+    index.is_some_and(|index| index.has_column(kind))
 }
 
 /// Whether a slot names a row of an index before its end, and none before the next.
@@ -127,10 +122,7 @@ fn end_of(index: Option<&UnitIndex<'_>>) -> u64
     ensures end { result ≡ row_end (option_copied index.entry) }
     ensures some { 0 < result }
 {
-    match index {
-        Some(index) => u64::from(index.unit_count()) + 1,
-        None => 1,
-    }
+    index.map_or(1, |index| u64::from(index.unit_count()) + 1)
 }
 
 /// A slot names each row of an index up to its end: tells each row before that of a slot of its

@@ -173,15 +173,13 @@ fn text_of_clash(
     let Ok(Some(second)) = pack.find(other) else {
         return Ok(None);
     };
-    let a = unit.ranges();
-    let b = second.ranges();
-    if overlap(a.range(kind), b.range(kind)) {
+    if overlap(unit.range(kind), second.range(kind)) {
         return some(clash_text(alloc, kind, other, false));
     }
     if has_units(kind)
-        && a.range(kind).is_some()
-        && is_same(a.range(kind), b.range(kind))
-        && !is_same(a.range(SectionKind::Abbrev), b.range(SectionKind::Abbrev))
+        && unit.range(kind).is_some()
+        && is_same(unit.range(kind), second.range(kind))
+        && !is_same(unit.range(SectionKind::Abbrev), second.range(SectionKind::Abbrev))
     {
         return some(clash_text(alloc, kind, other, true));
     }

@@ -1,4 +1,3 @@
 pub mod Listed
 pub mod Pieces
 pub mod Sought
-pub mod Walk

@@ -114,15 +114,10 @@ pub enum FileKind {
 pub fn kind_of(bytes: &[u8]) -> FileKind
     ensures { result ≡ kind_of (package_of bytes.now) }
 {
-    let pack = match PackageFile::parse(bytes) {
-        Ok(pack) => pack,
-        Err(error) => return FileKind::Malformed(error),
-    };
-    if !has_no_index(&pack) {
-        FileKind::Package
-    } else if pack.content(SectionKind::Info).is_empty() {
-        FileKind::NoIndex
-    } else {
-        FileKind::Object
+    match PackageFile::parse(bytes) {
+        Ok(pack) if !has_no_index(&pack) => FileKind::Package,
+        Ok(pack) if pack.content(SectionKind::Info).is_empty() => FileKind::NoIndex,
+        Ok(_pack) => FileKind::Object,
+        Err(error) => FileKind::Malformed(error),
     }
 }

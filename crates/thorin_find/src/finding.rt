@@ -53,9 +53,9 @@ pub(crate) enum Wanted {
     Bytes(SectionKind),
 }
 
-/// Looks a unit up in a package's file and prints what belongs to it, or what is wanted of that. Its
-/// kind is `cu` or `tu`, its identifier 1 to 16 hexadecimal digits, with or without `0x` in front.
-/// Answers the status 0.
+/// Looks a unit up in a package's file and prints what belongs to it, or what is wanted of that.
+/// Its kind is `cu` or `tu`, its identifier 1 to 16 hexadecimal digits, with or without `0x` in
+/// front. Answers the status 0.
 ///
 /// # Errors
 /// `BadKind`, then `BadIdentifier`, `BadNumber` or `BadSection`; `Input` where the file can't be

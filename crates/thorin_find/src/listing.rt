@@ -71,11 +71,9 @@ pub fn list_by<F: FileReader, O: Write>(
 /// A package that is listed.
 #[derive(Clone, Copy)]
 struct Listed<'m, 'a> {
-    /// The package.
     pack: &'m PackageFile<'a>,
     /// How many bytes its file has.
     file_size: usize,
-    /// What its lines are to have.
     form: ListForm,
 }
 
@@ -135,10 +133,7 @@ fn put_rest(
 
 /// Prints the lines of units, up to one that can't be looked up: then it answers false. The last
 /// of them are left to be printed.
-///
-/// # Errors
-/// `Line` or `Memory`.
-#[tactic(auto, using(crate::proofs::Walk::printed_next, crate::proofs::Walk::not_found, crate::proofs::Walk::all_found, crate::proofs::Walk::begun, crate::proofs::Walk::begun_next, thorin_print::proofs::Lines::drop_next))]
+#[tactic(auto, using(crate::proofs::Listed::printed_next, crate::proofs::Listed::not_found, crate::proofs::Listed::all_found, crate::proofs::Listed::begun, crate::proofs::Listed::begun_next, thorin_print::proofs::Lines::drop_next))]
 fn print_lines<O: Write>(
     listed: Listed<'_, '_>,
     entries: &[UnitEntry],
@@ -164,10 +159,7 @@ fn print_lines<O: Write>(
 }
 
 /// Prints what waits in a text, where it is much: then nothing waits.
-///
-/// # Errors
-/// `Line` where the writer doesn't take all.
-#[tactic(auto, using(crate::proofs::Walk::all_waits, crate::proofs::Walk::none_waits, crate::proofs::Walk::not_printed))]
+#[tactic(auto, using(crate::proofs::Listed::all_waits, crate::proofs::Listed::none_waits, crate::proofs::Listed::not_printed))]
 fn print_much<O: Write>(waiting: &mut String, out: &mut O) -> Result<(), Failure>
     ensures whole { OnOk result (PrintsFront (O.contents out.old) (O.contents out.new)
         (string_bytes waiting.old) (string_bytes waiting.new)) }
@@ -299,20 +291,14 @@ fn put_names<'a>(
 {
     let (source, name) = names_of(listed.pack, object, unit);
     let form = listed.form.form;
-    match form {
-        Form::Lines => {
-            text.push_str("\t")?;
-            put_spelled_or(source, form, text)?;
-            text.push_str("\t")?;
-            put_spelled_or(name, form, text)
-        }
-        Form::Json => {
-            text.push_str(",\"name\":")?;
-            put_spelled_or(source, form, text)?;
-            text.push_str(",\"dwo_name\":")?;
-            put_spelled_or(name, form, text)
-        }
-    }
+    let (before_source, before_name) = match form {
+        Form::Lines => ("\t", "\t"),
+        Form::Json => (",\"name\":", ",\"dwo_name\":"),
+    };
+    text.push_str(before_source)?;
+    put_spelled_or(source, form, text)?;
+    text.push_str(before_name)?;
+    put_spelled_or(name, form, text)
 }
 
 /// Adds the sizes on the line of a unit, and gathers its ranges.

@@ -8,9 +8,8 @@ ghost use Rattle.dwp_index.specs.Contents.{content};
 ghost use Rattle.dwp_dwarf.specs.Attributes.{attribute_of, attributes_left, entry_of, root_of};
 ghost use Rattle.dwp_units.specs.Units.{unit_of};
 ghost use Rattle.thorin_find.specs.Names as spec;
-ghost use Rattle.thorin_find.specs.Names.{header_in, die_of, named, short_string_at};
-ghost use Rattle.thorin_find.specs.Names.{string_number, string_of, object_in, source_name};
-ghost use Rattle.thorin_find.specs.Names.{object_name};
+ghost use Rattle.thorin_find.specs.Names.{header_in, die_of, named, string_of, object_in};
+ghost use Rattle.thorin_find.specs.Names.{short_string_at, string_number, source_name, object_name};
 
 use dwp_base::{Endianness, SectionKind};
 use dwp_bytes::{ReadError, Reader, SliceReader, StringOffsets, string_at};
@@ -44,8 +43,8 @@ const MOST_READ: usize = 16384;
 /// How many bytes a name is sought in.
 const MOST_NAMED: u64 = 4096;
 
-/// The names of a unit's source, `DW_AT_name` of its unit DIE, and of its object, `DW_AT_dwo_name` or
-/// `DW_AT_GNU_dwo_name` there.
+/// The names of a unit's source, `DW_AT_name` of its unit DIE, and of its object, `DW_AT_dwo_name`
+/// or `DW_AT_GNU_dwo_name` there.
 #[tactic(auto, unfolding(crate::specs::Names::source_name, crate::specs::Names::object_name))]
 pub(crate) fn names_of<'a>(
     pack: &PackageFile<'a>,

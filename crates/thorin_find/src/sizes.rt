@@ -22,7 +22,6 @@ struct SectionRange {
 #[derive(Clone, Copy)]
 pub(crate) struct UnitSizes {
     object: DwarfObject,
-    /// How many bytes it has.
     size: u64,
     // Which of the ranges are its own: the number of the first, and that behind the last.
     first: usize,
@@ -34,19 +33,10 @@ pub(crate) struct UnitSizes {
 pub(crate) struct Total {
     /// The short name of the section, or `file`.
     name: &'static str,
-    /// How many bytes it has.
     size: u64,
-    /// Those of the ranges that units have of it, where units can have such ranges.
-    ranges: Option<RangeTotal>,
-}
-
-/// How many bytes the ranges of a section have together.
-#[derive(Clone, Copy)]
-struct RangeTotal {
-    /// The distinct ones.
-    once: u64,
-    /// How many more all of them have.
-    shared: u64,
+    /// Where units can have ranges of it, how many bytes the distinct ones of these have, and how
+    /// many more all of them have.
+    ranges: Option<(u64, u64)>,
 }
 
 /// The ranges that units have of the sections of a package.
@@ -134,23 +124,24 @@ impl UnitRanges {
         Ok(totals)
     }
 
-    /// The bytes of the distinct ranges of a section, and how many more all of them have. The ranges
-    /// are sorted.
-    fn range_total(&self, section: u8) -> RangeTotal {
-        let mut total = RangeTotal { once: 0, shared: 0 };
+    /// The bytes of the distinct ranges of a section, and how many more all of them have: the
+    /// ranges are sorted.
+    fn range_total(&self, section: u8) -> (u64, u64) {
+        let mut once = 0u64;
+        let mut shared = 0u64;
         let mut before: Option<SectionRange> = None;
         for range in &self.ranges {
             if range.section != section {
                 continue;
             }
             if before == Some(*range) {
-                total.shared = total.shared.saturating_add(range.size);
+                shared = shared.saturating_add(range.size);
             } else {
-                total.once = total.once.saturating_add(range.size);
+                once = once.saturating_add(range.size);
             }
             before = Some(*range);
         }
-        total
+        (once, shared)
     }
 }
 
@@ -165,11 +156,11 @@ pub(crate) fn put_totals(totals: &[Total], form: Form, text: &mut String) -> Res
         let size = total.size;
         match (form, total.ranges) {
             (Form::Lines, None) => writeln!(added, "total {name} {size}")?,
-            (Form::Lines, Some(RangeTotal { once, shared })) => {
+            (Form::Lines, Some((once, shared))) => {
                 writeln!(added, "total {name} {size} units {once} shared {shared}")?;
             }
             (Form::Json, None) => writeln!(added, "{{\"total\":\"{name}\",\"size\":{size}}}")?,
-            (Form::Json, Some(RangeTotal { once, shared })) => {
+            (Form::Json, Some((once, shared))) => {
                 writeln!(
                     added,
                     "{{\"total\":\"{name}\",\"size\":{size},\"units\":{once},\"shared\":{shared}}}"
@@ -236,9 +227,9 @@ pub(crate) fn put_total_rows(totals: &[Total], text: &mut String) -> Result<(), 
         push(&total.size, &mut cells)?;
         cells.push(format!(in alloc; "{ones}.{rest}")?)?;
         match total.ranges {
-            Some(ranges) => {
-                push(&ranges.once, &mut cells)?;
-                push(&ranges.shared, &mut cells)?;
+            Some((once, shared)) => {
+                push(&once, &mut cells)?;
+                push(&shared, &mut cells)?;
             }
             None => {
                 push(&"", &mut cells)?;

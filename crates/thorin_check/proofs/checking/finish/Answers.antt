@@ -1,5 +1,4 @@
 use Rattle.thorin_check.proofs.Terms.{arith, err_from_is_err_and, flushed, nat_tests, not_flushed}
-use Rattle.thorin_check.proofs.Terms.{refl}
 use Rattle.thorin_check.proofs.checking.finish.Goals as goal
 
 pub returns-in_err-print : goal.returns-in_err-print
@@ -17,16 +16,9 @@ returns-in_err-flush g c =
       not_flushed _ _ _ _ c.in_ok-print.ensures c.in_err-flush.ensures.kept,
     )
 
-pub returns-then-count-eq0 : goal.returns-then-count-eq0
-returns-then-count-eq0 g c = (
+pub returns : goal.returns
+returns g c = (
   rw (c.as_str.ensures.value, c.in_ok-put_totals.ensures) at
       (flushed _ _ _ _ c.in_ok-print.ensures c.in_ok-flush.ensures.kept),
-  rw c.if-count-eq0.true refl,
-)
-
-pub returns-else-count-eq0 : goal.returns-else-count-eq0
-returns-else-count-eq0 g c = (
-  rw (c.as_str.ensures.value, c.in_ok-put_totals.ensures) at
-      (flushed _ _ _ _ c.in_ok-print.ensures c.in_ok-flush.ensures.kept),
-  grind (arith, nat_tests, c.if-count-eq0.false),
+  grind (arith, nat_tests),
 )

@@ -1,21 +1,11 @@
 use Rattle.thorin_check.proofs.Terms.{arith, nat_tests, string_at, string_in}
-use Rattle.thorin_check.proofs.SharedStrings.{none_there}
 use Rattle.thorin_check.proofs.strings.Ends.error_of.Goals as goal
-
-pub returns-in_default : goal.returns-in_default
-returns-in_default c = grind (arith, none_there)
 
 pub returns-then-offset-self : goal.returns-then-offset-self
 unfolding string_at string_in
 returns-then-offset-self c =
-    grind (
-      arith,
-      nat_tests,
-      c.requires.order_is,
-      c.requires.inside,
-      c.requires.reach
-          c.in-Some.offset,
-    )
+    let ends = c.requires in
+    grind (arith, nat_tests, ends.order_is, ends.inside, ends.reach c.in_ok-offset.offset)
 
 pub returns-then-self-offset : goal.returns-then-self-offset
 unfolding string_at string_in
@@ -24,11 +14,5 @@ returns-then-self-offset c = grind (arith, nat_tests, c.requires.order_is, c.req
 pub returns-else-self-offset : goal.returns-else-self-offset
 unfolding string_at string_in
 returns-else-self-offset c =
-    grind (
-      arith,
-      nat_tests,
-      c.requires.order_is,
-      c.requires.size,
-      c.requires.reach
-          c.in-Some.offset,
-    )
+    let ends = c.requires in
+    grind (arith, nat_tests, ends.order_is, ends.size, ends.reach c.in_ok-offset.offset)
