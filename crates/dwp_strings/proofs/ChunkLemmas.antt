@@ -36,8 +36,7 @@ start_at n (p ∷ ps) (suc k) within = grind (arith, start_at (n + length p) ps 
 -- a start and a part of its piece are within the whole
 pub start_within : (ps : List (List ℕ)) (at part : ℕ) → at < length ps
     → part ≤ length (get_or ps at []) → get_or (starts_from 0 ps) at 0 + part ≤ length (concat ps)
-start_within ps at part there within =
-    grind (arith, start_at, concat_around ps at, length-append)
+start_within ps at part there within = grind (arith, start_at, concat_around ps at, length-append)
 
 -- some piece begins at the front
 pub first_start : (ps : List (List ℕ)) → get_or (starts_from 0 ps) 0 0 ≡ 0
@@ -85,12 +84,10 @@ module _ (ps : List (List ℕ)) (starts : List ℕ) (rank at start : ℕ)
       let low : start ≤ rank = grind (arith, piece.low) in
       let long : length (concat (take (at + 1) ps)) ≡ start + length (get_or ps at []) =
       grind (arith, common_steps, concat-append, take_more) in
-      let next = start_at 0 ps (at + 1) in
       let last : (rank < start + length (get_or ps at []))
       ⊎ (length (concat ps) ≡ start + length (get_or ps at [])) =
-      grind (arith, long, next, piece.high, length-starts_from, take_all) in
-      let around = concat_around ps at there in
-      grind (arith, last, around, get_or-append_right, get_or_append_left)
+      grind (arith, long, start_at 0 ps (at + 1), piece.high, length-starts_from, take_all) in
+      grind (arith, last, concat_around ps at there, get_or-append_right, get_or_append_left)
 
   -- the chunks once one stands there
   pub chunk_inserted : (qs : List (List ℕ)) (new : List ℕ) (count v : ℕ)
@@ -130,8 +127,7 @@ kept_within f (p ∷ ps) (suc i) =
     grind (arith, kept_within f ps i, length-append, length-filter, count_by-le-length)
 
 -- no piece is longer
-pub short_filter : (f : ℕ → Bool) (ps : List (List ℕ)) → AreShort ps
-    → AreShort (map (filter f) ps)
+pub short_filter : (f : ℕ → Bool) (ps : List (List ℕ)) → AreShort ps → AreShort (map (filter f) ps)
 short_filter f ps short = All-map (λ p. length p ≤ 1024) (filter f) ps (λ k d within.
     grind (arith, length-filter, count_by-le-length, short k d))
 
@@ -245,10 +241,9 @@ module _ (ps qs : List (List ℕ)) (at : ℕ) (within : at < length ps)
         second = λ more. grind (arith, halves_begun, get_or-insert_above, length-starts_from);
       }
 
-pub length-pieces : {A B : Type 0} (chunks : Vec (Vec ℕ A) B) → length (pieces chunks.items) ≡
-    chunks.len
-length-pieces {A} chunks =
-    omega (arith, length-map chunks.items (λ (chunk : Vec ℕ A). chunk.items), chunks.ok.0)
+pub length-pieces : {A B : Type 0} (all : Vec (Vec ℕ A) B) → length (pieces all.items) ≡ all.len
+length-pieces {A} all =
+    omega (arith, length-map all.items (λ (chunk : Vec ℕ A). chunk.items), all.ok.0)
 
 -- how many chunks and starts there are
 pub ruleset counts = (length-starts_from, length-pieces)

@@ -89,9 +89,8 @@ module _ (bytes positions s : List ℕ) (m : ℕ) (sorted : AllPairs (λ p q.
       → IsBefore s (string_from bytes (get_or positions k 0))
   behind_more greater = λ k above within.
       let middle = string_from bytes (get_or positions m 0) in
-      let before = nat_list_cmp_total.antisymm s middle in
       let next = nat_list_cmp_total.trans s middle (string_from bytes (get_or positions k 0)) in
-      grind (arith, sorted m k 0, before, next)
+      grind (arith, sorted m k 0, nat_list_cmp_total.antisymm s middle, next)
 
 -- no byte of it is zero
 pub ended_free : (rest : List ℕ) (end : ℕ) → IsFirstZero rest end → IsZeroFree (take end rest)
@@ -110,10 +109,9 @@ alike_front [] ys end within within' is_zero is_zero' same = absurd (omega arith
 alike_front (x ∷ xs) [] end within within' is_zero is_zero' same = absurd (omega arith)
 
 -- the first zero ends it
-pub ended_front : (rest : List ℕ) (end : ℕ) → IsFirstZero rest end → front_string rest ≡ take end
-    rest
-ended_front rest end is_zero =
-    let first = position_or_len_is (λ b. eqb b 0) rest end 0 in
+pub ended_front : (xs : List ℕ) (end : ℕ) → IsFirstZero xs end → front_string xs ≡ take end xs
+ended_front xs end is_zero =
+    let first = position_or_len_is (λ b. eqb b 0) xs end 0 in
     grind (arith, nat_tests, first, is_zero)
 
 -- a string and the zero behind it

@@ -6,8 +6,7 @@ use Rattle.dwp_strings.specs.Places.{after_block, after_blocks}
 
 -- the state after the blocks before a place
 unfoldable pub mixed_to : List ℕ → ℕ → ℕ
-mixed_to bytes at =
-    after_blocks bytes ((0x243f_6a88_85a3_08d3 + length bytes) % 2 ^ 64) (at / 16)
+mixed_to bytes at = after_blocks bytes ((0x243f_6a88_85a3_08d3 + length bytes) % 2 ^ 64) (at / 16)
 
 -- before any
 pub mixed_first : (bytes : List ℕ) (state : ℕ)
@@ -38,5 +37,4 @@ mixed_all bytes state at last long whole within near is so_far =
 pub read_behind : (bytes rest : List ℕ) (at k to : ℕ) → rest ≡ drop at bytes → to ≡ at + k
     → read_u32 rest k ≡ read_u32 bytes to
 unfolding read_u32
-read_behind bytes rest at k to is there =
-    grind (arith, is, there, get_or-drop)
+read_behind bytes rest at k to is there = grind (arith, is, there, get_or-drop)

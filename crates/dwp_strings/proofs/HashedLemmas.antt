@@ -1,6 +1,6 @@
 -- The strings of a table: some positions of them, in their order; places at which they begin, and
 -- strings that are used. Strings of entries, found by their hashes, or else by their order.
-use Rattle.std.proofs.lemmas.List.{flat_map_more, length-map, map-append, nil_from_length, take-map}
+use Rattle.std.proofs.lemmas.List.{flat_map_more, length-map, map-append, take-map}
 use Rattle.std.proofs.lemmas.List.Concat.{flat_map-append}
 use Rattle.std.proofs.lemmas.List.Edits.{get_or-insert_above, get_or-insert_at, get_or-insert_below}
 use Rattle.std.proofs.lemmas.List.Edits.{length-insert}
@@ -14,8 +14,8 @@ use Rattle.std.proofs.lemmas.Map.Made.{length-le_from_is_member}
 use Rattle.std.specs.declared.alloc.AllocError.{AllocError}
 use Rattle.dwp_strings.proofs.Terms
 use Terms.{All, All-contains, All-permutation, AllPairs, BeginsAt, Bool, Contains, Decides-eqb, Err}
-use Terms.{IfErr, IsBefore, IsFindable, IsHashed, IsIndexed, IsOrdered, IsPermutation-insert}
-use Terms.{IsPlaced, IsTable, IsZeroFree, List, None, Ok, OnErr, OnOk, Option, Result, Slot, Some}
+use Terms.{IsBefore, IsFindable, IsHashed, IsIndexed, IsOrdered, IsPermutation-insert, IsPlaced}
+use Terms.{IsTable, IsZeroFree, List, None, Ok, OnErr, OnOk, Option, Result, Slot, Some}
 use Terms.{StandsAt, [], ap, append-nil, arith, by-bool, cases_eq, cases_lt, common_steps}
 use Terms.{cond-true, data_of, drop, eqb, false, filter, get_or, get_or-map, get_or-take}
 use Terms.{get_or_default, held, insert, length, length-append, length-take, lt-ltb, ltb, ltb-true}
@@ -90,10 +90,9 @@ pub insert_in_order : (R : ℕ → ℕ → Type 0) (xs : List ℕ) (r y : ℕ) �
     → ((k : ℕ) → k < r → R (get_or xs k 0) y) → ((k : ℕ) → r ≤ k → k < length xs
     → R y (get_or xs k 0)) → AllPairs R (insert xs r y)
 insert_in_order R xs r y apart fits before behind = λ i j d less within.
-    let lower = apart i j 0 in
     let across = apart i (j - 1) 0 in
     let upper = apart (i - 1) (j - 1) 0 in
-    grind (arith, inserted, get_or_default, lower, across, upper, before i, behind (j - 1))
+    grind (arith, inserted, get_or_default, apart i j 0, across, upper, before i, behind (j - 1))
 
 -- strings stay where they are when bytes come behind them
 agree_longer : (bytes rest positions : List ℕ) → data_of (strings_in bytes) ≡ bytes
@@ -114,9 +113,8 @@ pub strings_push : (bytes s : List ℕ) → data_of (strings_in bytes) ≡ bytes
     × (data_of (strings_in (bytes ++ terminated s)) ≡ bytes ++ terminated s)
 strings_push bytes s ended free =
     let ss = strings_in bytes in
-    let whole = flat_map_more terminated [] ss s in
     let each = All-push IsZeroFree ss s (zero_free-strings_in bytes) free in
-    grind (arith, whole, strings_in-data_of (ss ++ s ∷ []) each)
+    grind (arith, flat_map_more terminated [] ss s, strings_in-data_of (ss ++ s ∷ []) each)
 
 -- where its strings begin
 grown_offsets : (bytes s : List ℕ) → data_of (strings_in bytes) ≡ bytes → IsZeroFree s
@@ -221,18 +219,6 @@ pub strings_few : (ss : List (List ℕ)) → length ss ≤ length (data_of ss)
 strings_few [] = omega arith
 strings_few (s ∷ ss) = omega (arith, strings_few ss, length-data_of-cons s ss)
 
--- nothing came after a mark of so many bytes
-pub nothing_after : (bytes : List ℕ) (strings : List (List ℕ)) (n m : ℕ)
-    → data_of (strings_in bytes) ≡ bytes → strings_in bytes ≡ strings
-    → m ≡ length (data_of (take n strings)) → length bytes ≤ m → strings ≡ take n strings
-nothing_after bytes strings n m ended is_strings is_mark long =
-    let back = drop n strings in
-    let parts = take-append-drop n strings in
-    let whole = flat_map-append terminated (take n strings) back in
-    let none : length back ≡ 0 =
-    grind (arith, strings_few back, parts, whole, ended, length-append) in
-    grind (arith, parts, nil_from_length back none, append-nil)
-
 offset_from : (n : ℕ) (bytes : List ℕ) (at : ℕ) → BeginsAt bytes at
     → Contains (offsets_from n (strings_in bytes)) (n + at)
 offset_from n [] at begins = absurd (omega (arith, begins.within))
@@ -252,13 +238,6 @@ pub offset_there : (bytes : List ℕ) (at : ℕ) → BeginsAt bytes at
     → Contains (offsets_from 0 (strings_in bytes)) at
 offset_there bytes at begins = grind (arith, offset_from 0 bytes at begins)
 
--- of the string that begins there
-pub known_place_in : (bytes s : List ℕ) (at : ℕ) → data_of (strings_in bytes) ≡ bytes
-    → AllPairs (λ s t. s ≢ t) (strings_in bytes) → BeginsAt bytes at → string_from bytes at ≡ s
-    → Contains (strings_in bytes) s × (at ≡ offset_of (strings_in bytes) s)
-known_place_in bytes s at ended distinct begins is = known_offset_in bytes s at ended distinct
-    (offset_there bytes at begins) is
-
 -- a string that is there
 pub used_found : (ss : List (List ℕ)) (s : List ℕ) (p : ℕ) → Contains ss s → p ≡ offset_of ss s
     → IsPlaced ss ss s p
@@ -269,7 +248,8 @@ pub used_there : (bytes positions s : List ℕ) (at : ℕ) → IsIndexed bytes p
     → BeginsAt bytes at × (string_from bytes at ≡ s)
     → IsPlaced (strings_in bytes) (strings_in bytes) s at
 used_there bytes positions s at table here =
-    let known = known_place_in bytes s at table.ended table.distinct here.0 here.1 in
+    let begins = offset_there bytes at here.0 in
+    let known = known_offset_in bytes s at table.ended table.distinct begins here.1 in
     used_found (strings_in bytes) s at known.0 known.1
 
 -- a new one, which went last
@@ -278,8 +258,7 @@ pub used_new : (bytes new s : List ℕ) (n : ℕ) → data_of (strings_in bytes)
     → IsPlaced (strings_in bytes) (strings_in new) s n
 used_new bytes new s n ended free is_new is_long absent =
     let ss = strings_in bytes in
-    let push = strings_push bytes s ended free in
-    grind (arith, has_Decides ss s, offset_of-absent ss s, push)
+    grind (arith, has_Decides ss s, offset_of-absent ss s, strings_push bytes s ended free)
 
 -- the place that a hash has among those of entries
 abbrev pub place_in : Entries → ℕ → Option ℕ
@@ -311,8 +290,7 @@ module _ (e : Entries) (table : IsHashed e) where
       let ss = held e in
       let at = offset_of-at ss 0 there.0 [] p table.findable.indexed.distinct in
       let stands = stands_there (get_or ss there.0 []) in
-      let among = Contains-get_or ss there.0 [] in
-      grind (arith, there.2, length-offsets_from 0 ss, at, stands, among)
+      grind (arith, there.2, length-offsets_from 0 ss, at, stands, Contains-get_or ss there.0 [])
 
 module _ (e : Entries) (table : IsHashed e) (s : List ℕ) (h : ℕ) (is_hash : h ≡ hash s) where
   -- it is found
@@ -330,8 +308,7 @@ module _ (e : Entries) (table : IsHashed e) (s : List ℕ) (h : ℕ) (is_hash : 
   -- nor one that doesn't stand at the place of its hash, where strings don't share that
   pub misplaced : (p : ℕ) → place_in e h ≡ Some p → p ≢ shared
       → (BeginsAt e.bytes p × (string_from e.bytes p ≡ s) → ⊥) → Contains (held e) s → ⊥
-  misplaced p has own other there =
-      grind (arith, found_at there, stands_there e table s there, other)
+  misplaced p has own far there = grind (arith, found_at there, stands_there e table s there, far)
 
   -- nor one that isn't among those in order, where it is looked for there
   pub unordered : (r : ℕ) → IsOrdered e.places.slots.items e.places.size e.places.is_full h
@@ -426,12 +403,6 @@ added e new s h n table free is_hash absent is_new is_long is_count indexed more
       kept = grind (arith, push, take_at);
     }
 
--- what a search that found no string says
-pub absent_there : (bytes now ordered s : List ℕ) (r : ℕ) (answer : Result ℕ ℕ) → now ≡ bytes
-    → answer ≡ Err r → IfErr answer (StandsAt now ordered s) → StandsAt bytes ordered s r
-absent_there bytes now ordered s r answer same is_err absent =
-    rw (is_err, same) at absent
-
 -- what is in a list is so when one more goes in
 pub among_more : (xs : List ℕ) (r y p : ℕ) → Contains xs p → Contains (insert xs r y) p
 among_more xs r y p there = Contains-permutation (y ∷ xs) (insert xs r y) p
@@ -449,12 +420,10 @@ pub inserted_or : (bytes ordered s : List ℕ) (r p : ℕ) (new : List ℕ)
     → IsIndexed bytes new × ((q : ℕ) → Contains ordered q → Contains new q)
 inserted_or bytes ordered s r p new (Ok u) table stands there is ok err =
     rw ok (indexed_more bytes ordered s r p table stands there is, among_more ordered r p)
-inserted_or bytes ordered s r p new (Err e) table stands there is ok err =
-    rw err (table, λ q among. among)
+inserted_or bytes ordered s r p new (Err e) table _ _ _ _ err = rw err (table, λ q among. among)
 
 -- a number below a limit stays
-kept_below : (xs : List ℕ) (m y : ℕ) → y < m → Contains xs y
-    → Contains (filter (λ x. ltb x m) xs) y
+kept_below : (xs : List ℕ) (m y : ℕ) → y < m → Contains xs y → Contains (filter (λ x. ltb x m) xs) y
 kept_below xs m y below there =
     let low : ℕ → Bool = λ x. ltb x m in
     let high : ℕ → Bool = λ x. not (ltb x m) in

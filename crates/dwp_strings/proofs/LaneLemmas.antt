@@ -59,9 +59,6 @@ module _ (bytes : List ℕ) (at n : ℕ) (few : n ≤ 64) (room : at + n ≤ len
       let passed = clear eqb next (replicate n 0) same_long (omega (arith, long)) k in
       grind (arith, nat_tests, lane, long, passed)
 
-  pub lanes_all : mask_of eqb next (replicate n 0) ≡ 0 → get_or bytes (at + k) 0 ≢ 0
-  lanes_all none = lanes_some (rw none (omega (arith, trailing_of_zero 64)))
-
   -- the byte at the lowest bit that is set
   pub lanes_zero : k ≡ trailing_zeros w64 (mask_of eqb next (replicate n 0))
       → get_or bytes (at + k) 0 ≡ 0
@@ -113,8 +110,7 @@ module _ (n : ℕ) (few : n ≤ 64) (bytes other : List ℕ) (at to : ℕ) (room
       let same = clear (λ a b. not (eqb a b)) l m (omega (arith, long_l, long_m))
       (omega (arith, long_l, few)) k (omega (arith, long_l, within)) less in
       let first = get_or-chunk at n bytes k 0 within in
-      let second = get_or-chunk to n other k 0 within in
-      grind (arith, nat_tests, first, second, same)
+      grind (arith, nat_tests, first, get_or-chunk to n other k 0 within, same)
 
   -- all of them where none do
   pub lanes_same : mask_of (λ a b. not (eqb a b)) l m ≡ 0

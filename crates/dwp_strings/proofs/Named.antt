@@ -18,10 +18,9 @@ use Terms.{terminated, true, with_string, zero, ℕ, ◌++◌, ◌+◌, ◌-◌,
 use Rattle.dwp_bytes.specs.StringOffsets.{string_at}
 use Rattle.memchr.specs.Find.{IsFirstByte, is_byte}
 
-pub before_first-ended : (s rest : List ℕ) → IsZeroFree s → before_first (λ b. eqb b 0)
-    (s ++ 0 ∷ rest) ≡ s
-before_first-ended s rest free =
-    let first = position_or_len_is (λ b. eqb b 0) (s ++ 0 ∷ rest) (length s) 0 in
+before_first-ended : (s xs : List ℕ) → IsZeroFree s → before_first (λ b. eqb b 0) (s ++ 0 ∷ xs) ≡ s
+before_first-ended s xs free =
+    let first = position_or_len_is (λ b. eqb b 0) (s ++ 0 ∷ xs) (length s) 0 in
     let before = λ (k : ℕ). free k 0 in
     grind (arith, nat_tests, first, before, get_or_at, get_or_append_left, take_at, length-append)
 
@@ -30,12 +29,11 @@ pub string_from-ended : (front s rest : List ℕ) (n : ℕ) → length front ≡
     → string_from (front ++ (s ++ 0 ∷ rest)) n ≡ s
 string_from-ended front s rest n long free = grind (arith, drop_at, before_first-ended s rest free)
 
-pub strings_in-ended : (s rest : List ℕ) → IsZeroFree s → strings_in (s ++ 0 ∷ rest) ≡ s
-    ∷ strings_in rest
-strings_in-ended [] rest free = refl
-strings_in-ended (b ∷ s) rest free =
+pub strings_in-ended : (s xs : List ℕ) → IsZeroFree s → strings_in (s ++ 0 ∷ xs) ≡ s ∷ strings_in xs
+strings_in-ended [] xs free = refl
+strings_in-ended (b ∷ s) xs free =
     let other = All-head (λ b. b ≢ 0) b s free in
-    grind (arith, nat_tests, other, strings_in-ended s rest (All-tail (λ b. b ≢ 0) b s free))
+    grind (arith, nat_tests, other, strings_in-ended s xs (All-tail (λ b. b ≢ 0) b s free))
 
 pub data_of-cons : (s : List ℕ) (ss : List (List ℕ)) → data_of (s ∷ ss) ≡ s ++ 0 ∷ data_of ss
 data_of-cons s ss = append_assoc s (0 ∷ []) (data_of ss)
@@ -43,9 +41,8 @@ data_of-cons s ss = append_assoc s (0 ∷ []) (data_of ss)
 pub strings_in-data_of : (ss : List (List ℕ)) → All IsZeroFree ss → strings_in (data_of ss) ≡ ss
 strings_in-data_of [] free = refl
 strings_in-data_of (s ∷ ss) free =
-    let first = All-head IsZeroFree s ss free in
     let others = strings_in-data_of ss (All-tail IsZeroFree s ss free) in
-    grind (arith, data_of-cons, strings_in-ended, first, others)
+    grind (arith, data_of-cons, strings_in-ended, All-head IsZeroFree s ss free, others)
 
 onto_first-zero_free : (b : ℕ) (ss : List (List ℕ)) → b ≢ 0 → All IsZeroFree ss
     → All IsZeroFree (onto_first b ss)
@@ -85,10 +82,6 @@ map-string_from front (s ∷ ss) rest n long free =
     let others = map-string_from (front ++ terminated s) ss rest (n + length s + 1) in
     grind (arith, append_assoc, length-append, first, others, All-tail IsZeroFree s ss free)
 
-pub AllPairs-rest : {X : Type 0} (R : X → X → Type 0) (x : X) (xs : List X)
-    → AllPairs R (x ∷ xs) → AllPairs R xs
-AllPairs-rest R x xs h = λ i j d less within. h (suc i) (suc j) d (omega arith) (omega arith)
-
 pub length-offsets_from : (n : ℕ) (ss : List (List ℕ)) → length (offsets_from n ss) ≡ length ss
 length-offsets_from n [] = refl
 length-offsets_from n (s ∷ ss) = ap suc (length-offsets_from (n + length s + 1) ss)
@@ -99,7 +92,8 @@ pub offset_of-at : (ss : List (List ℕ)) (n i : ℕ) (d : List ℕ) (e : ℕ) �
 offset_of-at [] n i d e apart within = absurd (omega arith)
 offset_of-at (t ∷ ss) n zero d e apart within = grind (arith, bytes_eq-Decides t t)
 offset_of-at (t ∷ ss) n (suc i) d e apart within =
-    let rest = offset_of-at ss (n + length t + 1) i d e (AllPairs-rest (λ s t. s ≢ t) t ss apart) in
+    let rest = offset_of-at ss (n + length t + 1) i d e
+    (λ j k f less below. apart (suc j) (suc k) f (omega arith) (omega arith)) in
     grind (arith, rest, bytes_eq-Decides t (get_or ss i d), apart 0 (suc i) d)
 
 -- whether a string is there
@@ -117,8 +111,7 @@ distinct_push ss s distinct absent = all_pairs_push (λ s t. s ≢ t) ss s disti
 pub offset_of-absent : (ss : List (List ℕ)) (s : List ℕ) → list_any (λ t. bytes_eq t s) ss ≡ false
     → offset_of ss s ≡ length (data_of ss)
 offset_of-absent [] s none = refl
-offset_of-absent (t ∷ ss) s none =
-    grind (arith, offset_of-absent ss s, length-data_of-cons t ss)
+offset_of-absent (t ∷ ss) s none = grind (arith, offset_of-absent ss s, length-data_of-cons t ss)
 
 pub offsets_from-append : (n : ℕ) (ss ts : List (List ℕ)) → offsets_from n (ss ++ ts) ≡ offsets_from
     n ss ++ offsets_from (n + length (data_of ss)) ts
@@ -136,8 +129,7 @@ offsets_from-take (suc n) at (s ∷ ss) = grind (arith, offsets_from-take n (at 
 pub offsets_from-below : (n : ℕ) (ss : List (List ℕ)) → All (λ p. p < n + length (data_of ss))
     (offsets_from n ss)
 offsets_from-below n (s ∷ ss) = λ i d within.
-    let rest = offsets_from-below (n + length s + 1) ss (i - 1) d in
-    grind (arith, length-data_of-cons s ss, rest)
+    grind (arith, length-data_of-cons s ss, offsets_from-below (n + length s + 1) ss (i - 1) d)
 offsets_from-below n [] = All-nil _
 
 pub offsets_from-above : (n : ℕ) (ss : List (List ℕ)) → All (λ p. n ≤ p) (offsets_from n ss)
@@ -146,11 +138,9 @@ offsets_from-above n (s ∷ ss) =
     λ i d within. grind (arith, offsets_from-above (n + length s + 1) ss (i - 1) d)
 
 -- no string has its offset past the section's end
-pub offset_within : (strings : List (List ℕ)) (string : List ℕ) → offset_of strings string ≤ length
-    (data_of strings)
-offset_within [] string = omega arith
-offset_within (t ∷ strings) string =
-    grind (arith, length-data_of-cons t strings, offset_within strings string)
+pub offset_within : (ss : List (List ℕ)) (s : List ℕ) → offset_of ss s ≤ length (data_of ss)
+offset_within [] s = omega arith
+offset_within (t ∷ ss) s = grind (arith, length-data_of-cons t ss, offset_within ss s)
 
 -- a string is among those of a list
 abbrev pub has : List (List ℕ) → List ℕ → Bool
@@ -238,10 +228,9 @@ read_later ss final s kept free h =
     grind (arith, list_any-append (λ b. eqb b 0) s (0 ∷ stands.0))
 
 -- a string that was read is the one there
-pub string_was : (section s : List ℕ) (at : ℕ) → string_at section at ≡ Ok s
-    → string_from section at ≡ s
+pub string_was : (bytes s : List ℕ) (at : ℕ) → string_at bytes at ≡ Ok s → string_from bytes at ≡ s
 unfolding string_at
-string_was section s at is = grind arith
+string_was bytes s at is = grind arith
 
 -- what is read has no zero
 pub read_free : (section : List ℕ) (at : ℕ) → IsZeroFree (string_from section at)

@@ -30,8 +30,7 @@ module _ (slots : List Slot) (h k : ℕ) where
   slot_from : (at n : ℕ) → at ≤ k → ArePassed slots at k h → k < at + n → slot.behind ≢ 0
       → slot.hash ≡ h → place_from slots at n h ≡ Some (slot.behind - 1)
   slot_from at zero low passed high some same = absurd (omega arith)
-  slot_from at (suc n) low passed high some same =
-      grind (arith, slot_from (at + 1) n, passed at)
+  slot_from at (suc n) low passed high some same = grind (arith, slot_from (at + 1) n, passed at)
 
   -- a free one, or the end of those that are looked at, that there is none
   none_from : (at n : ℕ) → at ≤ k → ArePassed slots at k h → (k < at + n → slot.behind ≡ 0)
@@ -78,8 +77,7 @@ module _ (slots : List Slot) (s : Slot) (k : ℕ) where
     put_from at zero low high used none = absurd (omega arith)
     put_from at (suc n) low high used none =
         let here = get_or-set_same slots k s free within in
-        let other = get_or-set_other slots k at s free in
-        grind (arith, put_from (at + 1) n, used at, here, other)
+        grind (arith, put_from (at + 1) n, used at, here, get_or-set_other slots k at s free)
 
     -- or where it has one, once that is another
     pub given_of : (size : ℕ) → IsSlotOf slots size s.hash k

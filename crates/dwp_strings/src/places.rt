@@ -71,7 +71,6 @@ fn put_next(slots: &mut [Slot], number: usize, slot: Slot) -> bool
     ensures kept { (size h n : ℕ) → place_of slots.old size h ≡ Some n
         → place_of slots.new size h ≡ Some n }
     ensures same { result ≡ false → slots.new ≡ slots.old }
-    ensures long { length slots.new ≡ length slots.old }
 {
     if number >= slots.len() {
         return false;
@@ -87,7 +86,6 @@ fn put(slots: &mut [Slot], size: u32, slot: Slot) -> bool
         → place_of slots.new size slot.hash ≡ Some n }
     ensures kept { (h n : ℕ) → place_of slots.old size h ≡ Some n
         → place_of slots.new size h ≡ Some n }
-    ensures long { length slots.new ≡ length slots.old }
 {
     match find(slots, size, slot.hash) {
         Ok(_) => false,
@@ -99,7 +97,6 @@ fn put(slots: &mut [Slot], size: u32, slot: Slot) -> bool
 fn put_again(slots: &mut [Slot], size: u32, others: &[Slot]) -> Option<usize>
     ensures kept { IfSome result (λ _. (other h n : ℕ) → place_of others.now other h ≡ Some n
         → place_of slots.new size h ≡ Some n) }
-    ensures long { length slots.new ≡ length slots.old }
 {
     let mut used: usize = 0;
     for number in 0..others.len() {
@@ -144,6 +141,7 @@ pub(crate) struct HashedPlaces {
     pub is_full: bool,
 }
 
+#[tactic(auto, using(crate::proofs::PlacesLemmas::slot_within))]
 impl HashedPlaces {
     /// No places, which take no memory.
     pub fn new(alloc: Global) -> Self {
@@ -218,9 +216,8 @@ impl HashedPlaces {
         false
     }
 
-    /// Enters the place of a hash that has none, by the slot that is next for it; false where that
-    /// can't be, and then no more are entered. At most five of eight slots are used, and where none
-    /// is free for a hash there are made more, if a quarter is used.
+    /// Enters the place of a hash that has none, by the slot that is next for it, or among more
+    /// slots; false where that can't be, and then no more are entered.
     pub fn enter(&mut self, hash: u32, next: usize, place: usize) -> bool
         requires open { self.old.is_full ≡ false }
         requires none { place_of self.old.slots.items self.old.size hash ≡ None }

@@ -113,7 +113,7 @@ fn cut(
 }
 
 /// Makes room for a number at a rank, and gives the chunk in which it goes.
-#[tactic(auto, using(crate::proofs::ChunkLemmas::counts))]
+#[tactic(auto, using(crate::proofs::ChunkLemmas::counts, crate::proofs::ChunkLemmas::first_start))]
 fn room_at(
     alloc: Global,
     chunks: &mut Vec<Vec<u64>>,
@@ -173,6 +173,7 @@ fn keep_all(chunks: &mut Vec<Vec<u64>>, starts: &mut [usize], limit: u64) -> usi
     total
 }
 
+#[tactic(auto, using(crate::proofs::ChunkLemmas::counts))]
 impl Positions {
     /// The empty list, which takes no memory.
     pub fn new(alloc: Global) -> Self
@@ -194,7 +195,6 @@ impl Positions {
     }
 
     /// The number of a rank, and its chunk. The chunk `near` is tried first.
-    #[tactic(auto, using(crate::proofs::ChunkLemmas::counts))]
     pub fn get_near(&self, rank: usize, near: usize) -> (u64, usize)
         requires { rank < length self.now }
         ensures { result.0 ≡ slice_index self.now rank }
@@ -208,7 +208,6 @@ impl Positions {
     ///
     /// # Errors
     /// Want of memory, and then the list is as it was.
-    #[tactic(auto, using(crate::proofs::ChunkLemmas::counts))]
     pub fn insert(&mut self, rank: usize, position: u64) -> Result<(), AllocError>
         requires within { rank ≤ length self.old }
         requires small { length self.old + 1 < 2 ^ 64 }

@@ -26,10 +26,9 @@ pub(crate) fn compare_at(bytes: &[u8], at: usize, string: &[u8]) -> Ordering
     if rest.len() <= string.len() {
         return rest.cmp(&string);
     }
-    match rest[..string.len()].cmp(&string) {
-        Ordering::Equal => rest[string.len()].cmp(&0),
-        order => order,
-    }
+    rest[..string.len()]
+        .cmp(&string)
+        .then(rest[string.len()].cmp(&0))
 }
 
 /// Whether a string begins at a place of a section of ended strings.

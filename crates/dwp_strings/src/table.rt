@@ -221,11 +221,9 @@ impl StringTable {
         requires { mark ≡ mark_of (take mark.strings self.old) }
         ensures { self.new ≡ take mark.strings self.old }
     {
-        if mark.bytes < self.entries.bytes.len() {
-            self.entries.bytes.truncate(mark.bytes);
-            self.entries.count = mark.strings;
-            self.entries.ordered.keep_below(mark.bytes as u64);
-        }
+        self.entries.bytes.truncate(mark.bytes);
+        self.entries.count = mark.strings;
+        self.entries.ordered.keep_below(mark.bytes as u64);
     }
 
     /// The content of `.debug_str.dwo`.

@@ -37,13 +37,10 @@ kept Big Dwarf64 x rest = (refl, λ h. omega (arith, from_be_bytes-to_be_bytes_8
 pub entries_long : (order : Endianness) (format : Format) (offsets : List ℕ)
     → length (entry_bytes order format offsets) ≡ length offsets * offset_size format
 entries_long order format [] = sym (zero-mul (offset_size format))
-entries_long order format (x ∷ xs) = grind (
-  arith,
-  length-append,
-  (kept order format x []).0,
-  entries_long order format xs,
-  suc-mul (length xs) (offset_size format),
-)
+entries_long order format (x ∷ xs) =
+    let one = (kept order format x []).0 in
+    let more = suc-mul (length xs) (offset_size format) in
+    grind (arith, length-append, one, entries_long order format xs, more)
 
 pub entry_read : (order : Endianness) (format : Format) (offsets : List ℕ) (i : ℕ)
     → i < length offsets → get_or offsets i 0 ≤ offset_limit format

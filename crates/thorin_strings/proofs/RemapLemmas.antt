@@ -1,15 +1,14 @@
 -- Strings that are read, what is remembered of them, and entries that are rewritten one after
 -- another, while more strings come.
 use Rattle.thorin_strings.proofs.Terms
-use Terms.{AreKnown, AreWritten, Encoding, Endianness, Err, ErrorValue, IsFirstZero}
-use Terms.{IsKnown, IsPlaced, IsZeroFree, List, Little, None, NumberTooLarge, Ok, Some, []}
-use Terms.{add-one, ap, arith, bind-was, cases_eq, codes, drop, ended_free, ended_front, entry_at}
-use Terms.{entry_bytes, entry_count, eq-eqb, eqb, fitting_offset, fitting_read, flat_map_more}
-use Terms.{front_string, get_or, header_of, header_size, length, length-take, list_any_at, named_at}
-use Terms.{number_bytes, offset_at, offset_limit, offset_read, offset_size, refl, remapped}
-use Terms.{remapped_entries, remapped_entry, string_at, string_read, suc, take, take-take}
-use Terms.{take_rest, there_later, there_once_used, zero, ℕ, ◌*◌, ◌++◌, ◌+◌, ◌-◌, ◌<◌, ◌^◌, ◌∙◌}
-use Terms.{◌∷◌, ◌≡◌, ◌≤◌}
+use Terms.{AreKnown, AreWritten, Encoding, Endianness, Err, ErrorValue, IsFirstZero, IsKnown}
+use Terms.{IsPlaced, IsZeroFree, List, Little, None, NumberTooLarge, Ok, Some, [], add-one, ap}
+use Terms.{arith, bind-was, cases_eq, codes, drop, ended_free, ended_front, entry_at, entry_bytes}
+use Terms.{entry_count, eq-eqb, eqb, fitting_offset, fitting_read, flat_map_more, front_string}
+use Terms.{get_or, header_of, header_size, length, length-take, list_any_at, named_at, number_bytes}
+use Terms.{offset_at, offset_limit, offset_read, offset_size, refl, remapped, remapped_entries}
+use Terms.{remapped_entry, string_at, string_read, suc, take, take-take, take_rest, there_later}
+use Terms.{there_once_used, zero, ℕ, ◌*◌, ◌++◌, ◌+◌, ◌-◌, ◌<◌, ◌∙◌, ◌∷◌, ◌≡◌, ◌≤◌}
 use Rattle.std.proofs.Common.{ltb, not, ◌/◌}
 use Rattle.std.proofs.lemmas.Bool.Decides.{nat_tests}
 use Rattle.dwp_bytes.specs.StringOffsets.{entry_in}
@@ -57,11 +56,10 @@ unfolding offset_read
 read_used section at place old new string read used = rw (read, used.0, used.1) refl
 
 -- what was read and used is known
-pub known_used : (section : List ℕ) (at place : ℕ) (old new : List (List ℕ)) (string : List ℕ)
-    → string_read section at ≡ Ok string → IsPlaced old new string place
-    → IsKnown section new (at, place)
+pub known_used : (section : List ℕ) (at place : ℕ) (old new : List (List ℕ)) (s : List ℕ)
+    → string_read section at ≡ Ok s → IsPlaced old new s place → IsKnown section new (at, place)
 unfolding offset_read
-known_used section at place old new string read used = grind (arith, there_once_used old string)
+known_used section at place old new s read used = grind (arith, there_once_used old s)
 
 -- what is known stays so once more strings have come
 pub are_known_later : (section : List ℕ) (old new : List (List ℕ)) (pairs : List (ℕ × ℕ))
@@ -89,8 +87,7 @@ module _ (order : Endianness) (encoding : Encoding) (bytes : List ℕ) (index : 
   no_entry : entry_in order encoding bytes index ≡ None
       → entry_at order encoding bytes index ≡ Err (OffsetAtIndex UnexpectedEof index)
   unfolding entry_in offset_at
-  no_entry is =
-      grind (arith, in_range encoding.format index (header_size encoding) (length bytes))
+  no_entry is = grind (arith, in_range encoding.format index (header_size encoding) (length bytes))
 
 -- a string that was read and used, and is to fit the format
 module _ (format : Format) (section : List ℕ) (named place : ℕ) (old new : List (List ℕ))
@@ -179,7 +176,3 @@ module _ (encoding : Encoding) (form : encoding.format ≡ Dwarf32) where
       (take at out) (take (at + 4) more)
       (so_far.offsets, so_far.entries, rw (← is_at) at so_far.written) entry (rw form written) in
       record { offsets = one.0; entries = one.1; written = rw next one.2 }
-
-  -- a number of four bytes fits
-  pub fits_word : (offset : ℕ) → offset ≤ 2 ^ 32 - 1 → offset ≤ offset_limit encoding.format
-  fits_word offset fits = grind arith

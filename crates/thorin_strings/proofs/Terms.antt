@@ -1,15 +1,13 @@
 -- The names that proofs of this crate cite most, passed on from one place. Declares nothing.
-pub use Rattle.std.proofs.Common.{Err, List, None, Ok, Option, Some, [], add-one, ap, append-nil}
-pub use Rattle.std.proofs.Common.{append_assoc, arith, codes, drop, eqb, get_or, length}
-pub use Rattle.std.proofs.Common.{length-append, length-drop, length-take, refl, rules, suc, sym}
-pub use Rattle.std.proofs.Common.{take, take-take, take_all, zero, ℕ, ◌*◌, ◌++◌, ◌+◌, ◌-◌, ◌<◌, ◌^◌}
-pub use Rattle.std.proofs.Common.{◌∙◌, ◌∷◌, ◌≡◌, ◌≤◌}
+pub use Rattle.std.proofs.Common.{append-nil, append_assoc, length-append, length-drop, length-take}
+pub use Rattle.std.proofs.Common.{add-one, arith, codes, get_or, length, rules, take-take, take_all}
+pub use Rattle.std.proofs.Common.{Err, List, None, Ok, Some, drop, eqb, refl, suc, take, zero, ◌++◌}
+pub use Rattle.std.proofs.Common.{[], ap, sym, ℕ, ◌*◌, ◌+◌, ◌-◌, ◌<◌, ◌^◌, ◌∙◌, ◌∷◌, ◌≡◌, ◌≤◌}
 pub use Rattle.std.proofs.lemmas.Bool.{cases_eq, eq-eqb, eqb-false}
 pub use Rattle.std.proofs.lemmas.Grind.{elements}
 pub use Rattle.std.proofs.lemmas.List.{flat_map_more, take_rest, with_items_is}
 pub use Rattle.std.proofs.lemmas.List.Folds.{list_any_at}
 pub use Rattle.std.proofs.lemmas.Result.{err_from_is_err_and}
-pub use Rattle.std.specs.Option.{IfSome}
 pub use Rattle.std.specs.Vec.{with_items}
 pub use Rattle.dwp_base.proofs.Steps.{bind-was}
 pub use Rattle.dwp_base.specs.Numbers.{number, number_bytes}

@@ -101,9 +101,8 @@ pub(crate) fn dwarf32(encoding: Encoding) -> Encoding
     ensures { result ≡ encoding }
 {
     Encoding {
-        version: encoding.version,
         format: Format::Dwarf32,
-        address_size: encoding.address_size,
+        ..encoding
     }
 }
 
@@ -189,11 +188,8 @@ impl PackageStringTable {
         ensures kept { take (length self.old) self.new ≡ self.old }
         ensures known { AreKnown range.now.strings.now self.new repeats.new }
     {
-        let StringOffsets {
-            order,
-            encoding,
-            ..
-        } = *range;
+        let order = range.order;
+        let encoding = range.encoding;
         if section_size == 0 {
             return Ok(Vec::new(self.alloc));
         }
@@ -264,6 +260,7 @@ impl PackageStringTable {
 
     /// The offset of a string, which is read where it isn't remembered, and is to fit the format.
     #[inline(never)]
+    #[tactic(auto, using(crate::proofs::RemapLemmas::read_fitting, crate::proofs::RemapLemmas::read_large, std::proofs::lemmas::List::take_all))]
     pub(crate) fn fitting_offset(
         &mut self,
         repeats: &mut Repeats,

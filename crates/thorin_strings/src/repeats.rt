@@ -175,8 +175,6 @@ impl Repeats {
     {
         self.pairs.clear();
         self.links.clear();
-        for cell in &mut self.cells {
-            *cell = 0;
-        }
+        self.cells.fill(0);
     }
 }

@@ -22,6 +22,7 @@ use thorin_errors::Error;
 
 /// The offset that the entry of a number has.
 #[inline(always)]
+#[tactic(auto, unfolding(crate::specs::StringOffsets::offset_at), using(std::proofs::lemmas::List::take_rest))]
 fn word_at(debug_str_offsets: &[u8], encoding: Encoding, index: usize) -> u64
     requires form { encoding.format ≡ Dwarf32 }
     requires within { header_size encoding + index * 4 + 4 ≤ length debug_str_offsets.now }
@@ -119,12 +120,9 @@ impl PackageStringTable {
             old self.new out.new }
         ensures kept { take (length self.old) self.new ≡ self.old }
     {
-        let StringOffsets {
-            strings,
-            offsets,
-            encoding,
-            ..
-        } = *range;
+        let strings = range.strings;
+        let offsets = range.offsets;
+        let encoding = range.encoding;
         let first = encoding.string_offsets_header_size();
         let last = (out.len() - first) / 4 - 1;
         if from < tried_from || (strings.len() as u64) < SHORT {

@@ -10,8 +10,7 @@ returns-then-end-lt-HALF c =
         within = c.requires.within;
         ended = c.requires.ended;
         before = λ k less.
-            let some = lanes_some c.args.bytes.now 0 32 (omega arith) (omega arith) k
-            (omega arith) in
+            let some = lanes_some c.args.bytes.now 0 32 (omega arith) (omega arith) k in
             grind (arith, some, leb-true _ _ (rw one.lanes at is));
       };
       copied = λ is k less. one.copied k (omega arith) (omega arith);

@@ -1,10 +1,9 @@
-use Rattle.dwp_strings.proofs.Terms.{IsCopied, length, slice_index, ℕ, ◌-◌, ◌<◌, ◌≡◌, ◌≢◌}
+use Rattle.dwp_strings.proofs.Terms.{IsCopied, slice_index, ℕ, ◌-◌, ◌<◌, ◌≢◌}
 use Rattle.dwp_strings.proofs.buffer.copy_ended.Given as goal
 
 abbrev pub invariant-loop-at : goal.invariant-loop-at
 invariant-loop-at l = record {
   some : (k : ℕ) → k < l.at → slice_index l.bytes k ≢ 0;
-  long : length l.room ≡ length l.initial.room;
   copied : (k : ℕ) → k < l.at → IsCopied l.bytes l.room k;
   ended : IsCopied l.bytes l.room l.end;
 }

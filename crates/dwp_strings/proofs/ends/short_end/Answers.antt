@@ -1,4 +1,4 @@
-use Rattle.dwp_strings.proofs.Terms.{arith, cases_lt, elements, refl, ⊎_elim, ◌*◌, ◌+◌, ◌-◌}
+use Rattle.dwp_strings.proofs.Terms.{arith, cases_lt, refl, ◌*◌, ◌+◌, ◌-◌}
 use Rattle.dwp_strings.proofs.LaneLemmas.{lanes_some, lanes_zero}
 use Rattle.dwp_strings.proofs.ends.short_end.Goals as goal
 
@@ -9,10 +9,9 @@ returns-then-some-lt-LANES-clause-some c =
       within = omega arith;
       ended = lanes_zero c.args.bytes.now at 64 (omega arith) (omega arith) _
           c.if-some-lt-LANES.true refl;
-      before = λ k less. ⊎_elim (λ low. c.loop-round.invariant.some k low) (λ high.
-          let some = lanes_some c.args.bytes.now at 64 (omega arith) (omega arith) (k - at)
-          (omega arith) (omega arith) in
-          grind arith) (cases_lt k at);
+      before = λ k less.
+          let some = lanes_some c.args.bytes.now at 64 (omega arith) (omega arith) (k - at) in
+          grind (arith, some, c.loop-round.invariant.some k, cases_lt k at);
     }
 
 pub loop-round-preserved : goal.loop-round-preserved
@@ -20,10 +19,9 @@ loop-round-preserved c =
     let at = c.loop-round.round * 64 in
     record {
       within = omega arith;
-      some = λ k less. ⊎_elim (λ low. c.loop-round.invariant.some k low) (λ high.
-          let some = lanes_some c.args.bytes.now at 64 (omega arith) (omega arith) (k - at)
-          (omega arith) (omega arith) in
-          grind arith) (cases_lt k at);
+      some = λ k less.
+          let some = lanes_some c.args.bytes.now at 64 (omega arith) (omega arith) (k - at) in
+          grind (arith, some, c.loop-round.invariant.some k, cases_lt k at);
     }
 
 pub returns-then-some-lt-LANES-clause-near : goal.returns-then-some-lt-LANES-clause-near
@@ -33,9 +31,3 @@ returns-then-some-lt-LANES-clause-near c = record {
   within = omega arith;
   before = omega arith;
 }
-
-pub returns-then-bytes-at-lt-LANES-clause-none : goal.returns-then-bytes-at-lt-LANES-clause-none
-returns-then-bytes-at-lt-LANES-clause-none c = grind (arith, elements)
-
-pub returns-clause-none : goal.returns-clause-none
-returns-clause-none c = grind (arith, elements)

@@ -11,8 +11,7 @@ there c = omega (arith, length-pieces c.args.chunks.now)
 
 halved : (c : goal.After-index) → IsHalved (pieces c.args.chunks.now.items)
     (pieces c.insert.new.self.items) c.args.at
-halved c =
-    piece_halved c.args.chunks.now.items c.args.at c.index_mut-chunk.result.now (grind arith)
+halved c = piece_halved c.args.chunks.now.items c.args.at c.index_mut-chunk.result.now (grind arith)
     (grind (arith, c.index_mut-chunk.ensures.value)) c.insert.new.self.items c.len-half.result
     c.truncate.new.self c.in_ok-upper.upper (omega arith) c.truncate.ensures.items
     (grind (arith, c.in_ok-upper.ensures.items)) (grind (arith, c.insert.ensures.items))
@@ -23,8 +22,7 @@ start : (c : goal.After-index) → c.index.result.now + c.len-half.result / 2
     + length (get_or (pieces c.args.chunks.now.items) c.args.at []) / 2
 start c =
     let piece = piece_read c.args.chunks.now.items c.args.at c.index_mut-chunk.result.now in
-    let first = get_or_read c.args.starts.now.items c.args.at c.index.result.now in
-    grind (arith, counts, piece, first)
+    grind (arith, counts, piece, get_or_read c.args.starts.now.items c.args.at c.index.result.now)
 
 pub overflow_add-start : goal.overflow_add-start
 overflow_add-start c =

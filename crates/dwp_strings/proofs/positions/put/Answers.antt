@@ -4,8 +4,7 @@ use Rattle.dwp_strings.proofs.positions.put.Goals as goal
 
 pub returns-in_err-insert-clause-err : goal.returns-in_err-insert-clause-err
 returns-in_err-insert-clause-err c =
-    let at = c.args.at in
-    grind (arith, piece_unchanged c.args.chunks.now.items at c.index_mut-chunk.result.now)
+    grind (arith, piece_unchanged c.args.chunks.now.items c.args.at c.index_mut-chunk.result.now)
 
 pub returns-clause-ok : goal.returns-clause-ok
 returns-clause-ok c = piece_changed c.args.chunks.now.items c.args.at c.index_mut-chunk.result.now

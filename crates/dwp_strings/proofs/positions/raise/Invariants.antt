@@ -1,9 +1,8 @@
-use Rattle.dwp_strings.proofs.Terms.{length, slice_index, ℕ, ◌+◌, ◌<◌, ◌≡◌, ◌≤◌}
+use Rattle.dwp_strings.proofs.Terms.{slice_index, ℕ, ◌+◌, ◌<◌, ◌≡◌, ◌≤◌}
 use Rattle.dwp_strings.proofs.positions.raise.Given as goal
 
 abbrev pub invariant-loop-i : goal.invariant-loop-i
 invariant-loop-i l = record {
-  long : length l.starts ≡ length l.initial.starts;
   before : (k : ℕ) → k < l.from → slice_index l.starts k ≡ slice_index l.initial.starts k;
   raised : (k : ℕ) → l.from ≤ k → k < l.i
       → slice_index l.starts k ≡ slice_index l.initial.starts k + 1;

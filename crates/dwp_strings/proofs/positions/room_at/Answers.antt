@@ -1,10 +1,7 @@
-use Rattle.dwp_strings.proofs.Terms.{arith, elements, get_or_read, length, pieces, rules, ◌<◌, ◌∙◌}
-use Rattle.dwp_strings.proofs.ChunkLemmas.{IsInHalf, counts, first_start, halves_room, in_half}
+use Rattle.dwp_strings.proofs.Terms.{arith, get_or_read, length, pieces, rules, ◌<◌, ◌∙◌}
+use Rattle.dwp_strings.proofs.ChunkLemmas.{IsInHalf, counts, halves_room, in_half}
 use Rattle.dwp_strings.proofs.positions.room_at.Goals.{In_ok-cut}
 use Rattle.dwp_strings.proofs.positions.room_at.Goals as goal
-
-pub chunk_of-at-requires-clause-first : goal.chunk_of-at-requires-clause-first
-chunk_of-at-requires-clause-first c = grind (arith, first_start)
 
 there : (c : goal.In_ok-cut) → c.chunk_of-at.result < length (pieces c.args.chunks.now.items)
 there c = grind (arith, counts)
@@ -33,9 +30,3 @@ returns-else-rank-index c =
     let room = (halves_room _ _ c.chunk_of-at.result (there after) c.in_ok-cut.ensures.halved
     c.requires.short).1 in
     search rules
-
-pub returns-then-is_empty-clause-at : goal.returns-then-is_empty-clause-at
-returns-then-is_empty-clause-at c = grind (arith, counts)
-
-pub returns-then-is_empty-clause-room : goal.returns-then-is_empty-clause-room
-returns-then-is_empty-clause-room c = grind (arith, elements)

@@ -4,10 +4,9 @@ use Rattle.dwp_strings.proofs.search.begins_same.Goals as goal
 
 pub returns-then-count-lt-LANES : goal.returns-then-count-lt-LANES
 returns-then-count-lt-LANES c = λ is.
-    let bytes = c.args.bytes.now in
-    let other = c.args.other.now in
-    let same = lanes_same_before 32 (omega arith) bytes other 0 0 (omega arith) (omega arith) in
-    same_fronts bytes other c.args.count c.requires.first (omega arith)
+    let same = lanes_same_before 32 (omega arith) c.args.bytes.now c.args.other.now 0 0
+    (omega arith) (omega arith) in
+    same_fronts _ _ c.args.count c.requires.first (omega arith)
     (λ k less. grind (arith, same k, leb-true))
 
 pub returns : goal.returns

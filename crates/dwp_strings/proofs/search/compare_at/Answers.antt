@@ -6,8 +6,5 @@ pub returns-then-rest-string : goal.returns-then-rest-string
 returns-then-rest-string c =
     grind (arith, compared_short c.args.bytes.now c.args.at c.args.string.now)
 
-pub returns-in-Equal : goal.returns-in-Equal
-returns-in-Equal c = grind (arith, compared_at c.args.bytes.now c.args.at c.args.string.now)
-
-pub returns-in_default : goal.returns-in_default
-returns-in_default c = grind (arith, compared_at c.args.bytes.now c.args.at c.args.string.now)
+pub returns : goal.returns
+returns c = grind (arith, compared_at c.args.bytes.now c.args.at c.args.string.now)

@@ -6,8 +6,7 @@ pub loop-piece-init : goal.loop-piece-init
 loop-piece-init c = (search rules, tt, search rules)
 
 pub loop-piece-preserved : goal.loop-piece-preserved
-loop-piece-preserved c =
-    (search rules, tt, grind (arith, append_assoc, c.in-Some.ensures.steps))
+loop-piece-preserved c = (search rules, tt, grind (arith, append_assoc, c.in-Some.ensures.steps))
 
 pub returns : goal.returns
 returns c =

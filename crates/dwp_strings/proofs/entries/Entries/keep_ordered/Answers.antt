@@ -1,6 +1,6 @@
 use Rattle.dwp_strings.proofs.Terms.{refl, sym, ◌∙◌}
-use Rattle.dwp_strings.proofs.HashedLemmas.{absent_there, carried_among, hashed_kept, inserted_or}
-use Rattle.dwp_strings.proofs.HashedLemmas.{known_place_in, offset_there}
+use Rattle.dwp_strings.proofs.HashedLemmas.{carried_among, hashed_kept, inserted_or}
+use Rattle.dwp_strings.proofs.HashedLemmas.{known_offset_in, offset_there}
 use Rattle.dwp_strings.proofs.Named.{string_was}
 use Rattle.dwp_strings.proofs.entries.Entries.keep_ordered.Goals as goal
 
@@ -12,7 +12,8 @@ returns-in-Ok-place-clause-there c = λ begins.
     let found = rw (c.in-Ok-place.is, c.as_slice-bytes.ensures.value) at c.search.ensures.found in
     let among = rw c.in-Ok-place.is at c.search.ensures.there in
     let is = rw c.as_slice-bytes.ensures.value at (string_was _ _ _ c.in-Ok.ensures.meaning) in
-    let known = known_place_in e.bytes s c.args.place table.ended table.distinct begins is in
+    let there = offset_there e.bytes c.args.place begins in
+    let known = known_offset_in e.bytes s c.args.place table.ended table.distinct there is in
     rw (found.1 ∙ sym known.1) at among
 
 pub returns-in-Err-clause-table : goal.returns-in-Err-clause-table
@@ -20,8 +21,7 @@ returns-in-Err-clause-table c =
     let e = c.args.self.now in
     let table = c.requires.table in
     let s = c.in-Ok.string.now in
-    let stands = absent_there e.bytes _ e.ordered s c.in-Err.rank c.search.result.place
-    c.as_slice-bytes.ensures.value c.in-Err.is c.search.ensures.absent in
+    let stands = rw (c.in-Err.is, c.as_slice-bytes.ensures.value) at c.search.ensures.absent in
     let is = rw c.as_slice-bytes.ensures.value at (string_was _ _ _ c.in-Ok.ensures.meaning) in
     let begins = rw c.as_slice-bytes.ensures.value at (c.begins_at.ensures.0
     c.if-not-begins_at.false) in

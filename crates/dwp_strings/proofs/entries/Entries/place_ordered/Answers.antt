@@ -1,6 +1,6 @@
 use Rattle.dwp_strings.proofs.Terms.{arith, held, inr, insert, refl, rules, ◌+◌, ◌≡◌}
-use Rattle.dwp_strings.proofs.HashedLemmas.{absent_there, added, among_more, among_one}
-use Rattle.dwp_strings.proofs.HashedLemmas.{carried_among, indexed_both, unordered, used_found}
+use Rattle.dwp_strings.proofs.HashedLemmas.{added, among_more, among_one, carried_among}
+use Rattle.dwp_strings.proofs.HashedLemmas.{indexed_both, unordered, used_found}
 use Rattle.dwp_strings.proofs.entries.Entries.place_ordered.Goals as goal
 
 pub returns-in-Ok-clause-placed : goal.returns-in-Ok-clause-placed
@@ -15,8 +15,7 @@ returns c =
     let s = c.args.string.now in
     let table = c.requires.table in
     let long = c.len-place.ensures.value in
-    let stands = absent_there e.bytes _ e.ordered s c.in-Err.rank c.search.result.place
-    c.as_slice.ensures.value c.in-Err.is c.search.ensures.absent in
+    let stands = rw (c.in-Err.is, c.as_slice.ensures.value) at c.search.ensures.absent in
     let absent = unordered e table s c.args.hash c.requires.hashed _ c.requires.ordered stands in
     let inserted : c.insert.new.self ≡ insert e.ordered c.in-Err.rank c.len-place.result =
     grind (arith, c.insert.ensures.ok) in

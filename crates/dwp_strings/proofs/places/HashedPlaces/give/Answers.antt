@@ -1,9 +1,6 @@
-use Rattle.dwp_strings.proofs.Terms.{Slot, ap, arith, free, get_or_read, place_of, ◌∙◌}
+use Rattle.dwp_strings.proofs.Terms.{Slot, ap, free, get_or_read, place_of, ◌∙◌}
 use Rattle.dwp_strings.proofs.PlacesLemmas.{given_of, others_from, slot_within}
 use Rattle.dwp_strings.proofs.places.HashedPlaces.give.Goals as goal
-
-pub index_mut-requires : goal.index_mut-requires
-index_mut-requires c = grind (arith, slot_within)
 
 pub returns-in-Ok-clause-given : goal.returns-in-Ok-clause-given
 returns-in-Ok-clause-given c = λ n is.

@@ -1,9 +1,6 @@
-use Rattle.dwp_strings.proofs.Terms.{Slot, Some, ap, arith, free, get_or_read, sym, ◌-◌, ◌∙◌}
+use Rattle.dwp_strings.proofs.Terms.{Slot, Some, ap, free, get_or_read, sym, ◌-◌, ◌∙◌}
 use Rattle.dwp_strings.proofs.PlacesLemmas.{found_of, slot_within}
 use Rattle.dwp_strings.proofs.places.HashedPlaces.seek.Goals as goal
-
-pub index-requires : goal.index-requires
-index-requires c = grind (arith, slot_within)
 
 pub returns-clause-found : goal.returns-clause-found
 returns-clause-found c =

@@ -1,5 +1,5 @@
-use Rattle.dwp_strings.proofs.Terms.{arith, concat, elements, get_or, get_or_read, length, pieces}
-use Rattle.dwp_strings.proofs.Terms.{sym, ◌-◌, ◌<◌, ◌∙◌, ◌≡◌}
+use Rattle.dwp_strings.proofs.Terms.{arith, concat, get_or, get_or_read, length, pieces, sym, ◌-◌}
+use Rattle.dwp_strings.proofs.Terms.{◌<◌, ◌∙◌, ◌≡◌}
 use Rattle.dwp_strings.proofs.ChunkLemmas.{counts, first_start, length-starts_from, piece_read}
 use Rattle.dwp_strings.proofs.ChunkLemmas.{placed, some_piece}
 use Rattle.dwp_strings.proofs.positions.Positions.get_near.Goals.{After-index}
@@ -32,6 +32,3 @@ pub returns : goal.returns
 returns c =
     let found = found (goal.at.returns c).After-index in
     rw (← c.self.view_is) (get_or_read _ _ _ found.0 c.index-2.ensures 0 ∙ sym found.1)
-
-pub overflow_sub-rank : goal.overflow_sub-rank
-overflow_sub-rank c = grind (arith, elements)

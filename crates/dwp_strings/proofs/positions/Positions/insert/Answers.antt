@@ -1,6 +1,6 @@
-use Rattle.dwp_strings.proofs.Terms.{IsChunked, ap, arith, common_steps, concat, elements}
-use Rattle.dwp_strings.proofs.Terms.{get_or_default, get_or_read, insert, length, pieces, sym}
-use Rattle.dwp_strings.proofs.Terms.{with_items_is, ◌+◌, ◌∙◌, ◌≡◌}
+use Rattle.dwp_strings.proofs.Terms.{IsChunked, ap, arith, common_steps, concat, get_or_default}
+use Rattle.dwp_strings.proofs.Terms.{get_or_read, insert, length, pieces, sym, with_items_is, ◌+◌}
+use Rattle.dwp_strings.proofs.Terms.{◌∙◌, ◌≡◌}
 use Rattle.dwp_strings.proofs.ChunkLemmas.{chunk_inserted, length-starts_from, placed, raised}
 use Rattle.dwp_strings.proofs.ChunkLemmas.{start_within}
 use Rattle.dwp_strings.proofs.positions.Positions.insert.Goals.{After-raise}
@@ -22,10 +22,9 @@ inserted : (c : goal.After-raise) → (concat (pieces c.put.new.chunks.items)
     ≡ insert (concat (pieces c.room_at.new.chunks.items)) c.args.rank c.args.position)
     × IsChunked (pieces c.put.new.chunks.items) c.raise.new.starts (c.self.inside.len + 1)
 inserted c =
-    let whole = ap length (c.in_ok-at.ensures.same ∙ c.self.view_is) in
     chunk_inserted _ c.room_at.new.starts.items _ _ _ c.in_ok-at.ensures.begun
     c.in_ok-at.ensures.at (get_or_read _ _ _ c.in_ok-at.ensures.at.there c.index.ensures 0)
-    (omega (arith, whole)) _ _ _ _
+    (omega (arith, ap length (c.in_ok-at.ensures.same ∙ c.self.view_is))) _ _ _ _
     (c.self.invariant.counted ∙ ap length (sym c.in_ok-at.ensures.same)) c.in_ok-put.ensures.ok
     (c.raise.ensures ∙ ap (raised (c.in_ok-at.at + 1)) c.deref_mut.ensures.value)
     c.in_ok-at.ensures.short c.in_ok-at.ensures.room
@@ -39,6 +38,3 @@ pub returns-clause-ok : goal.returns-clause-ok
 returns-clause-ok c =
     (inserted (goal.at.returns-clause-ok c).After-raise).0 ∙ ap (λ l.
     insert l c.args.rank c.args.position) (c.in_ok-at.ensures.same ∙ c.self.view_is)
-
-pub overflow_sub-place : goal.overflow_sub-place
-overflow_sub-place c = grind (arith, elements)

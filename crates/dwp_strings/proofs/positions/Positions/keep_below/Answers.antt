@@ -1,9 +1,6 @@
-use Rattle.dwp_strings.proofs.Terms.{arith, elements}
+use Rattle.dwp_strings.proofs.Terms.{arith}
 use Rattle.dwp_strings.proofs.ChunkLemmas.{concat-filter}
 use Rattle.dwp_strings.proofs.positions.Positions.keep_below.Goals as goal
 
 pub returns : goal.returns
 returns c = grind (arith, concat-filter, c.self.view_is, c.keep_all-self-inside.ensures.kept)
-
-pub invariant_of-self : goal.invariant_of-self
-invariant_of-self c = grind (arith, elements)

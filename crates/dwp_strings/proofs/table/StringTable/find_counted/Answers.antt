@@ -1,7 +1,7 @@
 use Rattle.dwp_strings.proofs.Terms.{All-contains, Contains, IsZeroFree, arith, false, false≢true}
 use Rattle.dwp_strings.proofs.Terms.{held, offset_of, refl, sym, true, ◌↔◌, ◌∙◌, ◌≡◌}
-use Rattle.dwp_strings.proofs.HashedLemmas.{absent_there, known_place_in, misplaced, positions_few}
-use Rattle.dwp_strings.proofs.HashedLemmas.{unordered, unplaced}
+use Rattle.dwp_strings.proofs.HashedLemmas.{known_offset_in, misplaced, offset_there}
+use Rattle.dwp_strings.proofs.HashedLemmas.{positions_few, unordered, unplaced}
 use Rattle.dwp_strings.proofs.Named.{zero_free-strings_in, zero_within}
 use Rattle.dwp_strings.proofs.table.StringTable.find_counted.Goals as goal
 
@@ -27,11 +27,9 @@ returns-in-Err-place-clause-count c = λ k few.
 
 pub returns-in-Err-place-clause-found : goal.returns-in-Err-place-clause-found
 returns-in-Err-place-clause-found c =
-    let e = c.self.inside.entries in
-    let stands = absent_there e.bytes _ e.ordered c.args.string.now _
-    c.search-found.result.place c.as_slice.ensures.value c.in-Err-place.is
-    c.search-found.ensures.absent in
-    rw (← c.self.view_is) (is_absent (unordered e c.self.invariant c.args.string.now c.hash.result
+    let absent = c.search-found.ensures.absent in
+    let stands = rw (c.in-Err-place.is, c.as_slice.ensures.value) at absent in
+    rw (← c.self.view_is) (is_absent (unordered _ c.self.invariant c.args.string.now c.hash.result
     c.hash.ensures _ (grind (arith, c.match-seek.branch)) stands))
 
 -- the string stands where its hash says
@@ -40,7 +38,7 @@ known : (c : goal.Then-stands_at) → Contains (held c.self.inside.entries) c.ar
 known c =
     let here = rw c.as_slice-2.ensures.value at (c.stands_at.ensures.0 c.if-stands_at.true) in
     let table = c.self.invariant.findable.indexed in
-    known_place_in _ _ _ table.ended table.distinct here.0 here.1
+    known_offset_in _ _ _ table.ended table.distinct (offset_there _ _ here.0) here.1
 
 pub returns-then-stands_at-clause-found : goal.returns-then-stands_at-clause-found
 returns-then-stands_at-clause-found c = rw (← c.self.view_is) (λ _. (known c).0, λ _. refl)

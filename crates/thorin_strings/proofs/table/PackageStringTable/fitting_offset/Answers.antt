@@ -1,5 +1,4 @@
 use Rattle.thorin_strings.proofs.Terms.{arith, err_from_is_err_and, fitting_read, offset_read}
-use Rattle.thorin_strings.proofs.RemapLemmas.{read_fitting, read_large}
 use Rattle.thorin_strings.proofs.table.PackageStringTable.fitting_offset.Goals as goal
 
 pub returns-in_err-offset-clause-meaning : goal.returns-in_err-offset-clause-meaning
@@ -7,10 +6,3 @@ unfolding fitting_read offset_read
 returns-in_err-offset-clause-meaning c =
     let was = err_from_is_err_and c.from_residual.result c.from_residual.ensures.1 in
     rw (was.1, was.2) (λ other. let read = c.in_err-offset.ensures.meaning other in grind arith)
-
-pub returns-clause-meaning : goal.returns-clause-meaning
-returns-clause-meaning c = grind (arith, read_fitting)
-
-pub returns-then-offset_limit-offset-clause-meaning :
-    goal.returns-then-offset_limit-offset-clause-meaning
-returns-then-offset_limit-offset-clause-meaning c = grind (arith, read_large)

@@ -1,4 +1,4 @@
-use Rattle.thorin_strings.proofs.Terms.{arith, drop, length, offset_within, refl, take, ◌-◌}
+use Rattle.thorin_strings.proofs.Terms.{arith, offset_within, refl}
 use Rattle.thorin_strings.proofs.RemapLemmas.{ended_read, read_used}
 use Rattle.thorin_strings.proofs.table.PackageStringTable.placed.Goals.{else-is_near+in_ok-end-2}
 use Rattle.thorin_strings.proofs.table.PackageStringTable.placed.Goals.{then-is_near+in_ok-end}
@@ -6,9 +6,7 @@ use Rattle.thorin_strings.proofs.table.PackageStringTable.placed.Goals as goal
 
 pub place-requires : goal.place-requires
 place-requires c =
-    let section = c.args.debug_str.now in
-    let rest = take (length section - c.args.named) (drop c.args.named section) in
-    (ended_read section rest c.args.named c.if-is_near.end (omega arith) refl
+    (ended_read c.args.debug_str.now _ c.args.named c.if-is_near.end (omega arith) refl
     (elim c.if-is_near.branch [
       | then-is_near+in_ok-end w ↦ rw w.end-is w.in_ok-end.ensures.some
       | else-is_near+in_ok-end-2 w ↦ rw w.end-is w.in_ok-end-2.ensures.some
@@ -16,9 +14,7 @@ place-requires c =
 
 pub returns-clause-meaning : goal.returns-clause-meaning
 returns-clause-meaning c =
-    let section = c.args.debug_str.now in
-    let rest = take (length section - c.args.named) (drop c.args.named section) in
-    let read = ended_read section rest c.args.named c.if-is_near.end (omega arith) refl
+    let read = ended_read c.args.debug_str.now _ c.args.named c.if-is_near.end (omega arith) refl
     (elim c.if-is_near.branch [
       | then-is_near+in_ok-end w ↦ rw w.end-is w.in_ok-end.ensures.some
       | else-is_near+in_ok-end-2 w ↦ rw w.end-is w.in_ok-end-2.ensures.some

@@ -1,6 +1,6 @@
 use Rattle.thorin_strings.proofs.Terms
-use Terms.{AreKnown, Ok, [], append-nil, arith, elements, err_from_is_err_and, length, refl}
-use Terms.{remapped_entries, remapped_entry, sym, take, take_all, ◌∙◌, ◌≡◌}
+use Terms.{AreKnown, Ok, [], append-nil, arith, err_from_is_err_and, length, refl, remapped_entries}
+use Terms.{remapped_entry, sym, take, take_all, ◌∙◌, ◌≡◌}
 use Rattle.thorin_strings.proofs.RemapLemmas.{entry_absent, entry_is, entry_was, kept_more}
 use Rattle.thorin_strings.proofs.RemapLemmas.{read_fitting, remapped_refuses, rewritten_more}
 use Rattle.thorin_strings.proofs.table.PackageStringTable.remapped.Goals as goal
@@ -59,16 +59,3 @@ loop-index-preserved c =
           c.in_ok-push_offset.ensures;
       known = now.2;
     }
-
-pub returns-in_err-out-clause-kept : goal.returns-in_err-out-clause-kept
-returns-in_err-out-clause-kept c = grind (arith, elements)
-
-pub returns-in_err-reserve-clause-kept : goal.returns-in_err-reserve-clause-kept
-returns-in_err-reserve-clause-kept c = grind (arith, elements)
-
-pub returns-in_err-offset-in-None-offset_told-clause-kept :
-    goal.returns-in_err-offset-in-None-offset_told-clause-kept
-returns-in_err-offset-in-None-offset_told-clause-kept c = grind (arith, elements)
-
-pub returns-in_err-push_offset-clause-kept : goal.returns-in_err-push_offset-clause-kept
-returns-in_err-push_offset-clause-kept c = grind (arith, elements)

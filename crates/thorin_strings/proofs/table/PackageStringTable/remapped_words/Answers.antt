@@ -1,8 +1,8 @@
 use Rattle.thorin_strings.proofs.Terms
-use Terms.{AreKnown, AreWritten, Little, Ok, [], ap, append-nil, arith, elements}
-use Terms.{err_from_is_err_and, header_size, length, length-append, length-drop, length-take}
-use Terms.{offset_size, refl, remapped_entries, remapped_entry}
-use Terms.{rules, sym, take, take_all, with_items, with_items_is, ◌*◌, ◌+◌, ◌<◌, ◌∙◌, ◌≡◌, ◌≤◌}
+use Terms.{AreKnown, AreWritten, Little, Ok, [], ap, append-nil, arith, err_from_is_err_and}
+use Terms.{header_size, length, length-append, length-drop, length-take, offset_size, refl}
+use Terms.{remapped_entries, remapped_entry, rules, sym, take, take_all, with_items, with_items_is}
+use Terms.{◌*◌, ◌+◌, ◌<◌, ◌∙◌, ◌≡◌, ◌≤◌}
 use Rattle.thorin_strings.proofs.NamedEntries.{header_long}
 use Rattle.thorin_strings.proofs.RemapLemmas.{are_known_later, entry_is, kept_more, one_written}
 use Rattle.thorin_strings.proofs.RemapLemmas.{read_fitting, remapped_refuses}
@@ -83,8 +83,7 @@ loop-index-preserved c =
     let before = c.write_told-index.new.self in
     let new = c.match-other_offset.self in
     let is = entry_is Little range.encoding range.strings.now range.offsets.now
-    c.write_told-index.result c.word_at-named.result before
-    (rw same at c.word_at-named.ensures) in
+    c.write_told-index.result c.word_at-named.result before (rw same at c.word_at-named.ensures) in
     let now : (remapped_entry Little range.encoding range.strings.now range.offsets.now
     c.write_told-index.result before ≡ Ok (c.match-other_offset.offset, new))
     × (take (length before) new ≡ before)
@@ -106,12 +105,3 @@ loop-index-preserved c =
       long = long_now ∙ old.ok.0 ∙ c.loop-index.invariant.long;
       known = now.2;
     })
-
-pub returns-in_err-out-clause-kept : goal.returns-in_err-out-clause-kept
-returns-in_err-out-clause-kept c = grind (arith, elements)
-
-pub returns-in_err-append_by_pieces-clause-kept : goal.returns-in_err-append_by_pieces-clause-kept
-returns-in_err-append_by_pieces-clause-kept c = grind (arith, elements)
-
-pub returns-in_err-offset-in-None-clause-kept : goal.returns-in_err-offset-in-None-clause-kept
-returns-in_err-offset-in-None-clause-kept c = grind (arith, elements)

@@ -1,23 +1,18 @@
-use Rattle.thorin_strings.proofs.Terms.{Little, arith, elements, ◌∙◌}
-use Rattle.thorin_strings.proofs.RemapLemmas.{entry_read, fits_word, kept_more, one_written}
+use Rattle.thorin_strings.proofs.Terms.{Little, arith}
+use Rattle.thorin_strings.proofs.RemapLemmas.{entry_read, kept_more, one_written}
 use Rattle.thorin_strings.proofs.table.PackageStringTable.write_told.Goals as goal
 
 pub loop-index-preserved : goal.loop-index-preserved
 loop-index-preserved c = record {
   further = omega (arith, c.loop-index.invariant.further);
   within = omega arith;
-  long = c.write_word.ensures.long ∙ c.loop-index.invariant.long;
   read = c.word_at-after.ensures;
   told = λ old front so_far. one_written c.args.range.now.encoding c.requires.form
       c.args.range.now.strings.now c.args.range.now.offsets.now _ c.loop-index.index _
       front old c.loop-index.self c.guessed_offset.new.self c.loop-index.out _
       (omega (arith, c.string_offsets_header_size-first.ensures))
       (entry_read Little _ _ _ _ _ _ _ _ c.loop-index.invariant.read c.in-Some.ensures.meaning
-      (fits_word c.args.range.now.encoding c.requires.form _
-      (omega (arith, c.in-Some.ensures.fits))))
+      (rw c.requires.form (omega (arith, c.in-Some.ensures.fits))))
       c.write_word.ensures.written (c.loop-index.invariant.told old front so_far);
   kept = kept_more _ _ _ c.loop-index.invariant.kept c.guessed_offset.ensures.kept;
 }
-
-pub loop-index-init : goal.loop-index-init
-loop-index-init c = grind (arith, elements)

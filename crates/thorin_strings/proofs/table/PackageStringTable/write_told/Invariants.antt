@@ -6,13 +6,10 @@ abbrev pub invariant-loop-index : goal.invariant-loop-index
 invariant-loop-index l = record {
   further : l.from ≤ l.index;
   within : l.index ≤ l.last;
-  long : length l.out ≡ length l.initial.out;
   read : entry_at Little l.encoding l.offsets l.index ≡ Ok l.named;
   told : (old : List (List ℕ)) (front : List ℕ)
-      → AreWritten l.encoding l.strings l.offsets l.from front old
-      l.initial.self l.initial.out
-      → AreWritten l.encoding l.strings l.offsets l.index front old l.self
-      l.out;
+      → AreWritten l.encoding l.strings l.offsets l.from front old l.initial.self l.initial.out
+      → AreWritten l.encoding l.strings l.offsets l.index front old l.self l.out;
   kept : take (length l.initial.self) l.self ≡ l.initial.self;
 }
 
