@@ -1,8 +1,7 @@
 -- The beginning of a name is read from the beginning of the bytes that it stands in.
 use Rattle.std.proofs.Common.{◌≡◌, ◌∙◌, ℕ, zero, suc, ◌+◌, ◌-◌, ◌<◌, ◌≤◌, ◌==◌, Bool, false}
 use Rattle.std.proofs.Common.{List, [], ◌∷◌, length, take, ap, sym, refl, arith, take_all, nat_le}
-use Rattle.std.proofs.Common.{take-take}
-use Rattle.std.proofs.Common.{length-take-le, slice_index}
+use Rattle.std.proofs.Common.{take-take, length-take-le, slice_index}
 use Rattle.std.proofs.lemmas.Bool.Decides.{nat_tests}
 use Rattle.std.specs.List.{before_first, position_or_len}
 use Rattle.dwp_base.proofs.Bools.{by-bool}

@@ -24,6 +24,7 @@ fn is_blank(bytes: &[u8]) -> bool
 }
 
 /// The number that digits write, with blanks behind them.
+#[tactic(auto, using(crate::proofs::Decimals::decimal_end))]
 fn decimal(field: &[u8]) -> Option<u64>
     requires { length field.now ≤ 16 }
     ensures { result ≡ decimal field.now }
@@ -69,8 +70,7 @@ fn size_at(bytes: &[u8]) -> Result<usize, ArchiveError>
     Ok(size as usize)
 }
 
-/// What an entry is: the table of names from there on, the member if it is one, and the bytes
-/// behind.
+/// What an entry is: the table of names from there on, its member, if any, and the bytes behind.
 #[derive(Clone, Copy)]
 struct Entry<'a> {
     names: &'a [u8],

@@ -2,7 +2,8 @@
 use Rattle.std.proofs.Common.{◌≡◌, ℕ, ◌+◌, ◌<◌, ◌≤◌, true, false, List, ◌++◌, length, take, drop}
 use Rattle.std.proofs.Common.{get_or, Some, Option, Ok, Err, sym, ap, ◌∙◌, refl, [], ◌∷◌, Result}
 use Rattle.std.proofs.Common.{append_assoc, append-nil, slice_get, option_map, codes}
-use Rattle.std.proofs.Common.{take-append-drop, ap₂}
+use Rattle.std.proofs.Common.{take-append-drop, ap₂, Bool}
+use Rattle.std.specs.List.{list_any}
 use Rattle.std.specs.Global.{Vec}
 use Rattle.std.proofs.lemmas.List.{drop_all, drop_more, map-append}
 use Rattle.std.proofs.lemmas.Option.{slice_get-map, slice_get_read, slice_get_within}
@@ -24,6 +25,15 @@ pub drop_step : {X : Type 0} (xs : List X) (i : ℕ) (x : X) → slice_get xs i 
     → drop i xs ≡ x ∷ drop (i + 1) xs
 drop_step xs i x e = drop_more xs i x (slice_get_within xs i x e)
     ∙ ap (λ y. y ∷ drop (i + 1) xs) (get_or_from_slice_get xs i x x e)
+
+-- one of them passes; another doesn't
+pub any_hit : {X : Type 0} (p : X → Bool) (xs : List X) (i : ℕ) (x : X) → slice_get xs i ≡ Some x
+    → p x ≡ true → list_any p (drop i xs) ≡ true
+any_hit p xs i x at yes = rw (drop_step xs i x at, yes) refl
+
+pub any_miss : {X : Type 0} (p : X → Bool) (xs : List X) (i : ℕ) (x : X) → slice_get xs i ≡ Some x
+    → p x ≡ false → list_any p (drop i xs) ≡ list_any p (drop (i + 1) xs)
+any_miss p xs i x at no = rw (drop_step xs i x at, no) refl
 
 abbrev pub Contents : Type 0
 Contents = List (Option (List ℕ))
@@ -65,13 +75,14 @@ module _ (asked : Asked) (class : Class) (order : Endianness) (sections : List S
   contents_end h = rw (drop_all i sections h, append-nil front) refl
 
 -- names that are added
-pub names_step : (asked : Asked) (sections : List SectionMeaning) (i : ℕ) (front : List ℕ)
+pub names_step : (asked : Asked) (sections : List SectionMeaning) (i : ℕ) (front more : List ℕ)
     (section : SectionMeaning) → slice_get sections i ≡ Some section
-    → front ++ added_names asked (drop i sections)
-    ≡ (front ++ added_name_of asked section) ++ added_names asked (drop (i + 1) sections)
+    → more ≡ front ++ added_name_of asked section
+    → more ++ added_names asked (drop (i + 1) sections)
+    ≡ front ++ added_names asked (drop i sections)
 unfolding added_names
-names_step asked sections i front section at = rw (drop_step sections i section at) (sym
-    (append_assoc front (added_name_of asked section) (added_names asked (drop (i + 1) sections))))
+names_step asked sections i front more section at is = rw (drop_step sections i section at, is)
+    (append_assoc front (added_name_of asked section) (added_names asked (drop (i + 1) sections)))
 
 pub names_end : (asked : Asked) (sections : List SectionMeaning) (i : ℕ) (front : List ℕ)
     → length sections ≤ i → front ++ added_names asked (drop i sections) ≡ front

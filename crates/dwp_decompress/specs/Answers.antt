@@ -7,8 +7,7 @@ use Rattle.dwp_zstd.specs.declared.error.ZstdError.{ZstdError}
 use Rattle.dwp_zstd.specs.declared.error.ZstdError.TheVariants as decoding
 use Rattle.dwp_decompress.specs.declared.error.DecompressError.{DecompressError}
 use Rattle.dwp_decompress.specs.declared.error.DecompressError.TheVariants.{Read, Zlib, Zstd}
-use Rattle.dwp_decompress.specs.declared.error.DecompressError.TheVariants.{Unrepresentable}
-use Rattle.dwp_decompress.specs.declared.error.DecompressError.TheVariants.{Memory}
+use Rattle.dwp_decompress.specs.declared.error.DecompressError.TheVariants.{Unrepresentable, Memory}
 
 -- what a call answered, seen by view, is what the definition says; memory may run out besides
 abbrev pub Gives : {X Y : Type 0} → (X → Y) → Result X DecompressError → Result Y DecompressError

@@ -2,8 +2,7 @@
 -- Attribute Flags"), and by GNU's older convention those whose names begin with `.zdebug_` (GNU
 -- binutils, `--compress-debug-sections=zlib-gnu`).
 use Rattle.std.specs.Prelude.{◌≡◌, ℕ, List, Bool, false, true, Result, Ok, Err, ◌&&◌, ◌||◌, ◌==◌}
-use Rattle.std.specs.Prelude.{not, codes, nat_eq, Option}
-use Rattle.std.specs.Prelude.{Some, None}
+use Rattle.std.specs.Prelude.{not, codes, nat_eq, Option, Some, None}
 use Rattle.std.specs.List.{starts_with, list_any}
 use Rattle.dwp_elf_read.specs.Elf.{Elf, SectionMeaning, SHT_NOBITS, has_compressed_flag}
 use Rattle.dwp_elf_read.specs.declared.error.ReadError.{ReadError}

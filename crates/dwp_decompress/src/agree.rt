@@ -1,10 +1,10 @@
 //! Whether a file means what the decompressed one is to mean.
 
-ghost use Rattle.std.specs.Prelude.{◌≡◌, ◌++◌, ◌<◌, codes, take, drop, IsTrue, option_map, length};
+ghost use Rattle.std.specs.Prelude.{◌≡◌, ◌++◌, ◌<◌, codes, take, drop, IsTrue, option_map};
 ghost use Rattle.dwp_elf_read.specs.View as view;
 ghost use Rattle.dwp_elf_read.specs.View.{elf};
 ghost use Rattle.dwp_decompress.specs.Names.{plain_name};
-ghost use Rattle.dwp_decompress.specs.Result.{with_plain, with_names, result_section};
+ghost use Rattle.dwp_decompress.specs.Result.{result_section};
 ghost use Rattle.dwp_decompress.specs.Agreement.{expected_file};
 
 use crate::asked::is_older;
@@ -71,44 +71,31 @@ fn grown_content(old: &Section<'_>, new: &Section<'_>, added: &[u8]) -> bool
     }
 }
 
-/// Whether a section is another with its plain content.
-#[tactic(auto, unfolding(crate::specs::Result::with_plain, crate::specs::Result::plain_flags), using(dwp_elf_read::proofs::Compared::is_own))]
-fn is_plain(old: &Section<'_>, new: &Section<'_>, plain: &[u8]) -> bool
-    ensures { IsTrue result
-        → view.section new.now ≡ with_plain (view.section old.now) plain.now }
-{
-    new.has_numbers_of(old)
-        && plain_name(old, new)
-        && new.flags() == old.flags() & 0xffff_ffff_ffff_f7ff
-        && new.size() == plain.len() as u64
-        && new.has_content(plain)
-}
-
-/// Whether a section is another with names added.
-#[tactic(auto, unfolding(crate::specs::Result::with_names), using(dwp_elf_read::proofs::Compared::is_own))]
-fn has_names(old: &Section<'_>, new: &Section<'_>, added: &[u8]) -> bool
-    ensures { IsTrue result
-        → view.section new.now ≡ with_names (view.section old.now) added.now }
-{
-    new.has_numbers_of(old)
-        && new.has_name_of(old)
-        && new.flags() == old.flags()
-        && new.size() >= old.size()
-        && new.size() - old.size() == added.len() as u64
-        && grown_content(old, new, added)
-}
-
 impl<'a> Expected<'a> {
-    /// Whether a section is what another is to become.
-    #[tactic(auto, unfolding(crate::specs::Result::result_section))]
+    /// Whether a section is what another is to become: it with its plain content, with names added,
+    /// or as it is.
+    #[tactic(auto, unfolding(crate::specs::Result::result_section, crate::specs::Result::with_plain, crate::specs::Result::plain_flags, crate::specs::Result::with_names), using(dwp_elf_read::proofs::Compared::is_own))]
     fn is_result(&self, old: &Section<'_>, new: &Section<'_>, plain: &Option<Vec<u8>>) -> bool
         ensures { IsTrue result → view.section new.now
             ≡ result_section self.now.names self.now.added.now (view.section old.now)
             (option_map (λ plain. plain.items) plain.now) }
     {
         match plain {
-            Some(plain) => is_plain(old, new, plain.as_slice()),
-            None if old.number() == self.names => has_names(old, new, self.added),
+            Some(plain) => {
+                new.has_numbers_of(old)
+                    && plain_name(old, new)
+                    && new.flags() == old.flags() & 0xffff_ffff_ffff_f7ff
+                    && new.size() == plain.len() as u64
+                    && new.has_content(plain.as_slice())
+            }
+            None if old.number() == self.names => {
+                new.has_numbers_of(old)
+                    && new.has_name_of(old)
+                    && new.flags() == old.flags()
+                    && new.size() >= old.size()
+                    && new.size() - old.size() == self.added.len() as u64
+                    && grown_content(old, new, self.added)
+            }
             None => new.is_same(old),
         }
     }

@@ -22,8 +22,7 @@ use crate::stream::contents;
 use dwp_elf_read::ElfFile;
 use std::alloc::Global;
 
-/// The file with these contents, which is to have so many bytes. It is read again, and refused
-/// where it means anything else.
+/// The file with these contents. It is read again, and refused where it means anything else.
 fn written(
     alloc: Global,
     length: u64,

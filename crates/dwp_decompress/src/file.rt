@@ -10,8 +10,7 @@ use dwp_base::Class;
 use dwp_elf_read::{ElfFile, Section};
 use std::alloc::AllocError;
 
-/// Where the next plain content begins in the file, and where the next new name stands in the table
-/// of names.
+/// Where the next plain content begins in the file, and the next new name in the table of names.
 #[derive(Clone, Copy)]
 struct Next {
     content: u64,
@@ -38,9 +37,7 @@ impl<'a> Change<'a> {
     fn set_word(&self, out: &mut [u8], place: usize, x: u64) {
         let order = self.file.endianness();
         match self.file.class() {
-            Class::Elf32 => {
-                set_bytes(out, place, &order.bytes_of_u32(x.min(0xffff_ffff) as u32));
-            }
+            Class::Elf32 => set_bytes(out, place, &order.bytes_of_u32(x.min(0xffff_ffff) as u32)),
             Class::Elf64 => set_bytes(out, place, &order.bytes_of_u64(x)),
         }
     }
@@ -73,12 +70,10 @@ impl<'a> Change<'a> {
                 next.name = next.name.saturating_add(name.len() as u64);
             }
         }
-        if let Ok(content) = section.data() {
-            if section.is_compressed() {
-                if let Some(alignment) = content.get(2 * word..3 * word) {
-                    set_bytes(header, 16 + 4 * word, alignment);
-                }
-            }
+        if section.is_compressed() {
+            let content = section.data().unwrap_or(&[]);
+            let alignment = content.get(2 * word..3 * word).unwrap_or(&[]);
+            set_bytes(header, 16 + 4 * word, alignment);
         }
     }
 
@@ -134,10 +129,8 @@ impl<'a> Change<'a> {
             }
             out.extend_from_slice(self.expected.added)?;
         }
-        let over = out.len() % 8;
-        if over != 0 {
-            out.extend_from_slice([0; 8].split_at(8 - over).0)?;
-        }
+        let fill = (8 - out.len() % 8) % 8;
+        out.extend_from_slice([0; 8].split_at(fill).0)?;
         let table = out.len() as u64;
         self.set_word(out, 24 + 2 * word_size_of(self.file.class()), table);
         self.add_headers(names, out)

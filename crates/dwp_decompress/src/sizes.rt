@@ -27,8 +27,7 @@ use std::alloc::{AllocError, Global};
 /// is read, and compared with what is written.
 const MOST_TIMES: u64 = 16;
 
-/// How many bytes a byte of a file, or of its compressed sections, may bring: as many as zlib
-/// writes at most.
+/// How many bytes a byte of a file, or of its compressed sections, may bring: the most of zlib.
 const MOST_WRITTEN: u64 = 1032;
 
 /// The number of the section that has the names.
@@ -48,7 +47,7 @@ pub fn names_number(bytes: &[u8], file: &ElfFile<'_>) -> Option<usize>
 }
 
 /// Adds the plain name of a section, if that is asked for, compressed, and has an older name.
-#[tactic(auto, unfolding(crate::specs::Names::added_name_of, crate::specs::Names::plain_name))]
+#[tactic(auto, unfolding(crate::specs::Names::added_name_of, crate::specs::Names::plain_name), using(crate::proofs::Sums::older_long))]
 fn add_name_of(asked: Asked, section: &Section<'_>, added: &mut Vec<u8>) -> Result<(), AllocError>
     ensures { OnOk result (added.new.items
         ≡ added.old.items ++ added_name_of asked (view.section section.now)) }
@@ -64,6 +63,7 @@ fn add_name_of(asked: Asked, section: &Section<'_>, added: &mut Vec<u8>) -> Resu
 }
 
 /// The names that the table gets.
+#[tactic(auto, using(crate::proofs::Sections::names_step, crate::proofs::Sections::names_end, dwp_base::proofs::Finds::slice_get_none))]
 pub fn added_names(alloc: Global, asked: Asked, file: &ElfFile<'_>) -> Result<Vec<u8>, AllocError>
     ensures { IfOk result (λ added. added.items ≡ added_names asked (elf file.now).sections) }
 {
@@ -91,8 +91,7 @@ fn reads_more(file: &ElfFile<'_>, table: u64, most: u64) -> bool {
     false
 }
 
-/// How many bytes the plain contents of all sections are said to have together, of a file of that
-/// class and byte order.
+/// How many bytes the plain contents of all sections are said to have together.
 fn told_sizes(
     asked: Asked,
     class: Class,
@@ -120,16 +119,14 @@ fn told_sizes(
 fn added_size(asked: Asked, section: &Section<'_>) -> usize
     ensures { result ≡ length (added_name_of asked (view.section section.now)) }
 {
-    if !is_compressed(asked, section) {
-        return 0;
-    }
     match section.name() {
-        Ok(name) if is_older(name) => name.len(),
+        Ok(name) if is_older(name) && is_compressed(asked, section) => name.len(),
         _ => 0,
     }
 }
 
 /// How many it gets for all of them.
+#[tactic(auto, using(crate::proofs::Sums::added_step, crate::proofs::Sums::added_end))]
 fn added_sizes(asked: Asked, file: &ElfFile<'_>) -> Option<u64>
     ensures { IfSome result (λ size. size
         ≡ length (added_names asked (elf file.now).sections)) }
@@ -155,10 +152,8 @@ pub fn size_of(file: &ElfFile<'_>, number: usize) -> u64
 fn tells_more(asked: Asked, bytes: &[u8], file: &ElfFile<'_>, told: u64) -> bool
     ensures { result ≡ tells_more asked bytes.now (elf file.now) told }
 {
-    if told <= (bytes.len() as u64).saturating_mul(MOST_WRITTEN) {
-        return false;
-    }
-    !have_more(asked, file, (told - 1) / MOST_WRITTEN)
+    told > (bytes.len() as u64).saturating_mul(MOST_WRITTEN)
+        && !have_more(asked, file, (told - 1) / MOST_WRITTEN)
 }
 
 /// How many bytes the file has once there are so many plain ones.
@@ -234,7 +229,7 @@ fn size_in(asked: Asked, section: &Section<'_>) -> u64
 }
 
 /// Whether the compressed sections that are asked for have more bytes than these.
-#[tactic(auto, using(crate::proofs::Sums::size_step, crate::proofs::Sums::size_past, crate::proofs::Sums::size_end))]
+#[tactic(auto, using(crate::proofs::Sums::size_step, crate::proofs::Sums::size_past, crate::proofs::Sums::size_end, dwp_base::proofs::Finds::slice_get_none))]
 fn have_more(asked: Asked, file: &ElfFile<'_>, room: u64) -> bool
     ensures { result ≡ nat_lt room (compressed_size asked (elf file.now).sections) }
 {

@@ -7,10 +7,10 @@ ghost use Rattle.dwp_elf_read.specs.View as view;
 ghost use Rattle.dwp_elf_read.specs.View.{elf};
 ghost use Rattle.dwp_macros.specs.Kept as spec;
 
-use crate::error::MacrosError;
 use dwp_base::{Class, SectionKind};
 use dwp_elf_read::{ElfFile, Section};
-use std::alloc::Global;
+use std::alloc::{AllocError, Global};
+use thiserror::Error;
 
 /// Which of an object's sections `.debug_macro.dwo` count.
 #[derive(Clone, Copy, Debug, PartialEq, Eq, Hash)]
@@ -36,6 +36,24 @@ impl KeptMacros {
     }
 }
 
+/// Why sections of macros can't be emptied.
+#[derive(Clone, Copy, Debug, PartialEq, Eq, Hash, Error)]
+pub enum MacrosError {
+    /// The file would mean something else: one of these sections lies outside of it, or the section
+    /// headers lie in what another section holds.
+    #[error("Sections of macros can't be emptied")]
+    Unrepresentable,
+    /// Memory ran out.
+    #[error("Out of memory")]
+    Memory,
+}
+
+impl From<AllocError> for MacrosError {
+    fn from(_e: AllocError) -> MacrosError {
+        MacrosError::Memory
+    }
+}
+
 /// Whether a section has macros.
 #[tactic(auto, unfolding(crate::specs::Kept::has_macros))]
 fn has_macros(section: &Section<'_>) -> bool
@@ -53,7 +71,7 @@ fn is_index(section: &Section<'_>) -> bool
 }
 
 /// Whether macros of an object go; of a package none do.
-#[tactic(auto, unfolding(crate::specs::Kept::is_changed), using(crate::proofs::Walks::none_lose))]
+#[tactic(auto, unfolding(crate::specs::Kept::is_changed), using(crate::proofs::Walks::none_lose, crate::proofs::Walks::any_end, crate::proofs::Walks::lose_end, dwp_base::proofs::Finds::slice_get_none))]
 fn is_changed(file: &ElfFile<'_>, kept: KeptMacros) -> bool
     ensures { result ≡ spec.is_changed kept (elf file.now).sections }
 {
@@ -95,7 +113,7 @@ fn is_kept(old: &Section<'_>, new: &Section<'_>, go: bool) -> bool
 }
 
 /// Whether a file is what another is to become.
-#[tactic(auto, unfolding(crate::specs::Kept::kept_file), using(dwp_elf_read::proofs::Compared::same_file))]
+#[tactic(auto, unfolding(crate::specs::Kept::kept_file), using(dwp_elf_read::proofs::Compared::same_file, crate::proofs::Walks::any_end, crate::proofs::Walks::kept_end))]
 fn agrees(old: &ElfFile<'_>, new: &ElfFile<'_>, kept: KeptMacros) -> bool
     ensures { IsTrue result → elf new.now ≡ spec.kept_file kept (elf old.now) }
 {

@@ -1,5 +1,5 @@
 -- What is read of a peer's line: its name, and its words with whole names.
-use Rattle.std.proofs.Common.{◌≡◌, ◌∙◌, ◌++◌, ◌==◌, ◌||◌, ap, sym, refl, Bool, true, false, ℕ}
+use Rattle.std.proofs.Common.{◌≡◌, ◌∙◌, ◌++◌, ◌==◌, ap, sym, refl, true, false, ℕ}
 use Rattle.std.proofs.Common.{[], ◌∷◌, Option, Some, None, MatchOption, is_some, arith}
 use Rattle.std.proofs.Common.{◌+◌, ◌<◌, ◌≤◌, ◌≢◌, ap₂, drop, get_or, length, take, take-append-drop}
 use Rattle.std.specs.Borrow.{Bor}
@@ -8,6 +8,7 @@ use Rattle.std.proofs.lemmas.Str.Pattern.{NoCharPasses-char, drop_at_char}
 use Rattle.clap.proofs.CutLemmas.{list_any-Lacks}
 use Rattle.std.specs.Prelude.{if◌then◌else◌, option_map}
 use Rattle.std.specs.List.{list_any}
+use Rattle.std.proofs.lemmas.Bool.{or_parts}
 use Rattle.std.proofs.lemmas.Bool.Decides.{nat_tests}
 use Rattle.clap.specs.Walk.{Text}
 use Rattle.thorin_arguments.specs.Peers.{last_part, last_part_in}
@@ -18,15 +19,11 @@ kept f None = refl
 
 -- ---- the last part of a path
 
-neither : (a b : Bool) → (a || b) ≡ false → (a ≡ false) × (b ≡ false)
-neither true b h = absurd cc
-neither false b h = (refl, h)
-
 pub last_part-none : (mark : ℕ) (part text : Text) → list_any (λ x. x == mark) text ≡ false
     → last_part_in mark part text ≡ part
 last_part-none mark part [] lacks = refl
 last_part-none mark part (b ∷ rest) lacks =
-    let no = neither (b == mark) (list_any (λ x. x == mark) rest) lacks in
+    let no = or_parts (b == mark) (list_any (λ x. x == mark) rest) lacks in
     rw no.0 (last_part-none mark part rest no.1)
 
 pub last_part-behind : (mark : ℕ) (part front rest : Text)

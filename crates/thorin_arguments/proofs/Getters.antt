@@ -4,6 +4,7 @@ use Rattle.std.specs.Prelude.{unwrap_or}
 use Rattle.std.specs.Option.{option_map_or}
 use Rattle.std.specs.Str.{bytes_eq}
 use Rattle.std.specs.Str.Parse.{ParsesBool}
+use Rattle.std.proofs.lemmas.Bool.{false_from_ne_true}
 use Rattle.std.proofs.lemmas.Slice.Eq.{bytes_eq-Decides}
 use Rattle.clap.specs.Matches.{ReadsOne, one_text}
 use Rattle.clap.specs.Walk.{Text, rows_of}
@@ -18,11 +19,8 @@ by_text : (E : Type 0) (t : Text) (r : Option Bool) → ReadsOne {T = Bool} {E =
     → unwrap_or r false ≡ is_true t
 by_text E t (Some true) h = rw h refl
 by_text E t (Some false) h = rw h refl
-by_text E t None h = go (is_true t) refl
-  where
-    go : (b : Bool) → is_true t ≡ b → false ≡ is_true t
-    go false e = sym e
-    go true e = absurd (h.1.0 ((bytes_eq-Decides t (codes "true")).0 e))
+by_text E t None h = sym (false_from_ne_true (is_true t)
+    (λ e. h.1.0 ((bytes_eq-Decides t (codes "true")).0 e)))
 
 -- a flag, as it is read as a truth value
 pub flag_read : (E : Type 0) (f : Found) (id : Text) (r : Option Bool)

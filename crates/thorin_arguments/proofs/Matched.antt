@@ -58,16 +58,6 @@ no_text e is = rw is (λ h. elim h [
 
 module _ (named : Option Text) (app : App) (is : IsLine named app) (line words : List Text)
     (are : AreReadAs named line words) where
-  matched : (m : ArgMatches) → fault_of app words ≡ [] → HasMatchesOf app words m
-      → AreMatchesOf named line (rows_of (found_of m)) (subcommand_rows_of m)
-  matched m none h = record {
-    app = app;
-    line = is;
-    taken = ap (fault_of app) (are app is) ∙ none;
-    rows_are = (h (simple named app is)).0 ∙ ap (matches_of app) (sym (are app is));
-    command_is = (h (simple named app is)).1 ∙ ap (subcommand_of app) (sym (are app is));
-  }
-
   -- matches that are tested
   pub read : (m : ArgMatches)
       → (is_simple_and_free app ≡ true → fault_of app words ≡ []) → HasMatchesOf app words m
@@ -82,24 +72,28 @@ module _ (named : Option Text) (app : App) (is : IsLine named app) (line words :
   )
     where
       fine : AreMatchesOf named line (rows_of (found_of m)) (subcommand_rows_of m)
-      fine = matched m (none (free named app is)) h
+      fine = record {
+        app = app;
+        line = is;
+        taken = ap (fault_of app) (are app is) ∙ none (free named app is);
+        rows_are = (h (simple named app is)).0 ∙ ap (matches_of app) (sym (are app is));
+        command_is = (h (simple named app is)).1 ∙ ap (subcommand_of app) (sym (are app is));
+      }
 
   -- words that weren't read
   pub unread : (e : Error) → (is_simple_and_free app ≡ true → HasKind (fault_of app words) e)
       → IsUnread named line e
   unread e h = elim (h (free named app is)) [
     | inl k ↦ inl k
-    | inr among ↦ go among (is_text (kind_of e))
+    | inr among ↦ (
+        let own : IsAmong (kind_of e) (fault_of app (read_words named app line)) =
+        rw (are app is) among in
+        elim (is_text (kind_of e)) [
+          | inl t ↦ inr (inl (t, (app, is, kind_of e, own, t)))
+          | inr t ↦ inr (inr (t, inl (app, is, kind_of e, own, t)))
+        ]
+        )
   ]
-    where
-      among_own : IsAmong (kind_of e) (fault_of app words)
-          → IsAmong (kind_of e) (fault_of app (read_words named app line))
-      among_own among = rw (are app is) among
-
-      go : IsAmong (kind_of e) (fault_of app words) → IsText (kind_of e) ⊎ (¬ IsText (kind_of e))
-          → IsUnread named line e
-      go among (inl t) = inr (inl (t, (app, is, kind_of e, among_own among, t)))
-      go among (inr t) = inr (inr (t, inl (app, is, kind_of e, among_own among, t)))
 
 -- which errors are of a text that is asked for, by where they are printed
 pub by_stream : (b : Bool) (k : ErrorKind)

@@ -1,6 +1,6 @@
 -- What building a command line keeps of its words, in clap's terms.
-use Rattle.std.proofs.Common.{◌≡◌, ◌∙◌, ◌&&◌, ◌++◌, ap, sym, refl, Bool, true, false, List, [], ◌∷◌}
-use Rattle.std.proofs.Common.{ap₂, drop, is_some, length, map, not, take, ℕ, ◌+◌, ◌<◌}
+use Rattle.std.proofs.Common.{◌≡◌, ◌∙◌, ◌++◌, ap, sym, refl, Bool, true, false, List, [], ◌∷◌, ap₂}
+use Rattle.std.proofs.Common.{drop, length, map, take, ℕ, ◌+◌, ◌<◌}
 use Rattle.std.specs.Borrow.{Bor}
 use Rattle.std.specs.Prelude.{codes, filter_map, fold}
 use Rattle.std.proofs.Math.ListN.{get_or}
@@ -9,7 +9,7 @@ use Rattle.std.proofs.lemmas.List.Sums.{fold-append}
 use Rattle.clap.specs.Words.{AddsArg, AddsSubcommand}
 use Rattle.clap.specs.Simple.{new_shape}
 use Rattle.clap.specs.Words.{App, Shape, app_of, rule_of, with_rule, with_subcommand}
-use Rattle.clap.specs.Walk.{Rule, Text, is_empty, texts}
+use Rattle.clap.specs.Walk.{Rule, Text, is_simple_arg, texts}
 use Rattle.clap.specs.declared.builder.arg.Arg.{Arg}
 use Rattle.clap.specs.declared.builder.command.Command.{Command}
 use Rattle.clap.proofs.SimpleLemmas.{is_false}
@@ -23,25 +23,19 @@ use Rattle.thorin_arguments.specs.declared.command.Line.{Line}
 use Rattle.thorin_arguments.specs.declared.command.Word.{Word}
 use Rattle.thorin_arguments.specs.declared.command.Word.TheVariants as words
 
-last-of-ten : (a b c d e f g h i j : Bool)
-    → (a && (b && (c && (d && (e && (f && (g && (h && (i && j))))))))) ≡ true → j ≡ true
-last-of-ten a b c d e f g h i j x =
-    let p = both a (b && (c && (d && (e && (f && (g && (h && (i && j)))))))) x in
-    let q = both b (c && (d && (e && (f && (g && (h && (i && j))))))) p.1 in
-    let r = both c (d && (e && (f && (g && (h && (i && j)))))) q.1 in
-    let s = both d (e && (f && (g && (h && (i && j))))) r.1 in
-    let t = both e (f && (g && (h && (i && j)))) s.1 in
-    let u = both f (g && (h && (i && j))) t.1 in
-    let v = both g (h && (i && j)) u.1 in
-    let w = both h (i && j) v.1 in
-    (both i j w.1).1
-
 -- a simple argument isn't global
-local : (x : Arg) → (rule_of x).is_simple ≡ true → x.global ≡ false
-local x e = is_false x.global (last-of-ten (is_empty x.overrides.items)
-    (is_empty x.default_vals_ifs.items) (is_empty x.groups.items) (not (is_some x.val_delim))
-    (not (is_some x.terminator)) (not x.allow_hyphen_values) (not x.allow_negative_numbers)
-    (not x.require_equals) (not x.last) (not x.global) e)
+local : (x : Arg) → is_simple_arg x ≡ true → x.global ≡ false
+local x e =
+    let p = both _ _ e in
+    let q = both _ _ p.1 in
+    let r = both _ _ q.1 in
+    let s = both _ _ r.1 in
+    let t = both _ _ s.1 in
+    let u = both _ _ t.1 in
+    let v = both _ _ u.1 in
+    let w = both _ _ v.1 in
+    let last = both _ _ w.1 in
+    is_false _ last.1
 
 simple : (word : Word) → (rule_in word).is_simple ≡ true
 simple words.Output = refl

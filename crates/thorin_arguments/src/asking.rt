@@ -228,8 +228,7 @@ pub(crate) fn has_flag(matches: &ArgMatches<'_>, name: &str) -> bool
     matches.get_one::<bool>(name).unwrap_or(false)
 }
 
-/// What the command `pack` asks for, or a peer's command line, which decompresses without being
-/// told.
+/// What `pack` asks for, or a peer's command line, which decompresses without being told.
 fn arguments_of<'m, 'a>(matches: &'m ArgMatches<'a>, is_peer: bool) -> PackArguments<'m, 'a>
     ensures { AsksPack is_peer (rows_of (found_of matches.now)) result }
 {

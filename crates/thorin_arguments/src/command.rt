@@ -248,8 +248,7 @@ fn peer_words(of_llvm: bool) -> &'static [Word]
     if of_llvm { &PEER } else { &PEER[..17] }
 }
 
-/// What `--version` prints behind the program's name: this version, and the commit where one is
-/// named.
+/// What `--version` prints behind the program's name: this version, and the commit, if any.
 #[tactic(auto, unfolding(crate::specs::Versions::version_with))]
 pub(crate) fn version_with(alloc: Global, version: &str, commit: &str) -> Result<String, AllocError>
     ensures { IfOk result (λ text. string_bytes text ≡ version_with version.now commit.now) }
@@ -341,10 +340,8 @@ pub(crate) fn takers_of(alloc: Global, option: &str) -> Result<String, AllocErro
                 Word::Verbose => "-v",
                 _ => "",
             };
-            match long_name(*word) {
-                Some(long) => option == short || option.strip_prefix("--") == Some(long),
-                None => false,
-            }
+            let long = long_name(*word);
+            long.is_some() && (option == short || option.strip_prefix("--") == long)
         });
         if takes {
             names.push_str(if names.is_empty() { "" } else { ", " })?;

@@ -22,13 +22,9 @@ pub fn is_peer(program: &str) -> bool
 {
     let (_folders, name) = cut_at_last(program, '/');
     let (front, last) = cut_at_last(name, '-');
-    if last == "dwp" {
-        return true;
-    }
-    match last.as_bytes().first() {
-        Some(byte) if *byte > 47 && *byte < 58 => cut_at_last(front, '-').1 == "dwp",
-        _ => false,
-    }
+    last == "dwp"
+        || (matches!(last.as_bytes().first(), Some(byte) if *byte > 47 && *byte < 58)
+            && cut_at_last(front, '-').1 == "dwp")
 }
 
 /// What stands before the last of a mark, and behind it; where there is none all is behind it.
@@ -43,8 +39,7 @@ pub(crate) fn cut_at_last(text: &str, mark: char) -> (&str, &str)
     }
 }
 
-/// The words of a line of the peer of this name, as its grammar has them: long options, up to a
-/// word `--`, have whole names.
+/// The words of this peer's line as its grammar has them: long options up to `--` in full.
 pub(crate) fn completed(
     alloc: Global,
     name: &str,

@@ -101,20 +101,16 @@ fn refusal(
     }
 }
 
-/// What is said of words that are refused: where they aren't a peer's, with a tip before the usage
-/// that may take the place of clap's.
+/// What is said of words that are refused; of `thorin`'s with a tip in the place of clap's.
 fn with_tip(alloc: Global, words: &[String], error: &Error) -> Result<String, AllocError> {
     let text = format!(in alloc; "{error}")?;
     let Some((front, usage)) = text.as_str().split_once("\n\nUsage: ") else {
         return Ok(text);
     };
-    let (said, is_advised) = match front.split_once("\n\n  tip: ") {
-        Some((said, _)) => (said, true),
-        None => (front, false),
-    };
+    let (said, advice) = front.split_once("\n\n  tip: ").unwrap_or((front, ""));
     let tip = match error.kind() {
         _ if peer_name(words).is_some() => String::new(alloc),
-        ErrorKind::InvalidSubcommand if !is_advised => String::from_str(alloc, PACK_TIP)?,
+        ErrorKind::InvalidSubcommand if advice.is_empty() => String::from_str(alloc, PACK_TIP)?,
         ErrorKind::UnknownArgument => tip_on(alloc, said, usage)?,
         _ => String::new(alloc),
     };
@@ -124,8 +120,7 @@ fn with_tip(alloc: Global, words: &[String], error: &Error) -> Result<String, Al
     format!(in alloc; "{said}\n\n  tip: {tip}\n\nUsage: {usage}")
 }
 
-/// A tip on a word that a command doesn't take, by what is said of it and the command's usage; empty
-/// where there is none.
+/// A tip on a word that a command doesn't take, by what is said of it and the usage; may be empty.
 fn tip_on(alloc: Global, said: &str, usage: &str) -> Result<String, AllocError> {
     let word = said.split('\'').nth(1).unwrap_or("");
     if word == "--verify-only" {
@@ -157,8 +152,7 @@ fn read_by<'a>(
     Ok(matches)
 }
 
-/// Whether nothing is wrong with the matches beside what clap tests; else what is said of it, with
-/// the usage of the command that it is of.
+/// Whether nothing is wrong beside what clap tests; else what is said, with the command's usage.
 #[tactic(auto, using(crate::proofs::Matched::no_text))]
 fn tested(
     alloc: Global,
@@ -193,8 +187,7 @@ fn command_line<'a>(
     }
 }
 
-/// The program's name without folders, where it is that of a peer, whose command lines it then
-/// takes.
+/// The program's name without folders, where it is that of a peer.
 fn peer_name(words: &[String]) -> Option<&str>
     ensures { option_map (λ s. s.now) result ≡ peer_of (words_in words.now) }
 {
@@ -216,30 +209,23 @@ fn wrong_in(is_peer: bool, matches: &ArgMatches<'_>) -> Option<&'static str>
     let (name, words) = matches.subcommand()?;
     match name {
         "pack" => wrong_in_packing(false, words),
-        "find" if is_given(words, "section") => {
-            if is_given(words, "string") {
-                Some("the argument '--section <SECTION>' cannot be used with '--string <N>'")
-            } else if has_flag(words, "json") {
-                Some("the argument '--section <SECTION>' cannot be used with '--json'")
-            } else {
-                None
-            }
+        "find" if is_given(words, "section") && is_given(words, "string") => {
+            Some("the argument '--section <SECTION>' cannot be used with '--string <N>'")
         }
-        "list" if has_flag(words, "columns") => {
-            if has_flag(words, "names") {
-                Some("the argument '--columns' cannot be used with '--names'")
-            } else if has_flag(words, "json") {
-                Some("the argument '--columns' cannot be used with '--json'")
-            } else {
-                None
-            }
+        "find" if is_given(words, "section") && has_flag(words, "json") => {
+            Some("the argument '--section <SECTION>' cannot be used with '--json'")
+        }
+        "list" if has_flag(words, "columns") && has_flag(words, "names") => {
+            Some("the argument '--columns' cannot be used with '--names'")
+        }
+        "list" if has_flag(words, "columns") && has_flag(words, "json") => {
+            Some("the argument '--columns' cannot be used with '--json'")
         }
         _ => None,
     }
 }
 
-/// What is wrong with the words of `pack` or of a peer, for which a single executable names the
-/// package.
+/// What is wrong with words of `pack` or of a peer, whose package a single executable names.
 fn wrong_in_packing(is_peer: bool, matches: &ArgMatches<'_>) -> Option<&'static str>
     ensures { is_some result ≡ (if is_peer then is_wrong_peer (rows_of (found_of matches.now))
         else is_wrong_pack (rows_of (found_of matches.now))) }

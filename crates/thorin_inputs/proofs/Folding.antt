@@ -115,15 +115,11 @@ module _ (path : List ℕ) where
         above = λ i more inside. other word lasts none i inside ∙ hit.above i more inside;
       })
 
-  -- a shorter beginning is another one
-  apart : (from : List ℕ) (i : ℕ) → i ≤ length path → length from < i ⊎ i < length from
-      → from ≡ take i path → ⊥
-  apart from i inside (inl less) same =
-      let l = ap (λ (x : List ℕ). length x) same in
-      omega (arith, l, length-take-le i path inside)
-  apart from i inside (inr more) same =
-      let l = ap (λ (x : List ℕ). length x) same in
-      omega (arith, l, length-take-le i path inside)
+  -- a beginning of another length is another one
+  apart : (from : List ℕ) (i : ℕ) → i ≤ length path → (length from ≡ i → ⊥) → from ≡ take i path
+      → ⊥
+  apart from i inside unlike same =
+      unlike (ap (λ (x : List ℕ). length x) same ∙ length-take-le i path inside)
 
   -- a word whose FROM is a prefix of the path, and is as long as any before or longer
   counts : (word : Bor (List ℕ)) (best : Replaced) (lasts : Lasts) (r : List ℕ × List ℕ)
@@ -143,7 +139,8 @@ module _ (path : List ℕ) where
         some = e ∙ rw (← s.2, ← b.2) refl;
         above = λ i more inside.
             later-miss (take i path) (lasts i) word
-            (λ e same. apart (from_of word.now) i inside (inl more) same) ∙ none i more inside;
+            (λ e same. apart (from_of word.now) i inside (λ is. omega arith) same)
+            ∙ none i more inside;
       }
 
   -- and one that is shorter than one before
@@ -154,12 +151,12 @@ module _ (path : List ℕ) where
     word = hit.word;
     inside = hit.inside;
     at = later-miss (take hit.k path) (lasts hit.k) word
-        (λ e same. apart (from_of word.now) hit.k hit.inside (inl less) same) ∙ hit.at;
+        (λ e same. apart (from_of word.now) hit.k hit.inside (λ is. omega arith) same) ∙ hit.at;
     is = hit.is;
     some = hit.some;
     above = λ i more inside.
         later-miss (take i path) (lasts i) word
-        (λ e same. apart (from_of word.now) i inside (inl (omega (arith, less, more))) same)
+        (λ e same. apart (from_of word.now) i inside (λ is. omega arith) same)
         ∙ hit.above i more inside;
   }
 

@@ -1,7 +1,7 @@
 -- The words so far, looked up by their FROM.
-use Rattle.std.proofs.Common.{◌≡◌, ◌∙◌, ℕ, ◌+◌, ◌<◌, true, false, List, [], ◌∷◌, ◌++◌, refl, arith}
-use Rattle.std.proofs.Common.{take, sym, ap, ◌⊎◌, ⊎_elim}
-use Rattle.std.specs.Prelude.{Option, Some, None, fold, option_map}
+use Rattle.std.proofs.Common.{◌≡◌, ◌∙◌, ℕ, ◌+◌, true, false, List, [], ◌∷◌, ◌++◌, refl, arith}
+use Rattle.std.proofs.Common.{take, sym, ap, eqb}
+use Rattle.std.specs.Prelude.{Option, Some, None, option_map}
 use Rattle.std.specs.Borrow.{Bor}
 use Rattle.std.specs.Option.{option_or}
 use Rattle.std.specs.BTreeMap as tree
@@ -9,7 +9,8 @@ use Rattle.std.specs.BTreeMap.{BTreeMap}
 use Rattle.std.specs.Cmp.Lexicographic.{slice_cmp}
 use Rattle.std.specs.Ordering.{nat_cmp}
 use Rattle.std.specs.Str.{bytes_eq}
-use Rattle.std.proofs.lemmas.Bool.{cases_order}
+use Rattle.std.proofs.lemmas.Bool.{eqb-false, eqb-true}
+use Rattle.std.proofs.lemmas.List.Sums.{fold-append}
 use Rattle.std.proofs.lemmas.Map.Text.{btree_map_updates_str}
 use Rattle.std.proofs.lemmas.Slice.Eq.{bytes_eq-Decides}
 use Rattle.dwp_base.proofs.Bools.{by-bool}
@@ -20,16 +21,11 @@ use Rattle.thorin_inputs.proofs.Folding.{later-miss, later-hit}
 abbrev pub Words : Type 0
 Words = List (Bor (List ℕ))
 
--- one word more
-fold-more : (from : List ℕ) (best : Option (List ℕ)) (words : Words) (word : Bor (List ℕ))
-    → fold (later from) best (words ++ word ∷ []) ≡ later from (fold (later from) best words) word
-fold-more from best [] word = refl
-fold-more from best (w ∷ ws) word = fold-more from (later from best w) ws word
-
 module _ (words : Words) (held : Bor (List ℕ)) (word : List ℕ) (is : held.now ≡ word) where
+  -- one word more
   more : (from : List ℕ) → last_word (words ++ held ∷ []) from ≡ later from
       (last_word words from) held
-  more from = fold-more from None words held
+  more from = fold-append (later from) None words (held ∷ [])
 
   -- it is no FROM=TO
   pub passed : (entries : Entries) → has_equals word ≡ false → AreOf words entries
@@ -75,17 +71,13 @@ module _ (words : Words) (path : List ℕ) (k : ℕ) where
   further (Some word) best at before =
       (k, omega arith, sym at, λ i more less. absurd (omega (arith, more, less)))
   further None None at none = λ i less.
-      ⊎_elim (λ (e : i ≡ k). rw e (sym at))
-      (λ (others : (i < k) ⊎ (k < i)). ⊎_elim (λ (b : i < k). none i b)
-      (λ (b : k < i). absurd (omega (arith, b, less))) others)
-      (cases_order i k)
+      by-bool _ (eqb i k) (λ same. rw (eqb-true i k same) (sym at))
+      (λ apart. let other = eqb-false i k apart in none i (omega arith))
   further None (Some word) at (j, below, hit, above) = (
     j,
     omega (arith, below),
     hit,
     λ i more less.
-        ⊎_elim (λ (e : i ≡ k). rw e (sym at))
-        (λ (others : (i < k) ⊎ (k < i)). ⊎_elim (λ (b : i < k). above i more b)
-        (λ (b : k < i). absurd (omega (arith, b, less))) others)
-        (cases_order i k),
+        by-bool _ (eqb i k) (λ same. rw (eqb-true i k same) (sym at))
+        (λ apart. let other = eqb-false i k apart in above i more (omega arith)),
   )

@@ -2,7 +2,7 @@
 use Rattle.std.proofs.Common.{◌≡◌, ◌∙◌, ℕ, zero, suc, ◌+◌, ◌<◌, ◌≤◌, Bool, true, false, List, []}
 use Rattle.std.proofs.Common.{◌∷◌, length-take-le, take_all, Ordering}
 use Rattle.std.proofs.Common.{◌-◌, ◌&&◌, refl, sym, ap, arith, length, take, drop, add-one}
-use Rattle.std.specs.Prelude.{◌==◌, nat_lt, Option, Some, None, option_map, slice_index_or}
+use Rattle.std.specs.Prelude.{◌==◌, Option, Some, None, option_map, slice_index_or}
 use Rattle.std.specs.Borrow.{Bor}
 use Rattle.std.specs.BTreeMap.{is_at}
 use Rattle.std.specs.Cmp.Lexicographic.{slice_cmp}
@@ -45,17 +45,10 @@ begins_next (x ∷ xs) (y ∷ ys) (suc place) byte h =
 -- ---- what begins alike rises behind that
 
 head_rises : (x y : ℕ) (o : Ordering) → ordering_then (nat_cmp x y) o ≡ Less → x ≤ y
-head_rises x y o h =
-    by-bool _ (nat_lt x y)
-    (λ e. grind (arith, nat_tests))
-    (λ e. by-bool _ (x == y) (λ s. omega (arith, eqb-true x y s)) (λ s.
-    absurd (cc (rw (e, s) at h))))
+head_rises x y o h = grind (arith, nat_tests)
 
 tail_less : (x : ℕ) (o : Ordering) → ordering_then (nat_cmp x x) o ≡ Less → o ≡ Less
-tail_less x o h =
-    by-bool _ (nat_lt x x)
-    (λ e. absurd (grind (arith, nat_tests)))
-    (λ e. rw (e, eq-eqb x x refl) at h)
+tail_less x o h = grind (arith, nat_tests)
 
 rises_at : (front xs ys : List ℕ) → begins front xs ≡ true → begins front ys ≡ true
     → slice_cmp nat_cmp xs ys ≡ Less → key_at (length front) xs ≤ key_at (length front) ys

@@ -61,13 +61,11 @@ impl Growth {
     }
 }
 
-/// What the objects that an input names add once more, beside how many bytes of it were read; and
-/// how often files are read again.
+/// What was read of an input, what its objects add once more, and how often files are read again.
 #[derive(Drop)]
 pub struct Repetitions {
-    /// The files that were read: the device and the number of each there, and its size, since not
-    /// every file system numbers its files. Each with the number of the input for which it was read
-    /// last.
+    /// The files that were read, by device, number and size, since not every file system numbers
+    /// its files; each with the number of the input for which it was read last.
     files: BTreeMap<(u64, u64, usize), usize>,
     input: usize,
     /// How many bytes of the input were read, and added once more.
@@ -189,8 +187,7 @@ impl Repetitions {
         self.added <= LEAST_ROOM || self.added <= self.read
     }
 
-    /// Notes that a file was read for the present input: the one for which it was read before, if
-    /// it was; that is the present one then.
+    /// Notes that a file was read for the present input: that for which it was read before, if any.
     fn note(
         &mut self,
         identity: Option<(u64, u64)>,

@@ -150,8 +150,7 @@ pub fn note_refused<E: Write>(place: &str, error: &Error, left: Compression, err
     };
 }
 
-/// Prints the note on an input that has a unit which the package has already, and on what brought
-/// that.
+/// Prints the note on an input with a unit that the package has, and on what brought that before.
 pub fn note_before<E: Write>(unit: u64, place: &str, before: &str, err: &mut E) {
     let _ = writeln!(
         err,
@@ -259,8 +258,7 @@ impl AbsentUnits {
         Ok(())
     }
 
-    /// Keeps the object that is looked for, unless it is the last one, and why it brings no unit:
-    /// it couldn't be read, or lacks it.
+    /// Keeps the object that is looked for, unless it is the last one, and why it brings no unit.
     fn look_for(
         &mut self,
         executable: &str,

@@ -50,16 +50,14 @@ pub fn has_overlap(bytes: &[u8]) -> bool
     }
 }
 
-/// Whether the compressed sections of a file that `decompress` would make plain have more bytes
-/// than the file.
+/// Whether the compressed sections that `decompress` makes plain have more bytes than their file.
 pub fn has_compressed_overlap(bytes: &[u8]) -> bool
     ensures exact { result ≡ decompressing.overlaps OfUnits bytes.now (elf_of bytes.now) }
 {
     dwp_decompress::overlaps(bytes, Asked::OfUnits)
 }
 
-/// How many bytes the sections of an object or a package have that are used, up to the most that a
-/// `u64` can say.
+/// How many bytes the used sections of an object or a package have, at most what a `u64` can say.
 #[tactic(auto, unfolding(crate::specs::Overlaps::used_size))]
 fn used_size(file: &ElfFile<'_>) -> u64
     ensures { result ≡ min (used_size (elf file.now).sections) (2 ^ 64 - 1) }
@@ -199,6 +197,7 @@ fn step_of(used: UsedSections<'_>, order: Endianness) -> usize
 }
 
 /// Whether the string offsets of some row of an index, if it is one, begin between words.
+#[tactic(auto, using(crate::proofs::InnerPlaces::row_passed))]
 fn has_row_between(index: &[u8], order: Endianness) -> bool
     ensures { result ≡ has_row_between (index_of order index.now) }
 {
@@ -217,13 +216,10 @@ fn has_row_between(index: &[u8], order: Endianness) -> bool
 fn is_row_between(index: &UnitIndex<'_>, number: u32) -> bool
     ensures { result ≡ is_row_between (row_in index.now number) }
 {
-    match index.row(number) {
-        Ok(row) => match row.range(SectionKind::StrOffsets) {
-            Some(range) => range.offset.0 % 4 != 0,
-            None => false,
-        },
-        Err(_) => false,
-    }
+    let Ok(row) = index.row(number) else {
+        return false;
+    };
+    matches!(row.range(SectionKind::StrOffsets), Some(range) if range.offset.0 % 4 != 0)
 }
 
 impl InnerStrings<'_> {
@@ -267,8 +263,7 @@ impl InnerStrings<'_> {
         Ok(false)
     }
 
-    /// Counts the one that begins at a place, unless it is counted. Answers whether they are too
-    /// large then.
+    /// Counts the one that begins at a place, once. Answers whether they are too large then.
     #[inline(never)]
     fn add(&mut self, place: u32) -> Result<bool, AllocError>
         requires { IsWithin self.old }
@@ -305,10 +300,7 @@ fn word_count(size: usize, step: usize) -> usize
 fn begins_inside(strings: &[u8], place: u32) -> bool
     ensures { result ≡ begins_inside strings.now place }
 {
-    match strings.get((place as usize).wrapping_sub(1)) {
-        Some(before) => *before != 0,
-        None => false,
-    }
+    matches!(strings.get((place as usize).wrapping_sub(1)), Some(before) if *before != 0)
 }
 
 /// How many bytes a string has that begins at a place, with the zero byte at its end; those to the

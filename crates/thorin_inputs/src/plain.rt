@@ -42,23 +42,20 @@ impl Compression {
 /// Why a file is still compressed; nothing where it isn't, and where it wasn't to be decompressed.
 impl fmt::Display for Compression {
     fn fmt<W: fmt::Write>(&self, f: &mut fmt::Formatter<W>) -> fmt::Result {
-        match self {
-            Compression::None | Compression::Left => Ok(()),
-            Compression::Overlaps => f.write_str("sections overlap"),
-            Compression::Unread(DecompressError::Zlib(error)) => {
-                write!(f, "by zlib, unreadable: {error}")
-            }
-            Compression::Unread(DecompressError::Zstd(error)) => {
-                write!(f, "by zstd, unreadable: {error}")
-            }
-            Compression::Unread(DecompressError::UnknownType(number)) => {
+        let error = match self {
+            Compression::None | Compression::Left => return Ok(()),
+            Compression::Overlaps => return f.write_str("sections overlap"),
+            Compression::Unread(error) => error,
+        };
+        match error {
+            DecompressError::Zlib(error) => write!(f, "by zlib, unreadable: {error}"),
+            DecompressError::Zstd(error) => write!(f, "by zstd, unreadable: {error}"),
+            DecompressError::UnknownType(number) => {
                 write!(f, "of type {number}, neither zlib's nor zstd's")
             }
-            Compression::Unread(DecompressError::Header) => f.write_str("its header is damaged"),
-            Compression::Unread(DecompressError::Unrepresentable) => {
-                f.write_str(Growth::Plain.note())
-            }
-            Compression::Unread(error) => write!(f, "{error}"),
+            DecompressError::Header => f.write_str("its header is damaged"),
+            DecompressError::Unrepresentable => f.write_str(Growth::Plain.note()),
+            error => write!(f, "{error}"),
         }
     }
 }

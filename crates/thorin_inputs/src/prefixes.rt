@@ -59,8 +59,7 @@ impl<'a> Prefixes<'a> {
         }
     }
 
-    /// What takes the place of the longest FROM that a path begins with, and what stands behind
-    /// that.
+    /// What takes the place of the longest FROM of a path, and what stands behind that.
     #[tactic(auto, using(crate::proofs::Folding::none_counted))]
     fn longest<'p>(&'p self, path: &'p str) -> Option<(&'p str, &'p str)>
         ensures { spec.nows result ≡ spec.longest self.now.words.now path.now }

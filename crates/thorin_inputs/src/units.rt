@@ -75,16 +75,8 @@ fn units_in<'a>(section: &Section<'a>, order: Endianness) -> Option<UnitHeaders<
 #[derive(Drop)]
 pub struct Encodings {
     alloc: Global,
-    /// What was found; none where there was no memory for it.
-    found: Cell<Option<Vec<FirstInput>>>,
-}
-
-/// The first input of an encoding.
-#[derive(Drop)]
-struct FirstInput {
-    encoding: Encoding,
-    order: Endianness,
-    place: String,
+    /// Each with the place of its first input; none where there was no memory for them.
+    found: Cell<Option<Vec<(Encoding, Endianness, String)>>>,
 }
 
 impl Encodings {
@@ -107,17 +99,12 @@ impl Encodings {
         };
         let is_known = found
             .iter()
-            .any(|first| first.encoding == encoding && first.order == order);
+            .any(|first| first.0 == encoding && first.1 == order);
         if !is_known {
             let Ok(place) = place_of(self.alloc, own, named) else {
                 return;
             };
-            let first = FirstInput {
-                encoding,
-                order,
-                place,
-            };
-            if found.push(first).is_err() {
+            if found.push((encoding, order, place)).is_err() {
                 return;
             }
         }
@@ -134,15 +121,14 @@ impl Encodings {
             _ => return Ok(None),
         };
         let mut lines = String::new(self.alloc);
-        for first in found.iter() {
-            let place = first.place.as_str();
-            let version = first.encoding.version;
-            let bits = match first.encoding.format {
+        for (encoding, order, place) in found.iter() {
+            let version = encoding.version;
+            let bits = match encoding.format {
                 Format::Dwarf32 => 32,
                 Format::Dwarf64 => 64,
             };
-            let size = first.encoding.address_size;
-            let order = match first.order {
+            let size = encoding.address_size;
+            let order = match *order {
                 Endianness::Little => "little-endian",
                 Endianness::Big => "big-endian",
             };
@@ -155,8 +141,7 @@ impl Encodings {
     }
 }
 
-/// The encoding and the byte order of an object or a package, which are those of its first unit;
-/// none where it has none that can be read.
+/// The encoding and the byte order of the first unit of an object or a package, if it can be read.
 fn encoding_of(file: &[u8]) -> Option<(Encoding, Endianness)> {
     let file = ElfFile::parse(file).ok()?;
     let order = file.endianness();
@@ -205,13 +190,12 @@ impl MacroWarnings {
         own: &str,
         named: Option<&str>,
     ) -> Result<(), AllocError> {
-        if !self.looks || self.found.get() {
+        if !self.looks
+            || self.found.get()
+            || !matches!(encoding_of(file), Some((encoding, _)) if encoding.version < 5)
+            || !loses_macros(file, KeptMacros::Last)
+        {
             return Ok(());
-        }
-        match encoding_of(file) {
-            Some((encoding, _)) if encoding.version < 5 && loses_macros(file, KeptMacros::Last) =>
-                {}
-            _ => return Ok(()),
         }
         self.found.set(true);
         let place = place_of(self.alloc, own, named)?;

@@ -3,9 +3,8 @@ use Rattle.std.proofs.Common.{◌≡◌, ℕ, List, [], length, Option, Some, No
 use Rattle.std.proofs.Common.{rules, sym, ◌≤◌, ◌*◌, arith, IsUtf8}
 use Rattle.std.proofs.lemmas.Option.{none-some}
 use Rattle.thorin_words.specs.Responses.{Outcome, Stands, End, Plain, File, Inner, Itself, Deep}
-use Rattle.thorin_words.specs.Responses.{Refusal, Spoils, Meets, Here, Later, Within}
+use Rattle.thorin_words.specs.Responses.{Refusal, Spoils, Meets, Here, Later, Within, name_in}
 use Rattle.thorin_words.specs.Responses.{Costs, Nothing, Word, Named, AreBare, CannotBeTold}
-use Rattle.thorin_words.specs.Responses.{name_in}
 use Rattle.thorin_words.specs.declared.responses.ResponseError.{ResponseError}
 use Rattle.thorin_words.specs.declared.responses.ResponseError.TheVariants as errors
 

@@ -1,15 +1,13 @@
 -- What words stand for, while they are read one after another.
 use Rattle.std.proofs.Common.{◌≡◌, ℕ, List, [], ◌∷◌, ◌++◌, map, length, take, Option, Some}
 use Rattle.std.proofs.Common.{Ok, Err, Vec, String, string_bytes, refl, sym, append_assoc, false}
-use Rattle.std.proofs.Common.{◌<◌, ◌≤◌, ◌+◌, get_or, drop, append-nil, Global}
-use Rattle.std.proofs.Common.{arith}
-use Rattle.std.proofs.Common.{subst, IsUtf8}
+use Rattle.std.proofs.Common.{◌<◌, ◌≤◌, ◌+◌, get_or, drop, append-nil, Global, arith, subst, IsUtf8}
 use Rattle.std.proofs.Math.Seq.{take-append_seam}
 use Rattle.std.proofs.lemmas.List.{map-append, take-map, length-map, drop_more}
 use Rattle.thorin_words.specs.Responses.{Outcome, after, is_among, IsPlain, Stands, End, Plain}
 use Rattle.thorin_words.specs.Responses.{File, Inner, Itself, Deep, words_in, most_deep, Leaves}
-use Rattle.thorin_words.specs.Responses.{Refuses, Stops, Here, Later, Within}
-use Rattle.thorin_words.specs.Responses.{Costs, Nothing, Word, Named}
+use Rattle.thorin_words.specs.Responses.{Refuses, Stops, Here, Later, Within, Costs, Nothing, Word}
+use Rattle.thorin_words.specs.Responses.{Named}
 use Rattle.thorin_words.specs.Words.{words_of}
 use Rattle.thorin_words.specs.declared.responses.Allowance.{Allowance}
 use Rattle.thorin_words.specs.declared.responses.ResponseError.{ResponseError}

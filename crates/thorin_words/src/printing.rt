@@ -1,7 +1,6 @@
 //! Texts out of files and of the command line as they are printed.
 
-ghost use Rattle.std.specs.Prelude.{◌≡◌, ◌++◌, ◌∷◌, [], ◌<◌, IsTrue, string_bytes};
-ghost use Rattle.std.specs.Prelude.{IfOk, OnOk};
+ghost use Rattle.std.specs.Prelude.{◌≡◌, ◌++◌, ◌∷◌, [], ◌<◌, IsTrue, string_bytes, IfOk, OnOk};
 ghost use Rattle.thorin_words.specs.Printed as spec;
 ghost use Rattle.thorin_words.specs.Printed.{control, hex_digit, is_short_control, two_digits};
 
@@ -27,8 +26,7 @@ pub fn printed(alloc: Global, text: &str) -> Result<String, AllocError>
     Ok(shown)
 }
 
-/// Whether a character is a control, a separator of lines or a mark that turns the direction of a
-/// text: none is printed as it is.
+/// Whether a character isn't printed as it is: a control, a line separator, a mark of direction.
 pub fn is_control(c: char) -> bool
     ensures { result ≡ spec.is_control c }
 {

@@ -1,8 +1,7 @@
 //! `@FILE` among the words of a command line: a response file, as linkers have it.
 
-ghost use Rattle.std.specs.Prelude.{◌≡◌, ◌≤◌, ◌<◌, ◌+◌, ◌∷◌, [], ℕ, List, Option, map};
-ghost use Rattle.std.specs.Prelude.{length, IfOk, IfErr, OnOk, IfSome, option_map};
-ghost use Rattle.std.specs.Prelude.{Some, string_bytes};
+ghost use Rattle.std.specs.Prelude.{◌≡◌, ◌≤◌, ◌<◌, ◌+◌, ◌∷◌, [], ℕ, List, Option, map, Some};
+ghost use Rattle.std.specs.Prelude.{length, IfOk, IfErr, OnOk, IfSome, option_map, string_bytes};
 ghost use Rattle.thorin_words.specs.Responses.{is_among, Answers, AreRead, IsOfReading, IsRead};
 ghost use Rattle.thorin_words.specs.Responses.{Opens, words_in};
 ghost use Rattle.thorin_words.specs.Words.{words_of};
@@ -16,8 +15,7 @@ use std::str;
 /// How many response files a command line may name, those among them that response files name.
 const MOST_FILES: u32 = 2000;
 
-/// How many bytes these files may have together, each as often as it is named, and those that the
-/// words cost beside.
+/// How many bytes these files, each as often as it is named, and the words beside may cost.
 const MOST_BYTES: u32 = 1 << 26;
 
 /// How many of them may be inside one another.
@@ -121,6 +119,7 @@ pub fn expanded<S: AsStr, F: ResponseFiles>(
 }
 
 /// A program's name, and no word behind it.
+#[tactic(auto, using(crate::proofs::Standing::alone))]
 fn program_alone(alloc: Global, program: &str) -> Result<Vec<String>, ResponseError>
     ensures alone { IfOk result (λ all. words_in all ≡ program.now ∷ []) }
     ensures cause { IfErr result (λ e. e ≡ errors.Memory) }

@@ -1,8 +1,7 @@
 use Rattle.std.proofs.Common.{◌∙◌, ◌+◌, ◌-◌, ◌*◌, ◌==◌, ℕ, sym, ap, arith, get_or, drop}
 use Rattle.std.specs.List.{list_all}
 use Rattle.dwp_archive.specs.Headers.{decimal_from}
-use Rattle.dwp_archive.proofs.Decimals.{decimal_step, decimal_end, stops, digit_small, digits_fit}
-use Rattle.dwp_archive.proofs.Decimals.{digits_grow}
+use Rattle.dwp_archive.proofs.Decimals.{decimal_step, stops, digit_small, digits_fit, digits_grow}
 use Rattle.dwp_archive.proofs.reading.decimal.Goals as goal
 
 pub returns-then-not-is_ascii_digit-2 : goal.returns-then-not-is_ascii_digit-2
@@ -39,8 +38,3 @@ loop-i-preserved c =
           ∙ c.loop-i.invariant.value;
       small = omega (arith, grown, c.from.ensures);
     }
-
-pub returns : goal.returns
-returns c =
-    sym (decimal_end c.args.field.now c.loop-i.n c.loop-i.i (omega arith))
-    ∙ c.loop-i.invariant.value

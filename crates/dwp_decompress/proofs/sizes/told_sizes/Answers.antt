@@ -9,14 +9,18 @@ pub loop-i-init : goal.loop-i-init
 loop-i-init c = none_plus (told_sizes c.args.asked c.args.class c.args.order
     (elf c.args.file.now).sections)
 
-pub returns-in_err-size-clause-sum : goal.returns-in_err-size-clause-sum
-returns-in_err-size-clause-sum c =
+pub returns-in_err-size : goal.returns-in_err-size
+returns-in_err-size c =
     let at = sym c.section.ensures.found ∙ ap (option_map section)
     c.in_ok-section.ensures.ok_part in
+    let fails = sym c.loop-i.invariant ∙ told_fail c.args.asked c.args.class c.args.order
+    _ c.loop-i.i c.loop-i.told _ _ at c.in_err-size.ensures in
     let p = err_from_is_err_and c.from_residual-in_err-size.result
     c.from_residual-in_err-size.ensures.1 in
-    rw (p.1, p.2) (λ m u. sym c.loop-i.invariant ∙ told_fail c.args.asked c.args.class c.args.order
-    _ c.loop-i.i c.loop-i.told _ _ at c.in_err-size.ensures)
+    record {
+      sum = rw (p.1, p.2) (λ m u. fails);
+      error = λ n is. let never = sym is ∙ fails in absurd cc;
+    }
 
 pub loop-i-preserved : goal.loop-i-preserved
 loop-i-preserved c =
@@ -25,14 +29,6 @@ loop-i-preserved c =
     let more = (rw c.in_ok-told.ensures.ok_part at c.checked_add.ensures).1 in
     rw more (sym (told_step c.args.asked c.args.class c.args.order _ c.loop-i.i c.loop-i.told _ _ at
     c.in_ok-size.ensures) ∙ c.loop-i.invariant)
-
-pub returns-in_err-size-clause-error : goal.returns-in_err-size-clause-error
-returns-in_err-size-clause-error c =
-    let at = sym c.section.ensures.found ∙ ap (option_map section)
-    c.in_ok-section.ensures.ok_part in
-    let fails = sym c.loop-i.invariant ∙ told_fail c.args.asked c.args.class c.args.order
-    _ c.loop-i.i c.loop-i.told _ _ at c.in_err-size.ensures in
-    λ n is. let never = sym is ∙ fails in absurd cc
 
 pub returns-clause-sum : goal.returns-clause-sum
 returns-clause-sum c = sym c.loop-i.invariant ∙ told_end c.args.asked c.args.class c.args.order

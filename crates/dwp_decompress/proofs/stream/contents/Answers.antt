@@ -1,7 +1,7 @@
-use Rattle.std.proofs.Common.{◌∙◌, ℕ, Option, sym, ap, arith, option_map}
+use Rattle.std.proofs.Common.{◌∙◌, ℕ, Option, sym, ap, arith}
 use Rattle.std.specs.Global.{Vec}
 use Rattle.std.proofs.lemmas.Result.{err_from_is_err_and}
-use Rattle.dwp_elf_read.specs.View.{elf, section}
+use Rattle.dwp_elf_read.specs.View.{elf}
 use Rattle.dwp_decompress.specs.Result.{contents_of, plain_contents}
 use Rattle.dwp_decompress.proofs.Sections.{behind_none, contents_step, contents_fail, contents_end}
 use Rattle.dwp_decompress.proofs.Sections.{plain_more}
@@ -17,26 +17,24 @@ loop-i-init c = rw c.new-contents.ensures.items
 
 pub returns-in_err-content : goal.returns-in_err-content
 returns-in_err-content c =
-    let at = sym c.section.ensures.found ∙ ap (option_map section) c.in-Some.is in
     let p = err_from_is_err_and c.from_residual.result c.from_residual.ensures.1 in
-    rw (p.1, p.2) (λ h. sym c.loop-i.invariant ∙ contents_fail c.args.asked
-    c.args.class c.args.order _
-    c.loop-i.i (plain_contents c.loop-i.contents.items) _ _ at (c.in_err-content.ensures h))
+    rw (p.1, p.2) (λ h. sym c.loop-i.invariant ∙ contents_fail c.args.asked c.args.class
+    c.args.order _ c.loop-i.i (plain_contents c.loop-i.contents.items) _ _
+    (sym c.in-Some.ensures.found) (c.in_err-content.ensures h))
 
 pub loop-i-preserved : goal.loop-i-preserved
 loop-i-preserved c =
     let xs = (elf c.args.file.now).sections in
     elim c.match-section.branch [
       | in-Some+in_ok-content+in_ok-push w ↦
-          let at = sym c.section.ensures.found ∙ ap (option_map section) w.in-Some.is in
           let more = ap (λ (v : Vec (Option (Vec ℕ))). v.items) w.contents-is
           ∙ w.in_ok-push.ensures.items in
           rw (plain_more _ c.loop-i.contents.items w.in_ok-content.content more)
           (sym (contents_step c.args.asked c.args.class c.args.order xs c.loop-i.i
-          (plain_contents c.loop-i.contents.items) _ _ at w.in_ok-content.ensures)
-          ∙ c.loop-i.invariant)
+          (plain_contents c.loop-i.contents.items) _ _ (sym w.in-Some.ensures.found)
+          w.in_ok-content.ensures) ∙ c.loop-i.invariant)
       | in_default w ↦ absurd (slice_get_none xs c.loop-i.i (omega arith)
-          (sym c.section.ensures.found ∙ ap (option_map section) w.in_default.is))
+          (sym w.in_default.ensures.found))
     ]
 
 pub returns : goal.returns

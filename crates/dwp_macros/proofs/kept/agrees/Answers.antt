@@ -1,18 +1,8 @@
 use Rattle.std.proofs.Common.{◌≡◌, ◌+◌, ◌-◌, sym, ap, ◌∙◌, arith, option_map}
 use Rattle.dwp_elf_read.specs.View.{elf, section}
 use Rattle.dwp_macros.specs.Kept.{has_macros}
-use Rattle.dwp_macros.proofs.Walks.{any_step, any_end, kept_step, kept_end}
+use Rattle.dwp_macros.proofs.Walks.{any_step, kept_step}
 use Rattle.dwp_macros.proofs.kept.agrees.Goals as goal
-
-pub loop-left-init : goal.loop-left-init
-loop-left-init c =
-    let count = c.section_count-left.result in
-    record {
-      inside = omega arith;
-      more = any_end has_macros (elf c.args.old.now).sections count (omega arith);
-      agree = kept_end c.args.kept (elf c.args.old.now).sections (elf c.args.new.now).sections count
-          (omega arith) (omega arith);
-    }
 
 pub loop-left-preserved : goal.loop-left-preserved
 loop-left-preserved c =

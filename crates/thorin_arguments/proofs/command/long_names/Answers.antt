@@ -1,5 +1,5 @@
-use Rattle.std.proofs.Common.{◌≡◌, ◌∙◌, ◌++◌, ap, append-nil, arith, map, sym}
-use Rattle.std.proofs.lemmas.List.{drop_all}
+use Rattle.std.proofs.Common.{◌≡◌, arith, map}
+use Rattle.std.proofs.lemmas.Grind.{common_steps}
 use Rattle.clap.specs.Walk.{texts}
 use Rattle.thorin_arguments.specs.Rules.{rule_in}
 use Rattle.thorin_arguments.proofs.Rules.{are_long_names, longs, two_more}
@@ -9,10 +9,7 @@ pub returns : goal.returns
 returns c =
     let words = c.peer_words-words.result.now in
     let own : texts c.loop-word.names.items ≡ longs (map rule_in words) =
-    sym (append-nil (texts c.loop-word.names.items))
-    ∙ ap (λ rest. texts c.loop-word.names.items ++ longs (map rule_in rest))
-    (sym (drop_all c.loop-word.word-index words (omega arith)))
-    ∙ c.loop-word.invariant in
+    grind (arith, common_steps) in
     are_long_names c.args.peer.now words (texts c.loop-word.names.items)
     (texts c.push-3.new.self.items) (rw c.is_of_llvm.ensures at c.peer_words-words.ensures) own
     (two_more c.loop-word.names.items c.push-2.new.self.items c.push-3.new.self.items _ _

@@ -11,19 +11,16 @@ before mark text front rest last e f = grind (arith, common_steps)
 nothing : (text last : List ℕ) → last ≡ text → [] ≡ take (length text - length last - 1) text
 nothing text last e = grind (arith, common_steps)
 
-pub returns-in-Some-clause-front : goal.returns-in-Some-clause-front
-returns-in-Some-clause-front c = let k = last_part-cut c.args.mark c.args.text.now
-    (Some (c.in-Some.front, c.in-Some.last)) c.requires c.in-Some.ensures.cases in
-    before c.args.mark c.args.text.now c.in-Some.front.now c.in-Some.last.now _ k.0 k.1
+pub returns-in-Some : goal.returns-in-Some
+returns-in-Some c =
+    let k = last_part-cut c.args.mark c.args.text.now (Some (c.in-Some.front, c.in-Some.last))
+    c.requires c.in-Some.ensures.cases in
+    record {
+      front = before c.args.mark c.args.text.now c.in-Some.front.now c.in-Some.last.now _ k.0 k.1;
+      last = sym k.0;
+    }
 
-pub returns-in-Some-clause-last : goal.returns-in-Some-clause-last
-returns-in-Some-clause-last c = sym (last_part-cut c.args.mark c.args.text.now
-    (Some (c.in-Some.front, c.in-Some.last)) c.requires c.in-Some.ensures.cases).0
-
-pub returns-in-None-clause-front : goal.returns-in-None-clause-front
-returns-in-None-clause-front c = nothing c.args.text.now _
-    (last_part-cut c.args.mark c.args.text.now None c.requires c.in-None.ensures.cases)
-
-pub returns-in-None-clause-last : goal.returns-in-None-clause-last
-returns-in-None-clause-last c =
-    sym (last_part-cut c.args.mark c.args.text.now None c.requires c.in-None.ensures.cases)
+pub returns-in-None : goal.returns-in-None
+returns-in-None c =
+    let k = last_part-cut c.args.mark c.args.text.now None c.requires c.in-None.ensures.cases in
+    record { front = nothing c.args.text.now _ k; last = sym k }

@@ -1,12 +1,8 @@
 use Rattle.std.proofs.Common.{arith, map-id, take_all}
-use Rattle.std.proofs.lemmas.Grind.{common_steps}
 use Rattle.std.proofs.lemmas.Iterator.{YieldsList-from_chars}
 use Rattle.std.proofs.lemmas.Iterator.Consumers.{YieldsList-end}
 use Rattle.thorin_print.proofs.Spelling.{spelled_text, spelled_bytes}
 use Rattle.thorin_print.proofs.spelled.put_spelled.Goals as goal
-
-pub loop-c-preserved : goal.loop-c-preserved
-loop-c-preserved c = grind (arith, common_steps)
 
 pub returns-in-Ok : goal.returns-in-Ok
 returns-in-Ok c =

@@ -1,12 +1,8 @@
-use Rattle.std.proofs.Common.{arith, map-id}
-use Rattle.std.proofs.lemmas.Grind.{common_steps}
+use Rattle.std.proofs.Common.{map-id}
 use Rattle.std.proofs.lemmas.Iterator.{YieldsList-from_chars}
 use Rattle.std.proofs.lemmas.Iterator.Consumers.{YieldsList-end}
 use Rattle.thorin_words.specs.Printed.{printed}
 use Rattle.thorin_words.proofs.printing.printed.Goals as goal
-
-pub loop-c-preserved : goal.loop-c-preserved
-loop-c-preserved c = grind (arith, common_steps)
 
 pub returns : goal.returns
 unfolding printed

@@ -1,8 +1,7 @@
 use Rattle.std.proofs.Common.{rules, arith, refl, ◌∙◌}
 use Rattle.thorin_words.specs.Responses.{words_in}
 use Rattle.thorin_words.proofs.Standing.{begin, onward, ended, stopped_at, filed, inner, refused}
-use Rattle.thorin_words.proofs.Standing.{itself, named, pushed, restored, spoilt}
-use Rattle.thorin_words.proofs.Standing.{unread}
+use Rattle.thorin_words.proofs.Standing.{itself, named, pushed, restored, spoilt, unread}
 use Rattle.thorin_words.proofs.responses.+responses.Goals as goal
 
 pub add_text-loop-word-init : goal.add_text-loop-word-init

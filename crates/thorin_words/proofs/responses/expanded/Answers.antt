@@ -1,10 +1,6 @@
-use Rattle.std.proofs.Common.{map, string_bytes, ap, rules}
+use Rattle.std.proofs.Common.{map, string_bytes, ap}
 use Rattle.thorin_words.proofs.Standing.{told}
 use Rattle.thorin_words.proofs.responses.expanded.Goals as goal
-
-pub returns-in_err-add_line : goal.returns-in_err-add_line
-returns-in_err-add_line g c =
-    let stop = rw c.new-names.ensures.items at c.in_err-add_line.ensures in search rules
 
 pub returns : goal.returns
 returns g c = told c.args.program.now c.in_ok-add_line.ensures

@@ -7,8 +7,6 @@ use Rattle.thorin_words.proofs.words.next_word.Goals.{then-keeps+in_ok-push}
 use Rattle.thorin_words.proofs.words.next_word.Goals.{else-keeps+else-is_between}
 use Rattle.thorin_words.proofs.words.next_word.Goals.{else-is_between-via-then-is_between+else-not-is_between}
 use Rattle.thorin_words.proofs.words.next_word.Goals.{else-is_between-via-else-is_between}
-use Rattle.std.proofs.Common.{rules}
-use Rattle.thorin_words.specs.Words.{words_of}
 
 pub loop-i-preserved : goal.loop-i-preserved
 loop-i-preserved c =
@@ -62,7 +60,3 @@ returns-else-is_between-2 c =
     let last = last_left c.loop-i.word.items c.loop-i.state (drop c.loop-i.i text) end
     (drop (length text) text) over (cc) in
     (omega (arith, c.loop-i.invariant.begun (cc)), omega arith, c.loop-i.invariant.words ∙ last)
-
-pub loop-i-init : goal.loop-i-init
-unfolding words_of
-loop-i-init c = search rules

@@ -5,9 +5,6 @@ use Rattle.dwp_decompress.specs.Result.{plain_contents, result_file}
 use Rattle.dwp_decompress.proofs.Sections.{agree_step, agree_end, get_content}
 use Rattle.dwp_decompress.proofs.agree.Expected.agrees.Goals as goal
 
-pub loop-i-init : goal.loop-i-init
-loop-i-init c h = h
-
 pub loop-i-preserved : goal.loop-i-preserved
 loop-i-preserved c h =
     let e = c.args.self.now in

@@ -1,4 +1,4 @@
-use Rattle.std.proofs.Common.{ℕ, ◌≡◌, true, ◌*◌, ◌||◌, ◌&&◌, length, drop, arith, sym, ◌∙◌}
+use Rattle.std.proofs.Common.{◌*◌, ◌||◌, ◌&&◌, length, drop, arith, sym, ◌∙◌}
 use Rattle.std.proofs.lemmas.Bool.{ltb-false}
 use Rattle.std.proofs.lemmas.List.{take_rest}
 use Rattle.dwp_base.specs.Numbers.{number}
@@ -9,36 +9,28 @@ use Rattle.thorin_inputs.proofs.overlaps.InnerStrings.count_by.Goals as goal
 use Rattle.thorin_inputs.proofs.overlaps.InnerStrings.count_by.Goals.{else-begins_inside-via-then-begins_inside+in_ok-add+else-branch}
 use Rattle.thorin_inputs.proofs.overlaps.InnerStrings.count_by.Goals.{else-begins_inside-via-else-begins_inside}
 
--- of the words so far
-abbrev OnlyThose : goal.Then-branch → Type 0
-OnlyThose c = (at : ℕ) → is_counted c.add.new.self at ≡ true → (is_counted c.args.self.now at
-    || (has_word c.args.order c.args.step c.args.offsets.now at
-    && begins_inside c.args.self.now.strings.now at)) ≡ true
-
-only_those : (c : goal.Then-branch) → OnlyThose c
-only_those c = λ at counted.
+pub returns-then-branch : goal.returns-then-branch
+returns-then-branch c =
     let strings = c.args.self.now.strings.now in
     let bytes = c.args.offsets.now in
-    let all = is_counted c.args.self.now at || (has_word c.args.order c.args.step bytes at
-    && begins_inside strings at) in
-    among (is_counted c.add.new.self at) _ (begins_inside strings at) all
-    (word_counted (λ i. number c.args.order 4 (drop (i * c.args.step) bytes))
-    (begins_inside strings) (word_count c.args.step (length bytes)) c.loop-number.number
-    c.read_u32-place.result at (omega arith) (rw take_rest at c.read_u32-place.ensures)
-    (is_counted c.loop-number.self at) all (c.loop-number.invariant.all at)
-    (is_counted c.add.new.self at) (sym c.if-begins_inside.ensures)
-    (c.in_ok-add.ensures.all at))
-    counted
-
-pub returns-then-branch : goal.returns-then-branch
-returns-then-branch c = record {
-  strings = c.in_ok-add.ensures.strings ∙ c.loop-number.invariant.strings;
-  file = c.in_ok-add.ensures.file ∙ c.loop-number.invariant.file;
-  summed = c.in_ok-add.ensures.summed;
-  past = rw c.loop-number.invariant.file at (sym c.if-branch.true ∙ c.in_ok-add.ensures.past);
-  only = only_those c;
-  all = λ none at. absurd cc;
-}
+    record {
+      strings = c.in_ok-add.ensures.strings ∙ c.loop-number.invariant.strings;
+      file = c.in_ok-add.ensures.file ∙ c.loop-number.invariant.file;
+      summed = c.in_ok-add.ensures.summed;
+      past = rw c.loop-number.invariant.file at (sym c.if-branch.true ∙ c.in_ok-add.ensures.past);
+      only = λ at counted.
+          let all = is_counted c.args.self.now at || (has_word c.args.order c.args.step bytes at
+          && begins_inside strings at) in
+          among (is_counted c.add.new.self at) _ (begins_inside strings at) all
+          (word_counted (λ i. number c.args.order 4 (drop (i * c.args.step) bytes))
+          (begins_inside strings) (word_count c.args.step (length bytes)) c.loop-number.number
+          c.read_u32-place.result at (omega arith) (rw take_rest at c.read_u32-place.ensures)
+          (is_counted c.loop-number.self at) all (c.loop-number.invariant.all at)
+          (is_counted c.add.new.self at) (sym c.if-begins_inside.ensures)
+          (c.in_ok-add.ensures.all at))
+          counted;
+      all = λ none at. absurd cc;
+    }
 
 pub loop-number-preserved : goal.loop-number-preserved
 loop-number-preserved c =
