@@ -2,7 +2,8 @@
 use Rattle.std.proofs.Common.{Bool, List, [], add-zero, ap, arith, cond, drop, eq-eqb, eqb, false}
 use Rattle.std.proofs.Common.{length, ltb, map, refl, suc, sym, true, zero-add, ℕ, ◌*◌, ◌++◌, ◌+◌}
 use Rattle.std.proofs.Common.{◌-◌, ◌<◌, ◌∙◌, ◌∷◌, ◌≡◌, ◌≤◌}
-use Rattle.std.proofs.lemmas.Bool.{eqb-true, false≢true, le-ltb, lt-ltb, ne_eqb}
+use Rattle.std.proofs.lemmas.Bool.{false≢true, le-ltb, lt-ltb, ne_eqb}
+use Rattle.std.proofs.lemmas.Bool.Decides.{nat_tests}
 use Rattle.std.proofs.lemmas.List.{drop-drop, length-drop}
 use Rattle.std.specs.List.{find}
 use Rattle.std.specs.Option.{option_and_then, option_or}
@@ -74,18 +75,11 @@ kind_of_number version n kind e = by-bool _ (eqb version 5)
     (λ two. rw two (named_by gnu_column refl n kind (rw two at e)))
 
 -- the section of a number has that number
-is_number_of : (o : Option ℕ) (n : ℕ) → is_number o n ≡ true → o ≡ Some n
-is_number_of None n e = absurd cc
-is_number_of (Some c) n e = ap Some (eqb-true c n e)
-
 with_number : (column : SectionKind → Option ℕ) (n : ℕ) (kinds : List SectionKind)
     (kind : SectionKind) → find (λ k. is_number (column k) n) kinds ≡ Some kind
     → column kind ≡ Some n
 with_number column n [] kind e = absurd cc
-with_number column n (k ∷ ks) kind e = by-bool (column kind ≡ Some n) (is_number (column k) n)
-    (λ here. let same = same_Some k kind (rw here at e) in
-    ap column (sym same) ∙ is_number_of (column k) n here)
-    (λ other. with_number column n ks kind (rw other at e))
+with_number column n (k ∷ ks) kind e = grind (arith, nat_tests, with_number column n ks kind)
 
 number_of_kind : (version n : ℕ) (kind : SectionKind) → kind_of_column version n ≡ Some kind
     → column_of version kind ≡ Some n
@@ -117,14 +111,7 @@ position_push : (test : ℕ → Bool) (i : ℕ) (xs : List ℕ) (n : ℕ)
     → position_from test i (xs ++ n ∷ [])
     ≡ option_or (position_from test i xs) (cond (test n) (Some (i + length xs)) None)
 position_push test i [] n = rw add-zero refl
-position_push test i (x ∷ xs) n =
-    let count : i + 1 + length xs ≡ i + length (x ∷ xs) = omega arith in
-    by-bool _ (test x) (λ here. rw here refl)
-    (λ other. rw (other, position_push test (i + 1) xs n, count) refl)
-
-or_none : (o : Option ℕ) → option_or o None ≡ o
-or_none None = refl
-or_none (Some i) = refl
+position_push test i (x ∷ xs) n = grind (arith, position_push test (i + 1) xs n)
 
 abbrev place_of : Option ℕ → List ℕ → Option ℕ
 place_of number columns = option_and_then (λ c. position_from (λ n. eqb n c) 0 columns) number
@@ -150,7 +137,7 @@ same_place version n columns kind = go (column_of version kind)
         → place_of o (columns ++ n ∷ []) ≡ place_of o columns
     go None other = refl
     go (Some c) other = position_push (λ x. eqb x c) 0 columns n
-        ∙ rw (ne_eqb n c (λ e. other (ap Some (sym e)))) (or_none _)
+        ∙ rw (ne_eqb n c (λ e. other (ap Some (sym e)))) (grind arith)
 
 -- where columns stand once there is one more, of a section that had none
 pub one_more : (old new : ByKind ℕ) (version count n : ℕ) (columns more : List ℕ)

@@ -1,28 +1,23 @@
 -- The first unit of a section, and the header of a split compilation unit of DWARF 5, in the 32-bit
 -- format.
-use Rattle.std.proofs.Common.{Err, List, Ok, Result, [], ap, arith, drop, eqb, eqb-true, get_or}
-use Rattle.std.proofs.Common.{length, refl, sym, take, ℕ, ◌+◌, ◌-◌, ◌<◌, ◌∙◌, ◌∷◌, ◌≡◌, ◌≤◌}
+use Rattle.std.proofs.Common.{Err, List, Ok, Result, [], ap, arith, drop, get_or, length, refl}
+use Rattle.std.proofs.Common.{take, ℕ, ◌+◌, ◌-◌, ◌<◌, ◌∙◌, ◌∷◌, ◌≡◌, ◌≤◌}
 use Rattle.std.proofs.lemmas.Bool.{le-ltb, lt-ltb}
+use Rattle.std.proofs.lemmas.Bool.Decides.{nat_tests}
 use Rattle.std.proofs.lemmas.Grind.{get_or_after_one}
 use Rattle.std.proofs.lemmas.List.{get_or-drop, length-drop, length-take-le}
 use Rattle.dwp_index.proofs.Terms.{Dwarf32, Encoding, Endianness, ReadError, UnexpectedEof}
-use Rattle.dwp_index.proofs.Terms.{UnitSection, by-bool, encoding_in, number, ◌>>=◌}
+use Rattle.dwp_index.proofs.Terms.{UnitSection, encoding_in, number, ◌>>=◌}
 use Rattle.dwp_bytes.specs.Input.{Input, byte_at, number_at, offset_at, relocated_at, section}
 use Rattle.dwp_bytes.specs.Input.{split_at}
 use Rattle.dwp_units.proofs.Units.{units-cases}
-use Rattle.dwp_units.specs.Units.{Unit, address_size_at, header_at, initial_length_at, listed}
-use Rattle.dwp_units.specs.Units.{newer_at, unit_at, unit_code_at, unit_type_at, units}
+use Rattle.dwp_units.specs.Units.{Unit, address_size_at, header_at, initial_length_at, newer_at}
+use Rattle.dwp_units.specs.Units.{unit_at, unit_code_at, unit_type_at, units}
 
 -- the encoding of the first of these units
 abbrev first_encoding : List (Result Unit ReadError) → Result Encoding ReadError
 first_encoding [] = Err UnexpectedEof
 first_encoding (unit ∷ units) = unit >>= λ u. Ok u.encoding
-
-listed-first : (r : Result (Unit × Input) ReadError)
-    (others : Input → List (Result Unit ReadError))
-    → first_encoding (listed r others) ≡ (r >>= λ unit. Ok unit.0.encoding)
-listed-first (Ok x) others = refl
-listed-first (Err e) others = refl
 
 no_unit : (place : UnitSection) (i : Input) → length i.bytes ≡ 0
     → unit_at place i ≡ Err UnexpectedEof
@@ -30,17 +25,12 @@ unfolding unit_at initial_length_at number_at
 no_unit place i e = rw e refl
 
 -- it is what is read of the bytes
-pub encoding-first : (order : Endianness) (place : UnitSection) (bytes : List ℕ)
-    (all : List (Result Unit ReadError)) → units place (section order bytes) ≡ all
-    → encoding_in order place bytes ≡ first_encoding all
+pub encoding_first : (order : Endianness) (place : UnitSection) (bytes : List ℕ)
+    → encoding_in order place bytes ≡ first_encoding (units place (section order bytes))
 unfolding encoding_in
-encoding-first order place bytes all e =
+encoding_first order place bytes =
     let i = section order bytes in
-    by-bool _ (eqb (length bytes) 0)
-    (λ none. let empty = rw none at (units-cases place i) in
-    rw (no_unit place i (eqb-true _ _ none)) (ap first_encoding (sym empty ∙ e)))
-    (λ some. let more = rw some at (units-cases place i) in
-    sym (listed-first (unit_at place i) (units place)) ∙ ap first_encoding (sym more ∙ e))
+    grind (arith, nat_tests, units-cases place i, no_unit place i)
 
 -- the encoding of such a header, whatever follows it
 header_goes : (place : UnitSection) (whole i rest : Input) → 16 ≤ length i.bytes

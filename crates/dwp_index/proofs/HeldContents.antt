@@ -34,13 +34,11 @@ found-passes p (y ∷ ys) x h = grind (rules, found-passes p ys x)
 pub named-of : (kind : SectionKind) (name : Option (List ℕ)) → has_name kind name ≡ true
     → option_and_then kind_named name ≡ Some kind
 named-of kind None h = absurd cc
-named-of kind (Some name) h = grind (
-  rules,
-  bytes_eq-Decides name (name_of kind),
-  bytes_eq-Decides name (compressed_name_of kind),
-  kind-named kind,
-  same-each (λ k. kind_named (compressed_name_of k)) Some refl kind,
-)
+named-of kind (Some name) h =
+    let own = bytes_eq-Decides name (name_of kind) in
+    let older = bytes_eq-Decides name (compressed_name_of kind) in
+    let same = same-each (λ k. kind_named (compressed_name_of k)) Some refl kind in
+    grind (rules, own, older, kind-named kind, same)
 
 names : (kind : SectionKind) (name : Option (List ℕ))
     → option_and_then kind_named name ≡ Some kind → has_name kind name ≡ true
@@ -58,8 +56,7 @@ of-other kind s other = by-bool (is_of_kind kind s ≡ false) (is_of_kind kind s
 -- ---- one more section is met
 passed : (kind : SectionKind) (met : Option (ℕ × Section)) (i : ℕ) (next : Section)
     → is_of_kind kind (section next) ≡ false → found_with kind met i next ≡ met
-passed kind (Some first) i next other = refl
-passed kind None i next other = rw other refl
+passed kind met i next other = grind (arith, other)
 
 -- one that has no bytes
 pub passed-empty : (kind : SectionKind) (met : Option (ℕ × Section)) (i : ℕ) (next : Section)

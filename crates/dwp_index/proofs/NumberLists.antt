@@ -1,7 +1,7 @@
 -- Numbers one after the other.
 use Rattle.std.proofs.Common.{Bool, List, [], add-one, ap, arith, drop, drop-drop, get_or, is_some}
 use Rattle.std.proofs.Common.{length, refl, suc, zero, ℕ, ◌*◌, ◌++◌, ◌+◌, ◌<◌, ◌∷◌, ◌≡◌}
-use Rattle.dwp_index.proofs.Terms.{Endianness, by-bool, list_any, number, number_rows, numbers}
+use Rattle.dwp_index.proofs.Terms.{Endianness, list_any, number, number_rows, numbers}
 use Rattle.dwp_index.proofs.Terms.{position_from}
 
 pub length-numbers : (order : Endianness) (width n : ℕ) (bytes : List ℕ)
@@ -55,5 +55,4 @@ numbers_more order width n bytes = rw (add-one n) (last n bytes)
 pub is_some-position : (test : ℕ → Bool) (i : ℕ) (xs : List ℕ) → is_some (position_from test i xs) ≡
     list_any test xs
 is_some-position test i [] = refl
-is_some-position test i (x ∷ xs) = by-bool _ (test x) (λ here. rw here refl)
-    (λ other. rw other (is_some-position test (i + 1) xs))
+is_some-position test i (x ∷ xs) = grind (arith, is_some-position test (i + 1) xs)

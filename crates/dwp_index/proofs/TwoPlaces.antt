@@ -2,20 +2,19 @@
 -- unit is read again from its own bytes.
 use Rattle.std.proofs.Common.{Bool, Err, List, Ok, Result, add-zero, add_assoc, ap, arith, cond}
 use Rattle.std.proofs.Common.{drop, eqb, false, leb, length, ltb, refl, subst, suc, sym, take, true}
-use Rattle.std.proofs.Common.{zero, ℕ, ◌&&◌, ◌+◌, ◌-◌, ◌∙◌, ◌≡◌, ◌≤◌}
-use Rattle.std.proofs.lemmas.Bool.{eqb-false, le-ltb, ltb-false}
+use Rattle.std.proofs.Common.{zero, inl, inr, ℕ, ◌&&◌, ◌+◌, ◌-◌, ◌∙◌, ◌≡◌, ◌≤◌, ◌⊎◌}
+use Rattle.std.proofs.lemmas.Bool.{le-ltb, ltb-false}
 use Rattle.std.proofs.lemmas.List.{drop-drop, drop-take, get_or-take, length-drop, length-take}
 use Rattle.std.proofs.lemmas.List.{length-take-le, take-take}
 use Rattle.std.specs.Prelude.{Some, [], slice_get}
 use Rattle.dwp_index.proofs.Terms.{Dwarf32, Dwarf64, Encoding, Endianness, ReadError, UnexpectedEof}
 use Rattle.dwp_index.proofs.Terms.{UnitSection, bind-was, encoding_in, number, ◌>>=◌}
-use Rattle.dwp_base.specs.declared.endian.Endianness.TheVariants.{Big, Little}
 use Rattle.dwp_bytes.specs.Encoding.{offset_size}
 use Rattle.dwp_bytes.specs.Input.{Input, after, byte_at, is_address_size, number_at, offset_at}
 use Rattle.dwp_bytes.specs.Input.{relocated_at, section, split_at}
 use Rattle.dwp_bytes.specs.declared.encoding.Format.{Format}
 use Rattle.dwp_units.proofs.Readings.{Gives, error_gives, more_gives, test_gives, then_gives}
-use Rattle.dwp_units.proofs.Readings.{then_split, value_gives, was}
+use Rattle.dwp_units.proofs.Readings.{then_split, value_gives}
 use Rattle.dwp_units.specs.Units.{Unit, UnitsAreTaken, address_size_at, header_at}
 use Rattle.dwp_units.specs.Units.{initial_length_at, listed, newer_at, older_at, older_type_at}
 use Rattle.dwp_units.specs.Units.{type_at, unit_at, unit_code_at, unit_type_at, units, units_within}
@@ -59,16 +58,13 @@ HasFront n = (order : Endianness) (k : ℕ) (bytes : List ℕ) → n ≤ k
     → number order n (take k bytes) ≡ number order n bytes
 
 two : HasFront 2
-two Little k bytes h = grind (arith, get_or-take)
-two Big k bytes h = grind (arith, get_or-take)
+two order k bytes h = grind (arith, get_or-take)
 
 four : HasFront 4
-four Little k bytes h = grind (arith, get_or-take)
-four Big k bytes h = grind (arith, get_or-take)
+four order k bytes h = grind (arith, get_or-take)
 
 eight : HasFront 8
-eight Little k bytes h = grind (arith, get_or-take)
-eight Big k bytes h = grind (arith, get_or-take)
+eight order k bytes h = grind (arith, get_or-take)
 
 offset_front : (format : Format) → HasFront (offset_size format)
 offset_front Dwarf32 = four
@@ -86,14 +82,9 @@ module _ {order : Endianness} where
           taken = n;
           fits = fits;
           left = refl;
-          again = λ k h. (
-            _,
-            rw (
-              le-ltb (length (take k bytes)) n (omega (arith, length-take k bytes)),
-              same p q k bytes h,
-            ) refl,
-            refl,
-          );
+          again = λ k h.
+              let enough = le-ltb (length (take k bytes)) n (omega (arith, length-take k bytes)) in
+              (_, rw (enough, same p q k bytes h) refl, refl);
         }));
   }
 
@@ -226,9 +217,6 @@ module _ {order : Endianness} where
         (either (leb 2 version && leb version 4) (older_again version) refused))
 
 -- ---- a unit
-abbrev Units : Type 0
-Units = Result (Unit × Input) ReadError
-
 unit_alone : (order : Endianness) (place : UnitSection) (p : ℕ) (bytes : List ℕ)
     → Gives (Unit × Input) (unit_at place (plain order p bytes)) (λ x. (k : ℕ)
     → x.1.place ≡ p + k → encoding_in order place (take k bytes) ≡ Ok x.0.encoding)
@@ -265,70 +253,44 @@ unit_alone order place p bytes = then_gives (length_alone.at p 0 bytes) (λ len 
 abbrev Listed : Type 0
 Listed = List (Result Unit ReadError)
 
+-- a unit among those that were read is the first, or among those behind it
+pub listed_at : (r : Result (Unit × Input) ReadError) (others : Input → Listed) (none : Bool)
+    (k : ℕ) (unit : Unit) → slice_get (cond none [] (listed r others)) k ≡ Some (Ok unit)
+    → (x : Unit × Input) × (r ≡ Ok x)
+    × ((x.0 ≡ unit) ⊎ (slice_get (others x.1) (k - 1) ≡ Some (Ok unit)))
+listed_at r others none k unit h = grind arith
+
 module _ (taken : UnitsAreTaken) (order : Endianness) (place : UnitSection) (u : Unit) where
-  abbrev Goal : Type 0
-  Goal = encoding_in order place u.whole.bytes ≡ Ok u.encoding
-
-  listed_alone : (others : Input → Listed) (p : ℕ) (bytes : List ℕ) (b : Bool) (r : Units) (k : ℕ)
-      → ((q : ℕ) (bs : List ℕ) (l : ℕ) → slice_get (others (plain order q bs)) l ≡
-      Some (Ok u) → Goal)
-      → r ≡ unit_at place (plain order p bytes) → slice_get (cond b [] (listed r others)) k ≡
-      Some (Ok u) → Goal
-  listed_alone others p bytes true r k go e given = absurd cc
-  listed_alone others p bytes false (Ok x) zero go e given =
-      let same : x.0 ≡ u = cc in
-      let read : unit_at place (plain order p bytes) ≡ Ok (u, x.1) =
-      sym e ∙ ap (λ (v : Unit). Ok (v, x.1)) same in
-      let total = taken place (plain order p bytes) x.1 u read in
-      rw total.1 ((unit_alone order place p bytes).gives (u, x.1) read total.0.taken
-      (ap (λ (i : Input). i.place) total.0.is))
-  listed_alone others p bytes false (Ok x) (suc k) go e given =
-      let n = (taken place (plain order p bytes) x.1 x.0 (sym e)).0 in
-      go (p + n.taken) (drop n.taken bytes) k (subst (λ (i : Input). slice_get (others i) k ≡ Some
-      (Ok u)) n.is given)
-  listed_alone others p bytes false (Err f) zero go e given = absurd cc
-  listed_alone others p bytes false (Err f) (suc k) go e given = absurd cc
-
-  within_alone : (n p : ℕ) (bytes : List ℕ) (k : ℕ)
-      → slice_get (units_within n place (plain order p bytes)) k ≡ Some (Ok u) → Goal
+  -- where a unit was read
+  pub within_at : (n p : ℕ) (bytes : List ℕ) (k : ℕ)
+      → slice_get (units_within n place (plain order p bytes)) k ≡ Some (Ok u) → (q : ℕ)
+      × (own : List ℕ) × (rest : Input) × (unit_at place (plain order q own) ≡ Ok (u, rest))
   unfolding units_within
-  within_alone zero p bytes k given = absurd cc
-  within_alone (suc n) p bytes k given =
-      listed_alone (units_within n place) p bytes (eqb (length bytes) 0)
-      (unit_at place (plain order p bytes)) k (λ q bs l h. within_alone n q bs l h) refl given
+  within_at zero p bytes k given = absurd cc
+  within_at (suc n) p bytes k given =
+      let i = plain order p bytes in
+      let l = listed_at (unit_at place i) (units_within n place) (eqb (length bytes) 0) k u given in
+      let t = taken place i l.0.1 l.0.0 l.1 in
+      elim l.2 [
+        | inl same ↦ (p, bytes, l.0.1, l.1 ∙ ap (λ (v : Unit). Ok (v, l.0.1)) same)
+        | inr later ↦ within_at n (p + t.0.taken) (drop t.0.taken bytes) (k - 1)
+            (rw t.0.is at later)
+      ]
 
   pub units_alone : (bytes : List ℕ) (k : ℕ) → slice_get (units place (section order bytes)) k ≡
-      Some (Ok u) → Goal
+      Some (Ok u) → encoding_in order place u.whole.bytes ≡ Ok u.encoding
   unfolding units
-  units_alone bytes k given = within_alone (length bytes) 0 bytes k given
+  units_alone bytes k given =
+      let at = within_at (length bytes) 0 bytes k given in
+      let t = taken place (plain order at.0 at.1) at.2 u at.3 in
+      rw t.1 ((unit_alone order place at.0 at.1).gives (u, at.2) at.3 t.0.taken
+      (ap (λ (i : Input). i.place) t.0.is))
 
 -- ---- a unit of version 5 is read the same in either section
-older_version : (place : UnitSection) (format : Format) (version : ℕ) (whole i : Input)
-    → Gives Unit (older_at place format version whole i) (λ u. u.encoding.version ≡ version)
-unfolding older_at
-older_version place format version whole i = then_gives (was (offset_at format i)) (λ a _.
-    then_gives (was (address_size_at a.1)) (λ b _. then_gives
-    (was (older_type_at place format b.1)) (λ c _. value_gives refl)))
-
-header_anywhere : (place other : UnitSection) (format : Format) (whole i : Input)
-    → Gives Unit (header_at place format whole i) (λ u. u.encoding.version ≡ 5
-    → header_at other format whole i ≡ Ok u)
-unfolding header_at
-header_anywhere place other format whole i = then_gives (was (number_at 2 i)) (λ v is. test_gives
-    (eqb v.0 5)
-    (λ yes. more_gives (was (newer_at format whole v.1)) (λ u read five. rw (is, yes) read))
-    (λ no. test_gives (leb 2 v.0 && leb v.0 4) (λ _.
-    more_gives (older_version place format v.0 whole v.1) (λ u old five.
-    absurd (eqb-false v.0 5 no (sym old ∙ five)))) (λ _. error_gives)))
-
-unit_anywhere : (place other : UnitSection) (i : Input) → Gives (Unit × Input) (unit_at place i)
-    (λ x. x.0.encoding.version ≡ 5 → unit_at other i ≡ Ok x)
-unfolding unit_at
-unit_anywhere place other i = then_gives (was (initial_length_at i)) (λ length first. then_gives
-    (was (split_at length.0.1 length.1)) (λ body second. then_gives
-    (was (split_at (body.1.place - i.place) i)) (λ whole third. then_gives
-    (header_anywhere place other length.0.0 whole.0 body.0) (λ u fourth. value_gives (λ five.
-    rw (first, second, third, fourth five) refl)))))
+pub unit_anywhere : (place other : UnitSection) (i : Input) (u : Unit) (rest : Input)
+    → u.encoding.version ≡ 5 → unit_at place i ≡ Ok (u, rest) → unit_at other i ≡ Ok (u, rest)
+unfolding unit_at header_at older_at
+unit_anywhere place other i u rest five h = grind arith
 
 pub encoding_anywhere : (order : Endianness) (place other : UnitSection) (bytes : List ℕ)
     (encoding : Encoding) → encoding.version ≡ 5 → encoding_in order place bytes ≡ Ok encoding
@@ -338,5 +300,5 @@ encoding_anywhere order place other bytes encoding five e =
     let a = bind-was (unit_at place (section order bytes)) (λ unit.
     Ok unit.0.encoding) encoding e in
     let same : a.0.0.encoding ≡ encoding = cc in
-    rw ((unit_anywhere place other (section order bytes)).gives a.0 a.1
-    (ap (λ (x : Encoding). x.version) same ∙ five)) a.2
+    let version = ap (λ (x : Encoding). x.version) same ∙ five in
+    rw (unit_anywhere place other (section order bytes) a.0.0 a.0.1 version a.1) a.2

@@ -13,7 +13,7 @@ use Rattle.std.proofs.lemmas.List.Sorted.{IsPermutation-append, IsPermutation-ma
 use Rattle.std.proofs.lemmas.List.Sorted.{IsPermutation-middle, IsPermutation-push_more}
 use Rattle.std.proofs.lemmas.List.Sorted.{IsPermutation-refl, IsPermutation-sym}
 use Rattle.std.specs.List.Sorted.{IsPermutation}
-use Rattle.dwp_index.proofs.Terms.{Index, IsIndex, by-bool, place, range_with_len}
+use Rattle.dwp_index.proofs.Terms.{Index, IsIndex, place, range_with_len}
 use Rattle.dwp_index.specs.Entries.{compilation_entry, entries_from, type_entry}
 use Rattle.dwp_index.specs.Naming.{IsIndexOfIds, entries_of, numbered}
 use Rattle.dwp_index.specs.Used.{slot_at, used_from, used_in}
@@ -95,8 +95,7 @@ rows_have_each ids rows table = record {
 used-map : (ids rows : List ℕ)
     → filter (λ s. used s.1) (map (named ids) rows) ≡ map (named ids) (filter used rows)
 used-map ids [] = refl
-used-map ids (r ∷ rows) = by-bool _ (used r) (λ e. rw (e, used-map ids rows) refl)
-    (λ e. rw (e, used-map ids rows) refl)
+used-map ids (r ∷ rows) = grind (arith, used-map ids rows)
 
 -- the used slots are the used rows with their names
 used-named : (ids : List ℕ) (index : Index) → IsIndex ids index.signatures index.rows

@@ -1,7 +1,7 @@
 -- What the fields of an index and of a row hold, and where a look-up ends.
 use Rattle.std.proofs.Common.{Bool, List, None, Option, Some, arith, cond, eq-eqb, false, find}
-use Rattle.std.proofs.Common.{get_or, inl, inr, length, ne_eqb, option_and_then, refl, suc, true}
-use Rattle.std.proofs.Common.{zero, ℕ, ◌+◌, ◌-◌, ◌<◌, ◌∙◌, ◌≡◌, ◌≤◌, ◌⊎◌}
+use Rattle.std.proofs.Common.{get_or, inl, inr, length, ne_eqb, option_and_then, refl, suc, true, ℕ}
+use Rattle.std.proofs.Common.{◌+◌, ◌-◌, ◌<◌, ◌∙◌, ◌≡◌, ◌≤◌, ◌⊎◌}
 use Rattle.std.proofs.lemmas.Bool.{or_right}
 use Rattle.dwp_index.proofs.Terms.{Index, Ranges, SectionKind, column_place, contribution}
 use Rattle.dwp_index.proofs.Terms.{first_end, found_row, index_in, is_end, look_count, place}
@@ -74,5 +74,4 @@ module _ (signatures rows : List ℕ) (x : ℕ) where
         (rw (end, ← looking.at_place) refl, rw end (omega arith))
 
 pub row_of-used : (r : ℕ) → (r ≡ 0 → ⊥) → row_of r ≡ Some r
-row_of-used zero ne = absurd (ne refl)
-row_of-used (suc r) ne = refl
+row_of-used r ne = grind (arith, ne)

@@ -36,8 +36,7 @@ pub fn first_sections<'a>(file: &ElfFile<'a>) -> ByKind<Option<(usize, Section<'
     firsts
 }
 
-/// One more section was met: it is the first of its kind, where it has bytes and none was met
-/// before.
+/// Notes a section that was met, where it has bytes and is the first of its kind.
 fn meet<'a>(firsts: &mut ByKind<Option<(usize, Section<'a>)>>, number: usize, next: &Section<'a>)
     ensures { (kind : SectionKind) → found_in firsts.new kind
         ≡ found_with kind (found_in firsts.old kind) number next.now }

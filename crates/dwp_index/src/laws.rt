@@ -26,9 +26,6 @@ ghost use Rattle.dwp_index.specs.Holding.{HasContent, HoldsInOrder, HoldsPackage
 ghost use Rattle.dwp_index.specs.Holding.{package_with, sections_of};
 ghost use Rattle.dwp_index.specs.Naming.{numbered, entries_of, IsIndexOfIds};
 
-use dwp_table::laws::look_up_finds_exactly;
-use dwp_units::laws::units_have_all_bytes;
-
 /// The law of packages: where the index of a kind is one of distinct identifiers, the unit of each
 /// is found, after at most as many slots as its row's number, if its ranges lie inside their
 /// sections and its header can be read; every other is absent, after at most one slot more than
@@ -45,9 +42,7 @@ pub fn packages_find_exactly()
         → GivesWithin pack object None (length ids + 1) }
     ensures no_index { (pack : Package) (object : DwarfObject) → index_for pack object ≡ None
         → GivesWithin pack object None 0 }
-{
-    look_up_finds_exactly();
-}
+{}
 
 /// The law of rows: looking a unit up is looking its row up, and then reading the unit of that row.
 /// It does nothing.
@@ -81,9 +76,7 @@ pub fn units_are_read_alone()
         → encoding.version ≡ 5
         → encoding_in order place bytes ≡ Ok encoding
         → encoding_in order other bytes ≡ Ok encoding }
-{
-    units_have_all_bytes();
-}
+{}
 
 /// The law of names: the used slots of an index of distinct identifiers name each of them once,
 /// with the number of its row; so do the units of a package. It does nothing.

@@ -79,8 +79,7 @@ impl<'a> PackageFile<'a> {
         self.order
     }
 
-    /// The content of the first section of a kind that has bytes; none where there is no such
-    /// section (DWARF 5, 7.3.5).
+    /// The content of the first section of a kind that has bytes, or none (DWARF 5, 7.3.5).
     pub fn content(&self, kind: SectionKind) -> &'a [u8]
         ensures content { result.now ≡ content self.now.contents kind }
     {
@@ -140,8 +139,7 @@ impl<'a> PackageFile<'a> {
         self.find(DwarfObject::TypeUnit(signature))
     }
 
-    /// The unit of an identifier, and how many slots were looked at; 0 where there is no index of
-    /// the kind.
+    /// The unit of an identifier, and how many slots were looked at; 0 where its kind has no index.
     ///
     /// # Errors
     /// Those of `find`.
@@ -233,8 +231,7 @@ impl<'a> PackageFile<'a> {
         self.contents.of(kind).get(range.offset.0 as usize).copied()
     }
 
-    /// The units that the slots of both indexes name, in order of slot, those of the compilation
-    /// index first.
+    /// The units that the slots of both indexes name, in order of slot, compilation units first.
     pub fn units(&self) -> Units<'_>
         ensures slots { units_left result ≡ entries_from self.now.compilations self.now.types 0 0 }
 
@@ -272,8 +269,7 @@ pub fn read_index<'a>(
     if bytes.is_empty() {
         return Ok(None);
     }
-    let index = UnitIndex::parse(bytes, order).map_err(PackageError::Index)?;
-    Ok(Some(index))
+    Ok(Some(UnitIndex::parse(bytes, order).map_err(PackageError::Index)?))
 }
 
 /// The row of a number, counted from 1: `UnitIndex::row` with an error of packages.

@@ -106,8 +106,7 @@ pub(crate) fn after_rows(bytes: &[u8], columns: u32, units: u32) -> Result<&[u8]
     }
 }
 
-/// The places of so many columns, each of which the version has, and none twice; and what is left
-/// after them.
+/// The places of so many columns, each once and of the version, and what is left after them.
 #[inline(always)]
 pub(crate) fn read_columns(
     bytes: &[u8],

@@ -126,8 +126,7 @@ pub fn lies_inside(bytes: &[u8], range: Contribution) -> bool
     range.offset.0 <= len && range.size <= len - range.offset.0
 }
 
-/// The section that a unit's own bytes stand in: a type unit's may be those of types, by its range
-/// there.
+/// The section that a unit's own bytes stand in: types for a type unit that has a range there.
 #[inline(always)]
 pub fn place_of(object: DwarfObject, range: Option<Contribution>) -> UnitSection
     ensures { result ≡ place_of object range }
@@ -180,6 +179,7 @@ pub fn encoding_in(
 }
 
 /// The encoding of a unit of any form.
+#[tactic(auto, using(crate::proofs::FirstUnit::encoding_first))]
 #[inline(never)]
 fn any_encoding(bytes: &[u8], order: Endianness, place: UnitSection) -> Result<Encoding, ReadError>
     ensures { Answers (λ x. x) result (encoding_in order place bytes.now) }

@@ -15,8 +15,7 @@ pub struct UnitEntry {
     pub row: u32,
 }
 
-/// The units that the slots of the indexes of a package name, in order of slot, those of the
-/// compilation index first.
+/// The units that the slots of a package's indexes name, in order, compilation units first.
 #[derive(Drop)]
 pub struct Units<'a> {
     compilations: Option<&'a UnitIndex<'a>>,

@@ -45,20 +45,14 @@ apart size k start step i j power odd less below same =
     let a = (start + i * step) / size in
     let b = (start + j * step) / size in
     let split : j ≡ i + (j - i) = omega arith in
-    let rounds : (j - i) * step ≡ size * (b - a) = omega (
-      arith,
-      ap (λ x. x * step) split,
-      mul-sub size b a,
-      div-add-mod (start + i * step) size,
-      div-add-mod (start + j * step) size,
-    ) in
+    let here = div-add-mod (start + i * step) size in
+    let there = div-add-mod (start + j * step) size in
+    let rounds : (j - i) * step ≡ size * (b - a) =
+    omega (arith, ap (λ x. x * step) split, mul-sub size b a, here, there) in
     let r = odd_factor k (j - i) step (b - a) odd (rw (← power) rounds) in
-    omega (
-      arith,
-      power,
-      le_of_dvd {m = 2 ^ k} {n = j - i} (omega arith)
-          (rw r.1 (dvd-mul_right (2 ^ k) r.0)),
-    )
+    let whole = le_of_dvd {m = 2 ^ k} {n = j - i} (omega arith)
+    (rw r.1 (dvd-mul_right (2 ^ k) r.0)) in
+    omega (arith, power, whole)
 
 abbrev pub OneToOne : (ℕ → ℕ) → ℕ → Type 0
 OneToOne f n = (i j : ℕ) → i < n → j < n → f i ≡ f j → i ≡ j

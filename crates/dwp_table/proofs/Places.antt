@@ -14,10 +14,10 @@ pub place-lt : (size x i : ℕ) → IsTrue (is_power_of_two size) → place size
 unfolding place
 place-lt size x i power = mod-lt _ (positive size power)
 
-pub place-next : (size x i : ℕ) → IsTrue (is_power_of_two size) → place size x (i + 1) ≡ bit_and
+pub place_next : (size x i : ℕ) → IsTrue (is_power_of_two size) → place size x (i + 1) ≡ bit_and
     (place size x i + step size x) (size - 1)
 unfolding place
-place-next size x i power =
+place_next size x i power =
     let start = bit_and x (size - 1) in
     let s = step size x in
     let k = exponent size power in

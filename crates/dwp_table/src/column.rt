@@ -5,8 +5,7 @@ ghost use Rattle.dwp_table.specs.Columns.{column_of, kind_of_column};
 
 use dwp_base::SectionKind;
 
-/// The sections that a unit may have a contribution to, in the order in which their columns are
-/// written.
+/// The sections that a unit may have a contribution to, in the order of their columns as written.
 pub const CONTRIBUTION_KINDS: [SectionKind; 10] = [
     SectionKind::Info,
     SectionKind::Types,

@@ -19,6 +19,7 @@ pub fn first_place(size: u32, x: u64) -> u32
 }
 
 /// The slot that the look-up of `x` looks at after `current`, in a table of `size` slots.
+#[tactic(auto, unfolding(crate::specs::Probing::step), using(crate::proofs::Places::place_next))]
 #[inline(always)]
 pub fn place_after(size: u32, x: u64, current: u32) -> u32
     requires power { IsTrue (is_power_of_two size) }

@@ -1,9 +1,9 @@
 -- Readings made of others, with what `dwp_bytes` says of them, and what comes of many steps.
 use Rattle.dwp_units.proofs.Terms
-use Terms.{◌+◌, ◌++◌, ◌<◌, ◌>>=◌, ap, append_assoc, arith, Bool, cond, drop, Err, false, front}
-use Terms.{Goes, Input, length, length-drop, List, ltb, ltb-false, Ok, ReadError, refl, Result}
-use Terms.{skip_at, split_at, suc, sym, take, take-add, take-append-drop, true, UnexpectedEof, zero}
-use Terms.{ℕ, ◌∙◌, ◌≡◌, ◌≤◌}
+use Terms.{◌+◌, ◌++◌, ◌<◌, ◌>>=◌, ap, append_assoc, arith, Bool, cond, drop, Err, front, Goes}
+use Terms.{Input, length, length-drop, List, ltb, ltb-false, Ok, ReadError, refl, Result, skip_at}
+use Terms.{split_at, suc, sym, take, take-add, take-append-drop, UnexpectedEof, zero, ℕ, ◌∙◌, ◌≡◌}
+use Terms.{◌≤◌}
 use Rattle.dwp_bytes.specs.Input.{number_at, relocated_at, after}
 pub use Rattle.dwp_bytes.proofs.Forward.{Gives, then_gives, more_gives, value_gives, error_gives}
 pub use Rattle.dwp_bytes.proofs.Forward.{test_gives, was, by-result, size, goes_after, after-zero}
@@ -19,18 +19,15 @@ one_answer r p q = cc
 -- steps that go on alike are alike
 pub bind_alike : {A B E : Type 0} (r : Result A E) (f g : A → Result B E)
     → ((x : A) → r ≡ Ok x → f x ≡ g x) → (r >>= f) ≡ (r >>= g)
-bind_alike (Ok x) f g same = same x refl
-bind_alike (Err e) f g same = refl
+bind_alike r f g same = grind (arith, same)
 
 pub bind-bind : {A B C E : Type 0} (r : Result A E) (f : A → Result B E) (g : B → Result C E)
     → ((r >>= f) >>= g) ≡ (r >>= λ x. f x >>= g)
-bind-bind (Ok x) f g = refl
-bind-bind (Err e) f g = refl
+bind-bind r f g = grind arith
 
 pub bind-cond : {A B E : Type 0} (b : Bool) (r s : Result A E) (f : A → Result B E)
     → (cond b r s >>= f) ≡ cond b (r >>= f) (s >>= f)
-bind-cond true r s f = refl
-bind-cond false r s f = refl
+bind-cond b r s f = grind arith
 
 -- what is taken where there are so many bytes
 guard_gives : {A : Type 0} (n : ℕ) (i : Input) (a : A)

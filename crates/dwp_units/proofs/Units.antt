@@ -1,10 +1,10 @@
 -- A unit's bytes are those that stood before the rest, and its entries lie in them behind the
 -- header; the units of a section one after the other.
 use Rattle.dwp_units.proofs.Terms
-use Terms.{◌&&◌, ◌+◌, ◌++◌, ◌-◌, ◌<◌, [], ap, append-nil, append_assoc, arith, by-bool, cond, drop}
-use Terms.{drop-take, eqb, eqb-true, Err, false, flat_map, Format, front, Goes, Input, is_err, leb}
-use Terms.{length, length-append, length-take-le, List, ltb, map, ne_eqb, nil_from_length, Ok}
-use Terms.{ReadError, refl, Result, sym, take-append-drop, true, Unit, ℕ, ◌∙◌, ◌∷◌, ◌≡◌, ◌≤◌}
+use Terms.{◌&&◌, ◌+◌, ◌++◌, ◌-◌, ◌<◌, [], ap, append-nil, append_assoc, arith, cond, drop}
+use Terms.{drop-take, eqb, Err, false, flat_map, Format, front, Goes, Input, is_err, leb, length}
+use Terms.{length-append, length-take-le, List, ltb, map, ne_eqb, nil_from_length, Ok, ReadError}
+use Terms.{refl, Result, sym, take-append-drop, true, Unit, ℕ, ◌∙◌, ◌∷◌, ◌≡◌, ◌≤◌}
 use Rattle.dwp_bytes.specs.Input.{offset_at, is_address_size, after}
 use Rattle.dwp_bytes.specs.Encoding.{offset_size}
 use Rattle.dwp_units.specs.declared.unit.UnitType.{UnitType}
@@ -19,6 +19,7 @@ use Rattle.dwp_units.proofs.Readings.{test_gives, more_gives, goes_none, goes_so
 use Rattle.dwp_units.proofs.Readings.{goes_after, reads_byte, goes, number_goes, relocated_goes}
 use Rattle.dwp_units.proofs.Readings.{then_split, goes_least, size, goes_length, after-zero}
 use Rattle.dwp_units.proofs.Readings.{after-after, by-result, Steps, by_step}
+use Rattle.std.proofs.lemmas.Bool.Decides.{nat_tests}
 use Rattle.std.proofs.lemmas.List.Concat.{flat_map-cons}
 use Rattle.dwp_base.specs.Reading.{Reads}
 use Rattle.dwp_units.specs.declared.unit.UnitHeader.{UnitHeader}
@@ -205,8 +206,7 @@ first_unit input section i j (Err f) some reads = units-cases section i ∙ rw (
 -- nothing is left at the end
 pub nothing_left : {R : Type 0} (input : R → Input) (h : UnitHeaders R)
     → eqb (length (input h.reader).bytes) 0 ≡ true → units_left input h ≡ []
-nothing_left input h e = rw (units-cases h.section (input h.reader), e) (by-bool _ h.ended
-    (λ ended. rw ended refl) (λ going. rw going refl))
+nothing_left input h e = grind (arith, units-cases h.section (input h.reader))
 
 -- ---- the bytes of the units, joined
 
@@ -214,9 +214,7 @@ nothing_left input h e = rw (units-cases h.section (input h.reader), e) (by-bool
 some_listed : (section : UnitSection) (i : Input) (x : Result Unit ReadError)
     (l : List (Result Unit ReadError)) → units section i ≡ x ∷ l → listed (unit_at section i)
     (units section) ≡ x ∷ l
-some_listed section i x l e = by-bool _ (eqb (length i.bytes) 0)
-    (λ none. let never = rw (units-cases section i, none) at e in absurd cc)
-    (λ some. rw (units-cases section i, some) at e)
+some_listed section i x l e = grind (arith, units-cases section i)
 
 -- what was taken and the rest are all that was there
 taken_bytes : (i rest whole : Input) (goes : Goes 1 i rest) → whole ≡ front goes.taken i
@@ -248,13 +246,7 @@ units_behind section (u ∷ us) others i e =
 
 -- no unit stands where no byte is left
 no_byte : (section : UnitSection) (i : Input) → units section i ≡ [] → i.bytes ≡ []
-no_byte section i e = by-bool _ (eqb (length i.bytes) 0)
-    (λ none. nil_from_length i.bytes (eqb-true _ _ none))
-    (λ some. absurd (never (unit_at section i) (rw (units-cases section i, some) at e)))
-  where
-    never : (r : Result (Unit × Input) ReadError) → listed r (units section) ≡ [] → ⊥
-    never (Ok x) e = absurd cc
-    never (Err f) e = absurd cc
+no_byte section i e = grind (arith, nat_tests, units-cases section i, nil_from_length i.bytes)
 
 pub units_whole : (section : UnitSection) (i : Input) (read : List Unit) → units section i ≡ map Ok
     read → flat_map unit_bytes read ≡ i.bytes

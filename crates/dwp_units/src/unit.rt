@@ -204,13 +204,12 @@ fn older_header<R: Reader>(
     let abbrev_offset = at.read_offset(format)?;
     let address_size = read_address_size(&mut at)?;
     let unit_type = read_older_type(&mut at, section, format)?;
-    let encoding = Encoding {
-        version,
-        format,
-        address_size,
-    };
     Ok(UnitHeader {
-        encoding,
+        encoding: Encoding {
+            version,
+            format,
+            address_size,
+        },
         unit_type,
         abbrev_offset,
         whole,
@@ -227,13 +226,12 @@ fn newer_header<R: Reader>(mut at: R, format: Format, whole: R) -> Result<UnitHe
     let address_size = read_address_size(&mut at)?;
     let abbrev_offset = at.read_offset(format)?;
     let unit_type = read_unit_type(&mut at, code, format)?;
-    let encoding = Encoding {
-        version: 5,
-        format,
-        address_size,
-    };
     Ok(UnitHeader {
-        encoding,
+        encoding: Encoding {
+            version: 5,
+            format,
+            address_size,
+        },
         unit_type,
         abbrev_offset,
         whole,

@@ -2,10 +2,10 @@
 use Rattle.std.proofs.lemmas.List.Folds.{Any-from_list_any}
 use Rattle.thorin_index.proofs.Terms
 use Terms.{All, Bool, Contribution, Encoding, Err, ErrorValue, FitsRow, HoldsAll, IndexEntry, List}
-use Terms.{None, Ok, Option, Result, SectionKind, Some, [], ap, arith, at_drop_more, codes}
-use Terms.{column_of, cond, contribution_kinds, contribution_to, drop, each, encoding_test, false}
-use Terms.{get_or, index_version_of, is_some, is_used, length, ltb-true, offset_or_0, refl}
-use Terms.{size_or_0, suc, sym, true, unwrap_or, zero, ℕ, ◌*◌, ◌++◌, ◌+◌, ◌<◌, ◌^◌, ◌∙◌, ◌∷◌, ◌≡◌}
+use Terms.{None, Ok, Option, Result, SectionKind, [], ap, arith, at_drop_more, codes, column_of}
+use Terms.{cond, contribution_kinds, contribution_to, drop, each, encoding_test, false, get_or}
+use Terms.{index_version_of, is_some, is_used, length, ltb-true, offset_or_0, refl, size_or_0, suc}
+use Terms.{sym, true, unwrap_or, zero, ℕ, ◌*◌, ◌++◌, ◌+◌, ◌<◌, ◌^◌, ◌∙◌, ◌∷◌, ◌≡◌}
 use Rattle.dwp_base.proofs.Steps.{bind-was}
 use Rattle.dwp_base.specs.declared.section.SectionKind.TheVariants.{CuIndex, Str, TuIndex}
 use Rattle.thorin_index.specs.EntryTests.{contributions_test, count_test, format_test, number_test}
@@ -87,8 +87,7 @@ pub record HavePassed (version : ℕ) (entries : List IndexEntry) : Type 0 where
 
 range_known : (version : ℕ) (kind : SectionKind) (range : Option Contribution)
     → format_test version kind range ≡ Ok tt → is_some range ≡ true → has_number version kind ≡ true
-range_known version kind None e some = absurd cc
-range_known version kind (Some c) e some = passed (has_number version kind) _ e
+range_known version kind range e some = grind (arith, passed (has_number version kind))
 
 pub used_known : (version : ℕ) (entries : List IndexEntry) → All (λ entry. (kind : SectionKind)
     → is_some (contribution_to kind entry) ≡ true → has_number version kind ≡ true) entries

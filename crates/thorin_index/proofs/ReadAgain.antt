@@ -67,23 +67,17 @@ put_8 Big f = record {
 pub after_front : (n : ℕ) (front rest : List ℕ) → length front ≡ n → after n (front ++ rest) ≡ Ok
     rest
 after_front n front rest e =
-    rw (
-      le-ltb (length (front ++ rest)) n (omega (arith, length-append front rest)),
-      drop_at front rest n e,
-    ) refl
+    let enough = le-ltb (length (front ++ rest)) n (omega (arith, length-append front rest)) in
+    rw (enough, drop_at front rest n e) refl
 
 -- ---- some items, one after the other
 module _ {X Y : Type 0} {put : X → List ℕ} {read : List ℕ → Y} {is : X → Y} {Fits : X → Type 0}
     {width : ℕ} (one : IsPut put read is Fits width) where
   pub length_put : (xs : List X) → length (flat_map put xs) ≡ width * length xs
   length_put [] = omega arith
-  length_put (x ∷ xs) = omega (
-    arith,
-    length-append (put x) (flat_map put xs),
-    one.len x,
-    length_put xs,
-    mul-suc width (length xs),
-  )
+  length_put (x ∷ xs) =
+      let both = length-append (put x) (flat_map put xs) in
+      omega (arith, both, one.len x, length_put xs, mul-suc width (length xs))
 
   pub after_put : (xs : List X) (rest : List ℕ) → after (width * length xs)
       (flat_map put xs ++ rest) ≡ Ok rest
@@ -282,11 +276,9 @@ index_is_read order encoding entries bytes tests small_ids text =
     let kinds = used_sections entries in
     let ids = entry_ids entries in
     let count : length ids ≡ length entries = length-map entries (λ e. identifier_of e.id) in
-    let columns : length kinds ≤ 10 = omega (
-      arith,
-      length-filter (is_used entries) contribution_kinds,
-      count_by-le-length (is_used entries) contribution_kinds,
-    ) in
+    let used = length-filter (is_used entries) contribution_kinds in
+    let most = count_by-le-length (is_used entries) contribution_kinds in
+    let columns : length kinds ≤ 10 = omega (arith, used, most) in
     let signatures = put_8 order (signature_of ids) in
     let slots = put_4 order (λ (row : ℕ). row) in
     let offsets = put_row order kinds (λ (e : IndexEntry) (k : SectionKind).
@@ -347,8 +339,7 @@ found_at p xs i at =
 any-made : {X Y : Type 0} (p : X → Bool) (f : X → Y) (q : Y → Bool) (xs : List X)
     → list_any q (map f (filter p xs)) ≡ list_any (λ x. p x && q (f x)) xs
 any-made p f q [] = refl
-any-made p f q (x ∷ xs) = by-bool _ (p x) (λ yes. rw (yes, any-made p f q xs) refl)
-    (λ no. rw (no, any-made p f q xs) refl)
+any-made p f q (x ∷ xs) = grind (arith, any-made p f q xs)
 
 module _ (version : ℕ) (entries : List IndexEntry) (passed : HavePassed version entries) where
   abbrev kinds : List SectionKind

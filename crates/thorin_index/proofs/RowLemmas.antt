@@ -1,21 +1,21 @@
 -- The rows of an index as they are held: what they stand for where more is shared. One more row in
 -- its hash table, and bytes that a loop adds.
-use Rattle.std.proofs.lemmas.Bool.{cases_lt, lt-ltb}
+use Rattle.std.proofs.lemmas.Bool.{cases_lt}
+use Rattle.std.proofs.lemmas.Bool.Decides.{nat_tests}
 use Rattle.std.proofs.lemmas.Option.{get_or_from_slice_get, slice_get_within}
 use Rattle.thorin_index.proofs.Terms
 use Terms.{All, All-push, Encoding, Endianness, Err, ErrorValue, IndexEntry, IsHashTable, IsLooked}
 use Terms.{IsPlacedAfter, List, Ok, OnErr, Result, SectionKind, Some, [], ap, arith, below_more}
 use Terms.{blank, contribution_kinds, contribution_to, entry_by, entry_ids, flat_map, flat_map_more}
 use Terms.{get_or, get_or-take, get_or_append_left, get_or_default, get_or_push, identifier_of}
-use Terms.{index_version_of, inl, inr, length, length-map, length-take, length_push, ltb, map}
-use Terms.{map_more, map_push, refl, row_of, slice_get, suc, sym, take, take_more, true}
-use Terms.{used_sections, with_own, ℕ, ◌*◌, ◌++◌, ◌+◌, ◌-◌, ◌<◌, ◌^◌, ◌∙◌, ◌∷◌, ◌≡◌, ◌≤◌}
+use Terms.{index_version_of, inl, inr, length, length-map, length-take, length_push, map, map_more}
+use Terms.{map_push, refl, row_of, slice_get, suc, sym, take, take_more, used_sections, with_own, ℕ}
+use Terms.{◌++◌, ◌+◌, ◌-◌, ◌<◌, ◌∙◌, ◌∷◌, ◌≡◌, ◌≤◌}
 use Rattle.dwp_table.specs.Table.{HasSlots}
 use Rattle.dwp_table.specs.declared.object.DwarfObject.{DwarfObject}
 use Rattle.thorin_index.specs.EntryTests.{count_test, index_tests, tests_under}
 use Rattle.thorin_index.specs.IndexText.{IsIndexOf, index_bytes}
 use Rattle.thorin_index.specs.declared.rows.Own.{Own}
-use Rattle.thorin_index.specs.declared.rows.Own.TheVariants.{Info, Nothing, Types}
 use Rattle.thorin_index.specs.declared.rows.Row.{Row}
 use Rattle.thorin_index.proofs.Each.{by_contribution}
 
@@ -45,23 +45,18 @@ pub numbered_pushed : (shared more : List IndexEntry) (rows : List Row) (row : R
     → slice_get more row.shared ≡ Some rest → AreNumbered shared rows
     → AreNumbered more (rows ++ row ∷ [])
 numbered_pushed shared more rows row rest kept there numbered =
-    All-push (λ (r : Row). r.shared < length more) rows row (λ k d less. omega (
-      arith,
-      at_least shared more kept,
-      numbered k d less,
-    )) (slice_get_within more row.shared rest there)
+    All-push (λ (r : Row). r.shared < length more) rows row
+    (λ k d less. omega (arith, at_least shared more kept, numbered k d less))
+    (slice_get_within more row.shared rest there)
 
 pub pushed : (shared more : List IndexEntry) (rows : List Row) (row : Row) (rest entry : IndexEntry)
     → take (length shared) more ≡ shared → slice_get more row.shared ≡ Some rest
     → with_own row.id row.own rest ≡ entry → AreNumbered shared rows
     → map (row_of more) (rows ++ row ∷ []) ≡ map (row_of shared) rows ++ entry ∷ []
 pushed shared more rows row rest entry kept there whole numbered =
-    map_push (row_of more) rows row
-    ∙ rw (
-      kept_rows shared more rows kept numbered,
-      get_or_from_slice_get more row.shared rest blank there,
-      whole,
-    ) refl
+    let same = kept_rows shared more rows kept numbered in
+    let last = get_or_from_slice_get more row.shared rest blank there in
+    map_push (row_of more) rows row ∙ rw (same, last, whole) refl
 
 -- what holds whatever came holds of an error
 pub on_err : {T E P : Type 0} (r : Result T E) → P → OnErr r P
@@ -69,9 +64,7 @@ on_err (Ok x) p = tt
 on_err (Err e) p = p
 
 own_id : (id : DwarfObject) (own : Own) (entry : IndexEntry) → (with_own id own entry).id ≡ id
-own_id id Nothing entry = refl
-own_id id (Info range) entry = refl
-own_id id (Types range) entry = refl
+own_id id own entry = grind arith
 
 -- the identifiers of rows are those of their entries
 pub row_ids : (shared : List IndexEntry) (rows : List Row)
@@ -108,11 +101,9 @@ one_more n e a b within last same =
 -- no row number of a table is above the number of rows
 pub rows_within : (entries : List IndexEntry) (slots : List ℕ)
     → IsHashTable (entry_ids entries) slots → All (λ (row : ℕ). row ≤ length entries) slots
-rows_within entries slots table k d less = rw (get_or_default slots k d 0 less) (omega (
-  arith,
-  table.only k,
-  length-map entries (λ (entry : IndexEntry). identifier_of entry.id),
-))
+rows_within entries slots table k d less =
+    let count = length-map entries (λ (entry : IndexEntry). identifier_of entry.id) in
+    rw (get_or_default slots k d 0 less) (omega (arith, table.only k, count))
 
 -- their tests are those under the first one's encoding
 pub tests_of_some : (entries : List IndexEntry) (encoding : Encoding) → 0 < length entries
@@ -123,10 +114,7 @@ tests_of_some (entry ∷ entries) encoding some e = rw e refl
 
 -- so many rows aren't refused
 pub not_refused : (n : ℕ) (e : ErrorValue) → n ≤ 1431655765 → count_test n ≡ Err e → ⊥
-not_refused n e few is =
-    let fits : ltb (3 * n) (2 ^ 32) ≡ true = lt-ltb (3 * n) (2 ^ 32) (omega arith) in
-    let ok = rw fits at is in
-    cc
+not_refused n e few is = grind (arith, nat_tests)
 
 pub index_is : (order : Endianness) (entries : List IndexEntry) (encoding : Encoding)
     (held bytes : List ℕ) → 0 < length entries → encoding ≡ (get_or entries 0 blank).encoding

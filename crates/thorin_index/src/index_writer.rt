@@ -17,7 +17,6 @@ use crate::entry::IndexEntry;
 use crate::rows::IndexRows;
 use dwp_base::{Contribution, Endianness, SectionKind};
 use dwp_bytes::Encoding;
-use dwp_table::laws::unused_slots_are_a_table;
 use dwp_table::{Bucketable, CONTRIBUTION_KINDS, column_of, place_row, slot_count};
 use std::alloc::{AllocError, Global};
 use thorin_errors::Error;
@@ -180,7 +179,6 @@ pub fn bucket<B: Bucketable>(alloc: Global, units: &[B]) -> Result<Buckets, Erro
     test_count(units.len())?;
     let mut slots = vec![in alloc; 0u32; slot_count(units.len() as u32) as usize]?;
     let mut looked = Vec::with_capacity(alloc, units.len())?;
-    unused_slots_are_a_table();
     let table = slots.as_mut_slice();
     for (i, unit) in units.iter().enumerate() {
         looked.push(place_row(table, unit.index(), i as u32 + 1).unwrap())?;

@@ -53,19 +53,15 @@ fn split(entry: &IndexEntry) -> (Own, IndexEntry)
 {
     let mut shared = *entry;
     shared.id = DwarfObject::TypeUnit(DebugTypeSignature(0));
-    let info = entry.contribution(SectionKind::Info);
-    let types = entry.contribution(SectionKind::Types);
-    match (info, types) {
-        (Some(range), _) => {
-            shared.debug_info = None;
-            (Own::Info(range), shared)
-        }
-        (None, Some(range)) => {
-            shared.debug_types = None;
-            (Own::Types(range), shared)
-        }
-        (None, None) => (Own::Nothing, shared),
+    if let Some(range) = shared.debug_info {
+        shared.debug_info = None;
+        return (Own::Info(range), shared);
     }
+    if let Some(range) = shared.debug_types {
+        shared.debug_types = None;
+        return (Own::Types(range), shared);
+    }
+    (Own::Nothing, shared)
 }
 
 /// Whether two entries are the same.

@@ -3,11 +3,8 @@ use Rattle.thorin_package_input.proofs.Terms.{cases_eq, Contribution, Index, is_
 use Rattle.thorin_package_input.proofs.Terms.{position_from, range_in, range_of_row, range_with_len}
 use Rattle.thorin_package_input.proofs.Terms.{Ranges, ranges_of, row_in, SectionKind}
 use Rattle.std.proofs.Common.{◌≡◌, ◌≢◌, ℕ, zero, suc, ◌+◌, ◌<◌, ◌≤◌, Bool, true, false, length, map}
-use Rattle.std.proofs.Common.{Some, None, Ok, Err, Option, Result, refl, arith, MatchOption}
-use Rattle.std.proofs.Common.{option_and_then}
-use Rattle.std.specs.Result.{result_ok}
+use Rattle.std.proofs.Common.{Some, None, Ok, Option, refl, arith, rules, MatchOption}
 use Rattle.dwp_base.proofs.Bools.{by-bool}
-use Rattle.dwp_bytes.specs.declared.error.ReadError.{ReadError}
 use Rattle.thorin_package_input.specs.RowPlaces.{IsFirstWith, row_by_place}
 
 -- ---- the first of f a, f (a + 1) and so on that passes a test
@@ -57,12 +54,6 @@ pub range_is : (range : Contribution) (found : Option Contribution) → is_range
     → found ≡ Some range
 range_is range found passes = grind (arith, nat_tests)
 
-row_with : (kind : SectionKind) (range : Contribution) (found : Result Ranges ReadError)
-    → option_and_then (λ row. range_in row kind) (result_ok found) ≡ Some range → (row : Ranges)
-    × (found ≡ Ok row) × (range_in row kind ≡ Some range)
-row_with kind range (Ok row) has = (row, refl, has)
-row_with kind range (Err e) has = absurd cc
-
 pub range_of_found : (index : Index) (kind : SectionKind) (number : ℕ) (row : Ranges)
     → row_in index number ≡ Ok row → range_of_row index kind number ≡ range_in row kind
 range_of_found index kind number row there = rw there refl
@@ -92,7 +83,7 @@ module _ (index : Index) (kind : SectionKind) (range : Contribution) where
 
   row_found : (number : ℕ) → test (of_row number) ≡ true → (row : Ranges)
       × (row_in index number ≡ Ok row) × (range_in row kind ≡ Some range)
-  row_found number passes = row_with kind range (row_in index number) (range_is range _ passes)
+  row_found number passes = grind (rules, range_is range)
 
   is_first : (number : ℕ) → IsFirstAt test of_row 1 (1 + length index.offsets) number
       → IsFirstWith index kind range number
@@ -138,11 +129,4 @@ module _ (index : Index) (kind : SectionKind) (range : Contribution) where
       found_there None none = grind (arith, none number, first.low, first.high, passes)
       found_there (Some i) at =
           let row = row_found i at.here in
-          grind (
-            arith,
-            first.first i row.0,
-            row.1,
-            row.2,
-            at.before number first.low,
-            passes,
-          )
+          grind (arith, first.first i row.0, row.1, row.2, at.before number first.low, passes)

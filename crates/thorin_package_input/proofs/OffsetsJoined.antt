@@ -7,7 +7,6 @@ use Rattle.std.proofs.Common.{sym, ◌∙◌, drop_at, drop-drop, length-drop, l
 use Rattle.std.proofs.lemmas.List.{get_or_append_left, drop-append-le}
 use Rattle.std.proofs.lemmas.Bool.{cases_lt, lt-leb}
 use Rattle.std.proofs.lemmas.Nat.{row_fits}
-use Rattle.dwp_base.specs.declared.endian.Endianness.TheVariants.{Little, Big}
 use Rattle.dwp_base.specs.Numbers.{number}
 use Rattle.dwp_bytes.specs.declared.encoding.Format.{Format}
 use Rattle.dwp_bytes.specs.declared.encoding.Format.TheVariants.{Dwarf32, Dwarf64}
@@ -20,10 +19,7 @@ use Rattle.thorin_strings.proofs.NamedEntries.{as_error_ok}
 pub number_front : (order : Endianness) (format : Format) (xs ys : List ℕ)
     → offset_size format ≤ length
     xs → number order (offset_size format) (xs ++ ys) ≡ number order (offset_size format) xs
-number_front Little Dwarf32 xs ys within = grind (arith, get_or_append_left)
-number_front Big Dwarf32 xs ys within = grind (arith, get_or_append_left)
-number_front Little Dwarf64 xs ys within = grind (arith, get_or_append_left)
-number_front Big Dwarf64 xs ys within = grind (arith, get_or_append_left)
+number_front order format xs ys within = grind (arith, get_or_append_left)
 
 pub no_header : (encoding : Encoding) → encoding.version < 5 → header_size encoding ≡ 0
 no_header encoding old = rw (lt-leb 5 encoding.version old) refl

@@ -9,9 +9,11 @@ use Rattle.std.proofs.Common.{append_assoc, length-append, length-drop, arith}
 use Rattle.std.proofs.Math.Nat.{div-add-mod}
 use Rattle.std.proofs.lemmas.List.{drop_at, take_at, take_all, length-take-le}
 use Rattle.dwp_base.proofs.Steps.{bind-was, same-ok}
+use Rattle.thorin_strings.proofs.NamedEntries.{range_named}
 use Rattle.thorin_package_input.specs.PackagedOffsets.{packaged_offsets}
 use Rattle.thorin_package_input.specs.PackagedReading.{PackageReadsAlike, RangeReadsAlike}
 use Rattle.thorin_package_input.specs.PackagedReading.{range_bytes}
+use Rattle.thorin_package_input.proofs.OffsetsJoined.{strings_again}
 use Rattle.thorin_package_input.proofs.RewriteSteps.{IsNext, next_passed}
 use Rattle.thorin_package_input.proofs.RowRanges.{IsIn, compilation_there, type_there}
 
@@ -40,6 +42,15 @@ AlikeLaw = (order : Endianness) (encoding : Encoding) (section bytes : List ℕ)
     → IsTable before → remapped order encoding section bytes (length bytes) before ≡ Ok
     (rewritten, after) → IsTable final → take (length after) final ≡ after → (i : ℕ)
     → ReadsAlike order encoding section bytes (data_of final) rewritten i
+
+pub names_same : NamesLaw
+names_same order encoding section bytes size before rewritten after =
+    range_named order encoding section bytes size before (rewritten, after)
+
+pub strings_alike : AlikeLaw
+strings_alike order encoding section bytes before rewritten after final table ok =
+    strings_again order encoding section bytes before rewritten after final
+    (names_same order encoding section bytes (length bytes) before rewritten after table ok)
 
 module _ (names : NamesLaw) (order : Endianness) (encoding : Encoding)
     (section bytes : List ℕ) where
@@ -73,12 +84,9 @@ module _ (names : NamesLaw) (order : Endianness) (encoding : Encoding)
   same_size last r rs old new rewritten next named =
       ⊎_elim
       (λ (none : r.size ≡ 0). ap length (named.none none) ∙ sym none)
-      (λ some. omega (
-        arith,
-        named.long some,
-        div-add-mod (r.size - header_size encoding)
-            (offset_size encoding.format),
-      ))
+      (λ some. let long = named.long some in
+      omega (arith, long, div-add-mod (r.size - header_size encoding)
+      (offset_size encoding.format)))
       (cases_eq r.size 0)
 
   module _ (at : ℕ) (x : Contribution) (xs : List Contribution) (before between : List (List ℕ))

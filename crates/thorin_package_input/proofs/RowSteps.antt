@@ -25,10 +25,9 @@ ranges_from index kind n less =
 pub ranges_none : (index : Index) (kind : SectionKind) (n : ℕ) → length index.offsets ≤ n
     → drop n (ranges_of index kind) ≡ []
 unfolding ranges_of
-ranges_none index kind n past = drop_all n _ (omega (
-  arith,
-  length-map-range_with_len (range_of_row index kind) 1 (length index.offsets),
-))
+ranges_none index kind n past =
+    let count = length-map-range_with_len (range_of_row index kind) 1 (length index.offsets) in
+    drop_all n _ (omega (arith, count))
 
 -- ---- keys of place and size
 same_key : (a b c d : ℕ) → is_eq (ordering_then (nat_cmp a b) (nat_cmp c d)) ≡
@@ -98,12 +97,7 @@ module _ (index : Index) (n : ℕ) where
     pub row_stored : (r : Contribution) → range_of_row index StrOffsets (n + 1) ≡ Some r
         → new ≡ insert_key pair_cmp keys (r.offset.0, r.size) → left (n + 1) new ≡ left n keys
     row_stored r there stored =
-        rw (
-          ranges_from index StrOffsets n less,
-          there,
-          stored,
-          map-insert_key keys (r.offset.0, r.size),
-        ) refl
+        rw (ranges_from index StrOffsets n less, there, stored, map-insert_key) refl
 
     pub row_absent : range_of_row index StrOffsets (n + 1) ≡ None → new ≡ keys
         → left (n + 1) new ≡ left n keys

@@ -17,8 +17,6 @@ ghost use Rattle.thorin_package_input.specs.PackagedReading.{PackageReadsAlike};
 ghost use Rattle.thorin_package_input.specs.ReadStrings.{ReadsAlike};
 ghost use Rattle.thorin_package_input.specs.RowPlaces.{IsFirstWith, row_by_place};
 
-use thorin_strings::laws::rewritten_offsets_name_the_same;
-
 /// A row that is found by its range in a section has that range, and no row before it has. It does
 /// nothing.
 pub fn rows_are_found_by_place()
@@ -50,10 +48,7 @@ pub fn packaged_rows_are_read_alike()
         → packaged_offsets order encoding compilations types section bytes before
         ≡ Ok (written, after)
         → PackageReadsAlike order encoding compilations types section bytes before written after }
-{
-    rewritten_offsets_name_the_same();
-    rewritten_strings_are_read_alike();
-}
+{}
 
 /// A range of string offsets that was rewritten is read as before, of each number, in the section
 /// of any table that begins with the strings after it. It does nothing.
@@ -66,9 +61,7 @@ pub fn rewritten_strings_are_read_alike()
         → take (length after) final ≡ after
         → (i : ℕ)
         → ReadsAlike order encoding section bytes (data_of final) rewritten i }
-{
-    rewritten_offsets_name_the_same();
-}
+{}
 
 /// Two ranges of string offsets before DWARF 5, which have no header, joined are read in turn: the
 /// first has `n` whole entries. It does nothing.

@@ -110,8 +110,7 @@ fn add_rows(
     Ok(())
 }
 
-/// Whether a range lies inside a section of so many bytes, isn't shorter than its header, and has
-/// whole entries.
+/// Whether a range lies inside a section of so many bytes, with its header and whole entries.
 fn is_whole_range(range: Contribution, encoding: Encoding, size: u64) -> bool
     ensures { result ≡ is_whole_range encoding size range }
 {

@@ -11,8 +11,7 @@ use std::collections::BTreeMap;
 use std::marker::Model;
 use thorin_errors::Error;
 
-/// Finds rows of an index by the range that they have in one section, without a look at all rows
-/// for each.
+/// Finds rows of an index by their range in one section, without a look at all rows for each.
 #[derive(Drop)]
 pub struct RowPlaces<'i, 'a> {
     index: Option<&'i UnitIndex<'a>>,
@@ -62,8 +61,7 @@ impl<'i, 'a> RowPlaces<'i, 'a> {
         })
     }
 
-    /// The number of the lowest row, counted from 1, whose range in the section is exactly that
-    /// one.
+    /// The number of the lowest row, counted from 1, whose range in the section is that one.
     pub fn find(&self, range: Contribution) -> Option<u32>
         ensures { result ≡ row_by_place self.now.index self.now.section range }
     {

@@ -1,5 +1,4 @@
-use Rattle.std.proofs.Common.{suc, inr, sym, subst, arith, IsTrue, pow-suc}
-use Rattle.std.specs.Int.{is_power_of_two}
+use Rattle.std.proofs.Common.{suc, inr, arith, pow-suc}
 use Rattle.dwp_table.proofs.Numbers.{has_slots, is_power}
 use Rattle.dwp_table.proofs.slots.slot_count.Goals as goal
 
@@ -14,5 +13,5 @@ returns-clause-slots c = let k = c.loop-size.invariant.power in has_slots c.args
     c.loop-size.size k.0 k.1 c.loop-size.invariant.least (omega arith)
 
 pub returns-clause-power : goal.returns-clause-power
-returns-clause-power c = let k = c.loop-size.invariant.power in
-    subst (λ n. IsTrue (is_power_of_two n)) (sym k.1) (is_power (suc k.0))
+returns-clause-power c =
+    let k = c.loop-size.invariant.power in rw k.1 (is_power (suc k.0))

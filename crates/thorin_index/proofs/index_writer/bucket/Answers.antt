@@ -1,6 +1,7 @@
 use Rattle.thorin_index.proofs.Terms.{[], arith, common_steps, drop, length, length-map}
 use Rattle.thorin_index.proofs.Terms.{length-take-le, map, map_more, refl, replicate, rules, take}
 use Rattle.thorin_index.proofs.Terms.{take_all, take_at, ◌++◌, ◌+◌, ◌∙◌, ◌∷◌, ◌≡◌}
+use Rattle.dwp_table.proofs.Placing.{empty_table}
 use Rattle.thorin_index.proofs.RowLemmas.{looked_more, none_looked}
 use Rattle.thorin_index.proofs.index_writer.bucket.Goals as goal
 
@@ -11,8 +12,7 @@ loop-i-init g c =
     c.in_ok-slots.ensures.items_if_clones_equal (λ _ e. e) in
     record {
       table = rw (c.as_mut_slice-table.ensures.value, items)
-          (c.unused_slots_are_a_table.ensures size c.slot_count.ensures.power
-          c.slot_count.type_inv);
+          (empty_table size c.slot_count.ensures.power c.slot_count.type_inv);
       looked = none_looked _ _ c.in_ok-looked.ensures.items;
     }
 
@@ -29,13 +29,9 @@ loop-i-preserved g c =
     ∙ rw (← c.index-units-i.is, ← c.index.ensures) refl in
     let placed = c.place_row.ensures in
     let before = c.loop-i.invariant in
+    let same = c.loop-i.auto.table in
     let long : length c.loop-i.table ≡ c.slot_count.result =
-    omega (
-      arith,
-      c.loop-i.auto.table,
-      c.as_mut_slice-table.ensures.len,
-      c.in_ok-slots.ensures.len,
-    ) in
+    omega (arith, same, c.as_mut_slice-table.ensures.len, c.in_ok-slots.ensures.len) in
     record {
       table = rw more (placed.table ids before.table (omega (arith, count))
           (omega (arith, long, c.slot_count.ensures.room)));

@@ -6,14 +6,11 @@ loop-entry-preserved c =
     c.in_ok-push.ensures.pushed ∙ rw c.loop-entry.invariant
     (sym (take_more c.args.entries.now c.loop-entry.entry-index _ c.loop-entry-test.true))
 
-pub returns-clause-refusal : goal.returns-clause-refusal
-returns-clause-refusal c =
+pub returns : goal.returns
+returns c =
     let all : c.loop-entry.rows ≡ c.args.entries.now = c.loop-entry.invariant
     ∙ take_all c.loop-entry.entry-index c.args.entries.now (omega arith) in
-    rw all at c.write_rows.ensures.refusal
-
-pub returns-clause-written : goal.returns-clause-written
-returns-clause-written c =
-    let all : c.loop-entry.rows ≡ c.args.entries.now = c.loop-entry.invariant
-    ∙ take_all c.loop-entry.entry-index c.args.entries.now (omega arith) in
-    rw all at c.write_rows.ensures.written
+    record {
+      refusal = rw all at c.write_rows.ensures.refusal;
+      written = rw all at c.write_rows.ensures.written;
+    }

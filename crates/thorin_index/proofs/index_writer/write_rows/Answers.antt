@@ -15,25 +15,16 @@ returns-in_err-slots-clause-refusal c =
     rw (p.1, p.2) (λ other. absurd (not_refused _ _ c.in_ok-test_entries.ensures.few
     (c.in_err-slots.ensures.refusal other)))
 
-pub index_text-requires-clause-few_columns : goal.index_text-requires-clause-few_columns
-index_text-requires-clause-few_columns c = omega (arith, c.in_ok-columns.ensures.few)
-
-pub index_text-requires-clause-few_rows : goal.index_text-requires-clause-few_rows
-index_text-requires-clause-few_rows c = omega (arith, c.in_ok-test_entries.ensures.few)
-
-pub index_text-requires-clause-few_slots : goal.index_text-requires-clause-few_slots
-index_text-requires-clause-few_slots c =
-    rw c.deref-2.ensures.value c.in_ok-slots.ensures.table.small
-
-pub index_text-requires-clause-rows : goal.index_text-requires-clause-rows
-index_text-requires-clause-rows c = rw c.deref-2.ensures.value
-    (rows_within c.args.rows.now c.in_ok-slots.slots.items c.in_ok-slots.ensures.table)
-
-pub index_text-requires-clause-offsets : goal.index_text-requires-clause-offsets
-index_text-requires-clause-offsets c = c.in_ok-test_entries.ensures.offsets
-
-pub index_text-requires-clause-sizes : goal.index_text-requires-clause-sizes
-index_text-requires-clause-sizes c = c.in_ok-test_entries.ensures.sizes
+pub index_text-requires : goal.index_text-requires
+index_text-requires c = record {
+  few_columns = omega (arith, c.in_ok-columns.ensures.few);
+  few_rows = omega (arith, c.in_ok-test_entries.ensures.few);
+  few_slots = rw c.deref-2.ensures.value c.in_ok-slots.ensures.table.small;
+  rows = rw c.deref-2.ensures.value
+      (rows_within c.args.rows.now c.in_ok-slots.slots.items c.in_ok-slots.ensures.table);
+  offsets = c.in_ok-test_entries.ensures.offsets;
+  sizes = c.in_ok-test_entries.ensures.sizes;
+}
 
 pub returns-clause-refusal : goal.returns-clause-refusal
 returns-clause-refusal c = tests_of_some c.args.rows.now c.encoding-encoding.result (omega arith)

@@ -57,11 +57,9 @@ returns-then-signature-identifier c =
     record { row = row; count = sym end.1; bound = says.0; exact = says.1; few = says.2 }
 
 pub place_after-at-requires-clause-within : goal.place_after-at-requires-clause-within
-place_after-at-requires-clause-within c = omega (
-  arith,
-  c.loop-looked.invariant.within,
-  slots-length c.self.inside c.args.self.now c.self.view_is,
-)
+place_after-at-requires-clause-within c =
+    let slots = slots-length c.self.inside c.args.self.now c.self.view_is in
+    omega (arith, c.loop-looked.invariant.within, slots)
 
 pub loop-looked-preserved : goal.loop-looked-preserved
 loop-looked-preserved c =

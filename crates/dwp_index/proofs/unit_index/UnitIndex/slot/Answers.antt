@@ -11,11 +11,8 @@ tail-requires c =
 pub read_u64-requires : goal.read_u64-requires
 read_u64-requires c =
     let slots = slots-length c.self.inside c.args.self.now c.self.view_is in
-    rw c.tail.ensures (omega (
-      arith,
-      c.self.invariant.signatures,
-      length-drop (8 * c.args.slot) c.self.inside.signatures.now,
-    ))
+    let left = length-drop (8 * c.args.slot) c.self.inside.signatures.now in
+    rw c.tail.ensures (omega (arith, c.self.invariant.signatures, left))
 
 pub read_u32_at-requires : goal.read_u32_at-requires
 read_u32_at-requires c =
