@@ -56,20 +56,15 @@ pub string_at-found : (section : List ℕ) (at end : ℕ) → at ≤ length sect
     (take end (drop at section))
 unfolding string_at
 string_at-found section at end within found =
-    rw (
-      le-ltb (length section) at within,
-      list_any_at (λ b. eqb b 0) (drop at section) end 0 found.0.high found.1,
-      first_is 0 (drop at section) (Some end) found,
-    ) refl
+    let any = list_any_at (λ b. eqb b 0) (drop at section) end 0 found.0.high found.1 in
+    let first = first_is 0 (drop at section) (Some end) found in
+    rw (le-ltb (length section) at within, any, first) refl
 
 pub string_at-unended : (section : List ℕ) (at : ℕ) → at ≤ length section → IsFirstByte (is_byte 0)
     (drop at section) None → string_at section at ≡ Err NoTerminator
 unfolding string_at
 string_at-unended section at within found =
     let bytes = drop at section in
-    rw (
-      le-ltb (length section) at within,
-      list_any_none (λ b. eqb b 0) bytes (λ k d below. rw (get_or_default bytes k d 0 below)
-          (false_from_ne_true _ (found k (omega arith) below))),
-    )
-    refl
+    let none = list_any_none (λ b. eqb b 0) bytes (λ k d below.
+    rw (get_or_default bytes k d 0 below) (false_from_ne_true _ (found k (omega arith) below))) in
+    rw (le-ltb (length section) at within, none) refl

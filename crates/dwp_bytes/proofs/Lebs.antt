@@ -18,6 +18,12 @@ pub small : (k scale : ℕ) → scale ≡ 128 ^ k → k < 9 → scale ≤ 128 ^ 
 small k scale e lt = let here : 128 ^ k ≤ 128 ^ 8 = pow-le-pow_right {n = 128} (omega arith) {i = k}
     {j = 8} (omega arith) in omega (arith, e, here)
 
+-- seven bits more before the tenth byte
+pub seven_more : (k value scale low : ℕ) → scale ≡ 128 ^ k → k < 9 → value < scale → low ≤ 127
+    → value + low * scale < 2 ^ 63
+seven_more k value scale low scaled lt below high =
+    omega (arith, small k scale scaled lt, mul-le-mul_right {m = low} {n = 127} scale high)
+
 -- ---- numbers of either kind, by how those of some bytes are read, and what a number is behind a
 -- value
 module _ {N : Type 0} (read : ℕ → Input → Result (N × Input) ReadError) (behind : ℕ → ℕ → N
@@ -31,15 +37,6 @@ module _ {N : Type 0} (read : ℕ → Input → Result (N × Input) ReadError) (
     pub scaled : scale ≡ 128 ^ k
     pub below : value < scale
     pub rest : carried value scale (read (10 - k) i) ≡ read 10 first
-
-  -- before the first byte
-  pub begun : ((n : N) → behind 0 1 n ≡ n) → (i : Input) → SoFar i i 0 0 1
-  begun same i =
-      record { scaled = refl; below = omega arith; rest = kept (read 10 i) }
-    where
-      kept : (r : Result (N × Input) ReadError) → carried 0 1 r ≡ r
-      kept (Ok x) = ap (λ n. Ok (n, x.1)) (same x.0)
-      kept (Err e) = refl
 
   module _ {first i : Input} {k value scale : ℕ} (far : SoFar first i k value scale) where
     -- the number is what the rest of it says
@@ -71,12 +68,7 @@ module _ {N : Type 0} {read : ℕ → Input → Result (N × Input) ReadError} {
     {first i : Input} {k value scale : ℕ} (far : SoFar read behind first i k value scale) where
   -- seven more bits fit before the tenth byte
   pub fits : (low : ℕ) → k < 9 → low ≤ 127 → value + low * scale < 2 ^ 63
-  fits low lt high = omega (
-    arith,
-    far.below,
-    small k scale far.scaled lt,
-    mul-le-mul_right {m = low} {n = 127} scale high,
-  )
+  fits low lt high = seven_more k value scale low far.scaled lt far.below high
 
   -- and one more bit after nine
   pub last_fits : (low : ℕ) → k ≡ 9 → low ≤ 1 → value + low * scale < 2 ^ 64
@@ -86,9 +78,6 @@ module _ {N : Type 0} {read : ℕ → Input → Result (N × Input) ReadError} {
 -- ---- unsigned numbers
 abbrev pub unsigned : ℕ → ℕ → ℕ → ℕ
 unsigned value scale n = value + scale * n
-
-pub unsigned_begun : (i : Input) → SoFar leb_at unsigned i i 0 0 1
-unsigned_begun i = begun leb_at unsigned (λ n. omega arith) i
 
 last_byte : (n : ℕ) (i : Input) (b : ℕ) (j : Input) → byte_at i ≡ Ok (b, j) → b < 128
     → leb_at (suc n) i ≡ Ok (b, j)
@@ -151,9 +140,6 @@ module _ {first i : Input} {k value scale : ℕ}
 -- ---- signed numbers behind a value
 abbrev pub signed : ℕ → ℕ → ℤ → ℤ
 signed value scale z = pos value +ℤ pos scale *ℤ z
-
-pub signed_begun : (i : Input) → SoFar signed_leb_at signed i i 0 0 1
-signed_begun i = begun signed_leb_at signed (λ z. omega (arith, ints)) i
 
 -- a difference, so many times
 scaled_less : (s a b : ℕ) → pos s *ℤ (pos a -ℤ pos b) ≡ pos (s * a) -ℤ pos (s * b)

@@ -1,4 +1,3 @@
 pub mod Found
 pub mod Lebs
 pub mod Forward
-pub mod Relocations

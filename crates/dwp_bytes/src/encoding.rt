@@ -148,23 +148,19 @@ impl<'a> StringOffsets<'a> {
 
     /// The i-th offset; None past the last whole one.
     #[inline(always)]
-    #[tactic(auto, unfolding(crate::specs::StringOffsets::entry_in))]
+    #[tactic(auto, unfolding(crate::specs::StringOffsets::entry_in), using(std::proofs::lemmas::Grind::common_steps))]
     pub fn entry(&self, i: u64) -> Option<u64>
         ensures { result ≡ entry_in self.now.order self.now.encoding self.now.offsets.now i }
     {
-        let StringOffsets {
-            offsets,
-            order,
-            encoding,
-            ..
-        } = *self;
         if self.count() <= i {
             return None;
         }
-        let header = encoding.string_offsets_header_size();
-        Some(match encoding.format {
-            Format::Dwarf32 => u64::from(order.read_u32(&offsets[header + i as usize * 4..])),
-            Format::Dwarf64 => order.read_u64(&offsets[header + i as usize * 8..]),
+        let start = self.encoding.string_offsets_header_size();
+        Some(match self.encoding.format {
+            Format::Dwarf32 => {
+                u64::from(self.order.read_u32(&self.offsets[start + i as usize * 4..]))
+            }
+            Format::Dwarf64 => self.order.read_u64(&self.offsets[start + i as usize * 8..]),
         })
     }
 

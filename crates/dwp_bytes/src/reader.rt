@@ -229,7 +229,7 @@ pub trait Reader: Copy {
     ///
     /// # Errors
     /// `BigLeb` past 10 bytes or 64 bits, `UnexpectedEof` where the bytes end before the number.
-    #[tactic(auto, using(crate::proofs::Lebs::small))]
+    #[tactic(auto, using(crate::proofs::Lebs::small, crate::proofs::Lebs::seven_more))]
     fn read_uleb128(&mut self) -> Result<u64, ReadError>
         ensures { Reads (λ x. x) result (input self.old) (input self.new) uleb_at }
     {
@@ -257,7 +257,7 @@ pub trait Reader: Copy {
     ///
     /// # Errors
     /// `BigLeb` past 10 bytes or 64 bits, `UnexpectedEof` where the bytes end before the number.
-    #[tactic(auto, using(crate::proofs::Lebs::small))]
+    #[tactic(auto, using(crate::proofs::Lebs::small, crate::proofs::Lebs::seven_more))]
     fn read_sleb128(&mut self) -> Result<i64, ReadError>
         ensures { Reads (λ x. x) result (input self.old) (input self.new) sleb_at }
     {

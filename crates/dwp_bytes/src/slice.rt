@@ -59,11 +59,10 @@ impl<'a> Reader for SliceReader<'a> {
 
     #[tactic(auto, unfolding(crate::specs::Input::split_at))]
     fn split(&mut self, n: usize) -> Result<Self, ReadError> {
-        let bytes = self.bytes;
-        if bytes.len() < n {
+        if self.bytes.len() < n {
             return Err(ReadError::UnexpectedEof);
         }
-        let (front, rest) = bytes.split_at(n);
+        let (front, rest) = self.bytes.split_at(n);
         let mut piece = *self;
         piece.bytes = front;
         self.bytes = rest;

@@ -1,10 +1,8 @@
 -- Contents that grow, and what is taken back.
-use Rattle.std.proofs.Common.{◌≡◌, ℕ, List, [], ◌∷◌, ◌++◌, length, refl, ◌==◌, append_assoc}
-use Rattle.std.proofs.Math.Seq.{take-append_seam}
-use Rattle.dwp_base.specs.declared.section.SectionKind.{SectionKind}
-use Rattle.dwp_base.specs.Sections.{same_kind}
-use Rattle.dwp_base.proofs.Bools.{by-bool}
-use Rattle.dwp_elf.specs.Contents.{appended, truncated}
+use Rattle.std.proofs.Common.{◌==◌}
+use Rattle.dwp_elf.proofs.Terms
+use Terms.{[], append_assoc, appended, by-bool, length, List, refl, same_kind, SectionKind}
+use Terms.{take-append_seam, truncated, ℕ, ◌++◌, ◌∷◌, ◌≡◌}
 use Rattle.dwp_elf.specs.FileText.{Object}
 use Rattle.dwp_elf.specs.Growing.{Contents, Begins, HasFront, IsGrown, with_bytes, lengths}
 

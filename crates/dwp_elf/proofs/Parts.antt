@@ -120,17 +120,8 @@ text_parts w o p header count entry is placed counted made sized =
     ≡ replicate p.zeros 0 ++ (replicate entry 0 ++ rest) =
     rw (← replicate-append-replicate {A = ℕ} p.zeros entry 0)
     (append_assoc (replicate p.zeros 0) (replicate entry 0) rest) in
-    rw (
-      together,
-      ← is,
-      file_text-split,
-      made,
-      sized,
-      are.headers,
-      are.zeros,
-      are.names_size,
-      count,
-    ) refl
+    rw (together, ← is, file_text-split, made, sized)
+    (rw (are.headers, are.zeros, are.names_size, count) refl)
 
 few_zeros : (class : Class) (n zeros entry : ℕ) → zeros ≡ zeros_after n → entry ≡ entry_size class
     → zeros + entry ≤ 72

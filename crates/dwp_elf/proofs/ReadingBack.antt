@@ -8,7 +8,7 @@ use Terms.{Endianness, entry_size, every, file_length, header_size, headers_from
 use Terms.{length, length-append, length-replicate, List, list_all, Little, ltb-true, name_of}
 use Terms.{name_table, names_of, number, number_bytes, position_or_len, range_with_len, refl}
 use Terms.{replicate, SectionKind, Some, suc, sym, take, take-append_seam, true, word_size, zero, ℕ}
-use Terms.{◌∙◌, ◌∷◌, ◌≡◌, ◌≤◌}
+use Terms.{common_steps, ◌∙◌, ◌∷◌, ◌≡◌, ◌≤◌}
 use Rattle.std.specs.Str.{IsAscii}
 use Rattle.std.proofs.Math.Nat.{mul_comm}
 use Rattle.std.proofs.lemmas.Str.{IsUtf8-from_ascii, is_utf8-from_IsUtf8}
@@ -24,9 +24,9 @@ use Rattle.dwp_elf.specs.FileText.{identification, Object, file_header, section_
 use Rattle.dwp_elf.specs.FileText.{names_end, headers_place, zeros_after, null_header}
 use Rattle.dwp_elf.specs.FileText.{section_header, section_headers, file_text}
 use Rattle.dwp_elf.specs.Written.{plain_section, written_sections, written_elf}
-use Rattle.dwp_elf.proofs.KindCounts.{length-KindsDiffer}
+use Rattle.dwp_elf.proofs.KindCounts.{few_sections, length-KindsDiffer}
 use Rattle.dwp_elf.proofs.Limits.{length-number_bytes, length-section_header, length-file_header}
-use Rattle.dwp_elf.proofs.Limits.{length-null_header, length-file_text}
+use Rattle.dwp_elf.proofs.Limits.{Fits-from, length-null_header, length-file_text, refused_of}
 use Rattle.dwp_elf.proofs.Parts.{length-name_of, from_contents, from_names, from_zeros}
 use Rattle.dwp_elf.proofs.Parts.{file_text-split}
 
@@ -53,10 +53,8 @@ field-back : (front : List ℕ) (order : Endianness) (fs : List (ℕ × ℕ)) (r
     → x < 256 ^ n → number order n (drop k (front ++ spelled order fs rest)) ≡ x
 field-back front order [] rest i n x k at place h = absurd cc
 field-back front order (f ∷ fs) rest zero n x k at place h =
-    cc (
-      drop-append-add front (spelled order (f ∷ fs) rest) 0,
-      number-back order n x (spelled order fs rest) h,
-    )
+    let back = number-back order n x (spelled order fs rest) h in
+    cc (drop-append-add front (spelled order (f ∷ fs) rest) 0, back)
 field-back front order (f ∷ fs) rest (suc i) n x k at place h =
     let here = number_bytes order f.0 f.1 in
     let sizes = length-append front here in
@@ -373,3 +371,6 @@ pub written-back : (o : Object) → o.machine < 2 ^ 16 → KindsDiffer o.content
 written-back o small differ fits length_fits =
     elf_of-file_text o small (grind arith)
     (omega (arith, length-KindsDiffer o.contents differ))
+
+-- what is found of a file by its layout
+pub ruleset layouts = (few_sections, Fits-from, refused_of, written-back, common_steps)

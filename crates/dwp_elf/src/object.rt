@@ -163,6 +163,7 @@ impl WritableObject {
     ///
     /// # Errors
     /// Want of memory.
+    #[tactic(auto, using(crate::proofs::Changes::told_lengths))]
     pub fn lengths(&self) -> Result<Vec<usize>, AllocError>
         ensures { IfOk result (λ sizes. sizes.items ≡ lengths self.now.contents) }
     {
@@ -313,7 +314,7 @@ impl WritableObject {
     }
 
     /// The layout of the file.
-    #[tactic(auto, using(crate::proofs::KindCounts::few_sections))]
+    #[tactic(auto, using(crate::proofs::ReadingBack::layouts))]
     fn layout(&self) -> Result<Layout, WriteError>
         ensures ok { IfOk result (IsLayout self.now.class self.now.contents) }
         ensures fits { OnOk result (Fits self.now) }
@@ -332,26 +333,16 @@ impl WritableObject {
             (file_text self.now) }
         ensures error { Errors result (O.failed out.old) (O.failed out.new) }
     {
+        let class = self.class;
+        let order = self.endianness;
         let count = self.sections.len() as u16 + 2;
-        let header = file_header(
-            self.class,
-            self.endianness,
-            self.machine,
-            layout.headers,
-            count,
-        );
+        let header = file_header(class, order, self.machine, layout.headers, count);
         write_whole(out, header.as_slice())?;
         write_contents(out, &self.sections)?;
         write_name_table(out, &self.sections)?;
         // (the header of section 0 is all zeros)
-        let zeros = layout.zeros as usize + usize::from(entry_size(self.class));
+        let zeros = layout.zeros as usize + usize::from(entry_size(class));
         write_whole(out, &ZEROS[..zeros])?;
-        write_section_headers(
-            out,
-            self.class,
-            self.endianness,
-            layout.names_size,
-            &self.sections,
-        )
+        write_section_headers(out, class, order, layout.names_size, &self.sections)
     }
 }

@@ -44,8 +44,7 @@ fn sizes_of(sections: &[(SectionKind, Vec<u8>)]) -> Option<(u64, u64)>
     Some((contents, names))
 }
 
-/// Where the section headers of a file begin, and the sizes of its name table, of the zeros before
-/// the headers, and of the whole file.
+/// Where the parts of a file stand, and how long they are.
 #[derive(Clone, Copy)]
 pub struct Layout {
     /// How many bytes the content of `.shstrtab` has.

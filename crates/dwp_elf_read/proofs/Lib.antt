@@ -1,4 +1,3 @@
 pub mod Compared
-pub mod Names
 pub mod Places
 pub mod ShortNames

@@ -1,22 +1,53 @@
--- Whether a text of a string table is one that is given, by as much of it as that is long.
-use Rattle.std.proofs.Common.{◌≡◌, ℕ, ◌<◌, ◌==◌, nat_lt, Bool, false, List, ◌∙◌, true, not, is_some}
-use Rattle.std.proofs.Common.{Option, None, Some, length, take, drop, position, refl, ap, sym, find}
-use Rattle.std.proofs.Common.{get_or, arith}
-use Rattle.std.proofs.lemmas.Bool.{eqb-true, lt-ltb, ltb-false, false_from_ne_true}
+-- Texts in a string table: what `memchr` and `from_utf8` say of them, and whether one is a text
+-- that is given, by as much of it as that is long.
+use Rattle.std.proofs.Common.{◌≡◌, ◌==◌, Bool, false, List, true, None, Some, get_or, arith, Result}
+use Rattle.std.proofs.Common.{ℕ, nat_lt, is_some, Option, length, position, MatchResult, option_map}
+use Rattle.std.proofs.Common.{◌<◌, ◌∙◌, not, take, drop, refl, ap, sym, find, Ok, Err}
+use Rattle.std.proofs.lemmas.Bool.{eqb-true, lt-ltb, ltb-false, false_from_ne_true, le-ltb}
 use Rattle.std.proofs.lemmas.List.Quantifiers.{position-Some}
 use Rattle.std.specs.List.{position_or_len}
 use Rattle.std.specs.Option.{option_and_then}
-use Rattle.std.specs.Str.{is_utf8, bytes_eq}
+use Rattle.std.specs.Str.{is_utf8, bytes_eq, IsUtf8}
 use Rattle.std.proofs.lemmas.List.{drop_all, get_or-take, length-take-le}
 use Rattle.std.proofs.lemmas.List.Sums.{fails_before_first, position_or_len_is}
 use Rattle.std.proofs.lemmas.Slice.Eq.{bytes_eq-Decides}
 use Rattle.dwp_base.specs.Sections.{all_kinds, compressed_name_of, kind_named, name_of}
 use Rattle.dwp_base.specs.declared.section.SectionKind.{SectionKind}
 use Rattle.memchr.specs.Find.{IsFirstByte, is_byte}
-use Rattle.dwp_elf_read.proofs.Names.{position_first}
 use Rattle.dwp_elf_read.specs.Elf.{text_of, text_at, name_is, has_name}
 use Rattle.dwp_base.proofs.Bools.{by-bool}
 use Rattle.dwp_base.proofs.EveryKind.{every}
+use Rattle.std.specs.Result.{result_ok}
+use Rattle.std.proofs.lemmas.Str.{IsUtf8-from_is_utf8, is_utf8-from_IsUtf8}
+
+-- what `from_utf8` answers, its error left out
+pub text_of_result : {T E : Type 0} (view : T → List ℕ) (F : E → Type 0) (bytes : List ℕ)
+    (r : Result T E) → MatchResult r (λ s. (view s ≡ bytes) × IsUtf8 bytes) (λ e. (¬ IsUtf8 bytes)
+    × F e) → option_map view (result_ok r) ≡ text_of bytes
+unfolding text_of
+text_of_result view F bytes (Ok s) h = rw (h.0, is_utf8-from_IsUtf8 bytes h.1) refl
+text_of_result view F bytes (Err e) h =
+    rw (false_from_ne_true (is_utf8 bytes) (λ e. h.0 (IsUtf8-from_is_utf8 bytes e))) refl
+
+-- the first zero byte, as `memchr` says it and as `position` does
+pub position_first : (bytes : List ℕ) (r : Option ℕ) → IsFirstByte (is_byte 0) bytes r
+    → position (λ b. b == 0) bytes ≡ r
+position_first bytes None h =
+    let far = position_or_len_is (λ b. b == 0) bytes (length bytes) 0 (omega arith)
+    (λ k below. false_from_ne_true (get_or bytes k 0 == 0) (h k (omega arith) below))
+    (λ within. absurd (omega arith)) in
+    rw (far, le-ltb (length bytes) (length bytes) (omega arith)) refl
+position_first bytes (Some i) h =
+    let here = position_or_len_is (λ b. b == 0) bytes i 0 (omega (arith, h.0.high))
+    (λ k below. false_from_ne_true (get_or bytes k 0 == 0) (h.0.before k (omega arith) below))
+    (λ within. h.1) in
+    rw (here, lt-ltb i (length bytes) h.0.high) refl
+
+pub text_at_first : (table rest : List ℕ) (place : ℕ) (r : Option ℕ) → rest ≡ drop place table
+    → IsFirstByte (is_byte 0) rest r → text_at table place ≡ option_and_then (λ n.
+    text_of (take n rest)) r
+unfolding text_at
+text_at_first table rest place r here h = rw (← here, position_first rest r h) refl
 
 abbrev zero_byte : ℕ → Bool
 zero_byte b = b == 0
@@ -72,12 +103,8 @@ unlike_text bytes text (Some n) is other =
     by-bool _ (is_utf8 (take n bytes))
     (λ yes. rw yes (false_from_ne_true (bytes_eq (take n bytes) text) (λ same.
     let own : take n bytes ≡ text = (bytes_eq-Decides (take n bytes) text).0 same in
-    let size : n ≡ length text = omega (
-      arith,
-      length-take-le n bytes (omega (arith, found.0)),
-      ap
-          length own,
-    ) in
+    let taken = length-take-le n bytes (omega (arith, found.0)) in
+    let size : n ≡ length text = omega (arith, taken, ap length own) in
     other (rw (← size) own))))
     (λ no. rw no refl)
 
@@ -136,17 +163,10 @@ whole_text bytes text (Some n) is =
     → zero_byte (get_or text k 0) ≡ false) (is_utf8 (take n bytes))
     (λ yes. rw yes (λ named k below.
     let own : take n bytes ≡ text = (bytes_eq-Decides (take n bytes) text).0 named in
-    let size : length text ≡ n = omega (
-      arith,
-      length-take-le n bytes (omega (arith, found.0)),
-      ap
-          length own,
-    ) in
-    ap zero_byte (ap (λ it. get_or it k 0) (sym own) ∙ get_or-take n bytes k 0 (omega (
-      arith,
-      below,
-      size,
-    ))) ∙ found.2 k (omega (arith, below, size))))
+    let taken = length-take-le n bytes (omega (arith, found.0)) in
+    let size : length text ≡ n = omega (arith, taken, ap length own) in
+    let at : k < n = omega (arith, below, size) in
+    ap zero_byte (ap (λ it. get_or it k 0) (sym own) ∙ get_or-take n bytes k 0 at) ∙ found.2 k at))
     (λ no. rw no (λ named. absurd cc))
 
 pub with_zero : (table text : List ℕ) (place k : ℕ) → k < length text

@@ -171,9 +171,7 @@ impl<'a> ElfFile<'a> {
         if i == 0 {
             return Ok(0);
         }
-        let Some(table) = self.section(table as usize) else {
-            return Err(ReadError::SymbolTable);
-        };
+        let table = self.section(table as usize).ok_or(ReadError::SymbolTable)?;
         if table.kind() != SHT_SYMTAB {
             return Err(ReadError::SymbolTable);
         }

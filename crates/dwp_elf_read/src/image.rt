@@ -27,7 +27,6 @@ pub(crate) const SHT_NOBITS: u32 = 8;
 /// What is read of a file's header.
 #[derive(Clone, Copy)]
 pub(crate) struct FileHeader {
-    /// The machine that the file is for.
     pub machine: u16,
     /// Where the section headers begin; 0 where there are none.
     pub table: u64,
@@ -44,9 +43,7 @@ pub(crate) struct FileHeader {
 pub(crate) struct SectionHeader {
     /// Where the name stands in the name table.
     pub name: u32,
-    /// The section's type.
     pub kind: u32,
-    /// The section's flags.
     pub flags: u64,
     /// Where the section lies in the memory of a process; 0 where it doesn't.
     pub address: u64,

@@ -7,6 +7,5 @@ pub mod LowBits
 pub mod Marks
 pub mod Rounds
 pub mod States
-pub mod Stripes
 pub mod Values
 pub mod Widths

@@ -1,7 +1,6 @@
 //! XXH64 with seed 0, the check sum of a frame (RFC 8878, 3.1.1).
 
-ghost use Rattle.std.specs.Prelude.{◌≡◌, ◌≤◌, ◌<◌, ◌*◌, ◌/◌, ◌^◌, length, drop};
-ghost use Rattle.byteorder.specs.Endian.{little_number};
+ghost use Rattle.std.specs.Prelude.{◌≡◌, ◌≤◌, ◌/◌, length};
 ghost use Rattle.dwp_zstd.specs.Checksum.{round, behind_stripe, behind_stripes, merged};
 ghost use Rattle.dwp_zstd.specs.Checksum.{with_lanes, with_rest, of_stripes, xxh64};
 

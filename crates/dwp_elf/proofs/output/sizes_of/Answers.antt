@@ -8,16 +8,13 @@ returns-in_err-contents-clause-contents c =
     grind (arith, common_steps, length-content_bytes-drop)
 
 pub loop-section-preserved : goal.loop-section-preserved
-loop-section-preserved c = record {
-  contents_left = omega (
-    arith,
-    length-content_bytes-drop _ _ _ c.loop-section-test.true c.section-item.is,
-    c.section-item.result.1.ok.0,
-    c.in_ok-contents.ensures.1,
-  );
-  names_left = grind (arith, length-names_of-drop, length-name_of);
-  small = grind (arith, length-names_of-drop, length-name_of);
-}
+loop-section-preserved c =
+    let step = length-content_bytes-drop _ _ _ c.loop-section-test.true c.section-item.is in
+    record {
+      contents_left = omega (arith, step, c.section-item.result.1.ok.0, c.in_ok-contents.ensures.1);
+      names_left = grind (arith, length-names_of-drop, length-name_of);
+      small = grind (arith, length-names_of-drop, length-name_of);
+    }
 
 pub returns-clause-contents : goal.returns-clause-contents
 returns-clause-contents c =

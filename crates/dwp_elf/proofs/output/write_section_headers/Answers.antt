@@ -7,11 +7,8 @@ use Rattle.dwp_elf.proofs.output.write_section_headers.Goals as goal
 pub section_header-header-requires-clause-size_fits :
     goal.section_header-header-requires-clause-size_fits
 section_header-header-requires-clause-size_fits g c =
-    omega (
-      arith,
-      length-content_bytes-drop _ _ _ c.loop-section-test.true c.section-item.is,
-      c.section-item.result.1.ok.0,
-    )
+    let step = length-content_bytes-drop _ _ _ c.loop-section-test.true c.section-item.is in
+    omega (arith, step, c.section-item.result.1.ok.0)
 
 pub returns-in_err-write_whole-clause-text : goal.returns-in_err-write_whole-clause-text
 returns-in_err-write_whole-clause-text g c =

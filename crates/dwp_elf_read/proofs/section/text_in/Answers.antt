@@ -1,6 +1,6 @@
 use Rattle.std.proofs.Common.{Some, None, option_map, sym, ap, ◌∙◌}
 use Rattle.dwp_elf_read.specs.Elf.{text_of}
-use Rattle.dwp_elf_read.proofs.Names.{text_at_first, text_of_result}
+use Rattle.dwp_elf_read.proofs.ShortNames.{text_at_first, text_of_result}
 use Rattle.dwp_elf_read.proofs.section.text_in.Goals as goal
 
 pub returns-in_err-end : goal.returns-in_err-end

@@ -1,35 +1,15 @@
-use Rattle.std.proofs.Common.{◌≡◌, ◌-◌, ◌*◌, ◌<◌, ◌^◌, refl, ap, arith}
+use Rattle.std.proofs.Common.{◌≡◌, ◌-◌, ◌*◌, ◌<◌, ◌^◌, ap, arith}
 use Rattle.std.proofs.lemmas.Int.{ints}
 use Rattle.std.proofs.lemmas.Result.{err_from_is_err_and}
-use Rattle.dwp_bytes.proofs.Lebs.{small, fits, signed_more, sleb_low, sleb_high}
-use Rattle.dwp_bytes.proofs.Lebs.{sleb_fails, sleb_big, cast_less, cast_lowest, signed_begun}
+use Rattle.dwp_bytes.proofs.Lebs.{fits, signed_more, sleb_low, sleb_high, sleb_fails, sleb_big}
+use Rattle.dwp_bytes.proofs.Lebs.{cast_less, cast_lowest}
 use Rattle.dwp_bytes.proofs.reader.Reader.read_sleb128.Goals as goal
-
-pub loop-init : goal.loop-init
-loop-init g c = (refl, signed_begun _)
 
 pub returns-in_err-byte : goal.returns-in_err-byte
 returns-in_err-byte g c =
     let p = err_from_is_err_and c.from_residual.result c.from_residual.ensures.1 in
-    rw (p.1, p.2) (
-      sleb_fails c.loop.invariant.1 (omega arith) c.in_err-byte.ensures.0,
-      ap g.Self.Reader.input c.loop.invariant.0,
-    )
-
-pub overflow_mul-result : goal.overflow_mul-result
-overflow_mul-result g c =
-    let m = fits c.loop.invariant.1 c.in_ok-byte.byte c.loop-test.true (omega arith) in
-    rw c.from.ensures (omega (arith, m))
-
-pub overflow_add-result : goal.overflow_add-result
-overflow_add-result g c =
-    let m = fits c.loop.invariant.1 c.in_ok-byte.byte c.loop-test.true (omega arith) in
-    rw c.from.ensures (omega (arith, m))
-
-pub overflow_cast-result : goal.overflow_cast-result
-overflow_cast-result g c =
-    let m = fits c.loop.invariant.1 c.in_ok-byte.byte c.loop-test.true (omega arith) in
-    rw c.from.ensures (omega (arith, ints, m))
+    let fails = sleb_fails c.loop.invariant.1 (omega arith) c.in_err-byte.ensures.0 in
+    rw (p.1, p.2) (fails, ap g.Self.Reader.input c.loop.invariant.0)
 
 pub returns-then-byte-lt64 : goal.returns-then-byte-lt64
 returns-then-byte-lt64 g c =
@@ -38,25 +18,6 @@ returns-then-byte-lt64 g c =
     c.if-byte-lt64.true m
     (omega (arith, ints, m)))
 
-pub overflow_cast-result-then-byte-lt128 : goal.overflow_cast-result-then-byte-lt128
-overflow_cast-result-then-byte-lt128 g c =
-    omega (arith, ints, fits c.loop.invariant.1 0 c.loop-test.true (omega arith))
-
-pub overflow_mul-result-then-byte-lt128 : goal.overflow_mul-result-then-byte-lt128
-overflow_mul-result-then-byte-lt128 g c =
-    let m = fits c.loop.invariant.1 (128 - c.in_ok-byte.byte) c.loop-test.true (omega arith) in
-    rw c.from-then-byte-lt128.ensures (omega (arith, m))
-
-pub overflow_cast-result-then-byte-lt128-2 : goal.overflow_cast-result-then-byte-lt128-2
-overflow_cast-result-then-byte-lt128-2 g c =
-    let m = fits c.loop.invariant.1 (128 - c.in_ok-byte.byte) c.loop-test.true (omega arith) in
-    rw c.from-then-byte-lt128.ensures (omega (arith, ints, m))
-
-pub overflow_sub-result : goal.overflow_sub-result
-overflow_sub-result g c =
-    let m = fits c.loop.invariant.1 (128 - c.in_ok-byte.byte) c.loop-test.true (omega arith) in
-    rw c.from-then-byte-lt128.ensures (omega (arith, ints, m))
-
 pub returns-then-byte-lt128 : goal.returns-then-byte-lt128
 returns-then-byte-lt128 g c =
     let m = fits c.loop.invariant.1 (128 - c.in_ok-byte.byte) c.loop-test.true (omega arith) in
@@ -64,20 +25,6 @@ returns-then-byte-lt128 g c =
     rw c.from-then-byte-lt128.ensures (sleb_high c.loop.invariant.1 (omega arith)
     c.in_ok-byte.ensures c.if-byte-lt64.false c.if-byte-lt128.true low (omega (arith, m))
     (cast_less c.loop.value ((128 - c.in_ok-byte.byte) * c.loop.scale) low (omega (arith, m))))
-
-pub overflow_mul-value : goal.overflow_mul-value
-overflow_mul-value g c =
-    let m = fits c.loop.invariant.1 (c.in_ok-byte.byte - 128) c.loop-test.true (omega arith) in
-    rw c.from-in-loop.ensures (omega (arith, m))
-
-pub overflow_add-value : goal.overflow_add-value
-overflow_add-value g c =
-    let m = fits c.loop.invariant.1 (c.in_ok-byte.byte - 128) c.loop-test.true (omega arith) in
-    rw c.from-in-loop.ensures (omega (arith, m))
-
-pub overflow_mul-scale : goal.overflow_mul-scale
-overflow_mul-scale g c =
-    omega (arith, small _ _ c.loop.invariant.1.scaled c.loop-test.true)
 
 pub loop-preserved : goal.loop-preserved
 loop-preserved g c = (
@@ -90,35 +37,14 @@ pub returns-in_err-read_u8 : goal.returns-in_err-read_u8
 returns-in_err-read_u8 g c =
     let p = err_from_is_err_and c.from_residual-in_err-read_u8.result
     c.from_residual-in_err-read_u8.ensures.1 in
-    rw (p.1, p.2) (
-      sleb_fails c.loop.invariant.1 (omega arith) c.in_err-read_u8.ensures.0,
-      ap g.Self.Reader.input c.loop.invariant.0,
-    )
-
-pub overflow_cast-number : goal.overflow_cast-number
-overflow_cast-number g c =
-    let nine : c.loop.counter ≡ 9 = omega arith in
-    let far = rw nine at c.loop.invariant.1 in
-    omega (arith, ints, far.scaled, far.below)
-
-pub overflow_cast-number-in-127 : goal.overflow_cast-number-in-127
-overflow_cast-number-in-127 g c =
-    let nine : c.loop.counter ≡ 9 = omega arith in
-    let far = rw nine at c.loop.invariant.1 in
-    omega (arith, ints, far.scaled, far.below)
-
-pub overflow_add-number : goal.overflow_add-number
-overflow_add-number g c =
-    let nine : c.loop.counter ≡ 9 = omega arith in
-    let far = rw nine at c.loop.invariant.1 in
-    omega (arith, ints, far.scaled, far.below)
+    let fails = sleb_fails c.loop.invariant.1 (omega arith) c.in_err-read_u8.ensures.0 in
+    rw (p.1, p.2) (fails, ap g.Self.Reader.input c.loop.invariant.0)
 
 pub returns-in_default : goal.returns-in_default
-returns-in_default g c = (
-  sleb_big c.loop.invariant.1 (omega arith) c.in_ok-read_u8.ensures
-      (omega arith) (omega arith),
-  ap g.Self.Reader.input c.loop.invariant.0,
-)
+returns-in_default g c =
+    let far = c.loop.invariant.1 in
+    let big = sleb_big far (omega arith) c.in_ok-read_u8.ensures (omega arith) (omega arith) in
+    (big, ap g.Self.Reader.input c.loop.invariant.0)
 
 pub returns-in-0 : goal.returns-in-0
 returns-in-0 g c =

@@ -1,49 +1,19 @@
-use Rattle.std.proofs.Common.{◌-◌, refl, ap, arith}
+use Rattle.std.proofs.Common.{ap, arith}
 use Rattle.std.proofs.lemmas.Result.{err_from_is_err_and}
-use Rattle.dwp_bytes.proofs.Lebs.{more, small, fits, last_fits, uleb_ends, uleb_fails, uleb_big}
-use Rattle.dwp_bytes.proofs.Lebs.{unsigned_begun}
+use Rattle.dwp_bytes.proofs.Lebs.{more, fits, last_fits, uleb_ends, uleb_fails, uleb_big}
 use Rattle.dwp_bytes.proofs.reader.Reader.read_uleb128.Goals as goal
-
-pub loop-init : goal.loop-init
-loop-init g c = (refl, unsigned_begun _)
 
 pub returns-in_err-byte : goal.returns-in_err-byte
 returns-in_err-byte g c =
     let p = err_from_is_err_and c.from_residual.result c.from_residual.ensures.1 in
-    rw (p.1, p.2) (
-      uleb_fails c.loop.invariant.1 (omega arith) c.in_err-byte.ensures.0,
-      ap g.Self.Reader.input c.loop.invariant.0,
-    )
-
-pub overflow_mul-result : goal.overflow_mul-result
-overflow_mul-result g c =
-    let m = fits c.loop.invariant.1 c.in_ok-byte.byte c.loop-test.true (omega arith) in
-    rw c.from.ensures (omega (arith, m))
-
-pub overflow_add-result : goal.overflow_add-result
-overflow_add-result g c =
-    let m = fits c.loop.invariant.1 c.in_ok-byte.byte c.loop-test.true (omega arith) in
-    rw c.from.ensures (omega (arith, m))
+    let fails = uleb_fails c.loop.invariant.1 (omega arith) c.in_err-byte.ensures.0 in
+    rw (p.1, p.2) (fails, ap g.Self.Reader.input c.loop.invariant.0)
 
 pub returns-then-byte-lt128 : goal.returns-then-byte-lt128
 returns-then-byte-lt128 g c =
     let m = fits c.loop.invariant.1 c.in_ok-byte.byte c.loop-test.true (omega arith) in
     rw c.from.ensures (uleb_ends c.loop.invariant.1 (omega arith) c.in_ok-byte.ensures (omega arith)
     (omega (arith, m)))
-
-pub overflow_mul-value : goal.overflow_mul-value
-overflow_mul-value g c =
-    let m = fits c.loop.invariant.1 (c.in_ok-byte.byte - 128) c.loop-test.true (omega arith) in
-    rw c.from-in-loop.ensures (omega (arith, m))
-
-pub overflow_add-value : goal.overflow_add-value
-overflow_add-value g c =
-    let m = fits c.loop.invariant.1 (c.in_ok-byte.byte - 128) c.loop-test.true (omega arith) in
-    rw c.from-in-loop.ensures (omega (arith, m))
-
-pub overflow_mul-scale : goal.overflow_mul-scale
-overflow_mul-scale g c =
-    omega (arith, small _ _ c.loop.invariant.1.scaled c.loop-test.true)
 
 pub loop-preserved : goal.loop-preserved
 loop-preserved g c = (
@@ -56,27 +26,13 @@ pub returns-in_err-last : goal.returns-in_err-last
 returns-in_err-last g c =
     let p = err_from_is_err_and c.from_residual-in_err-last.result
     c.from_residual-in_err-last.ensures.1 in
-    rw (p.1, p.2) (
-      uleb_fails c.loop.invariant.1 (omega arith) c.in_err-last.ensures.0,
-      ap g.Self.Reader.input c.loop.invariant.0,
-    )
+    let fails = uleb_fails c.loop.invariant.1 (omega arith) c.in_err-last.ensures.0 in
+    rw (p.1, p.2) (fails, ap g.Self.Reader.input c.loop.invariant.0)
 
 pub returns-then-last-gt1 : goal.returns-then-last-gt1
-returns-then-last-gt1 g c = (
-  uleb_big c.loop.invariant.1 (omega arith) c.in_ok-last.ensures
-      c.if-last-gt1.true,
-  ap g.Self.Reader.input c.loop.invariant.0,
-)
-
-pub overflow_mul-result-2 : goal.overflow_mul-result-2
-overflow_mul-result-2 g c =
-    let m = last_fits c.loop.invariant.1 c.in_ok-last.last (omega arith) (omega arith) in
-    rw c.from-2.ensures (omega (arith, m))
-
-pub overflow_add-result-2 : goal.overflow_add-result-2
-overflow_add-result-2 g c =
-    let m = last_fits c.loop.invariant.1 c.in_ok-last.last (omega arith) (omega arith) in
-    rw c.from-2.ensures (omega (arith, m))
+returns-then-last-gt1 g c =
+    let big = uleb_big c.loop.invariant.1 (omega arith) c.in_ok-last.ensures c.if-last-gt1.true in
+    (big, ap g.Self.Reader.input c.loop.invariant.0)
 
 pub returns : goal.returns
 returns g c =

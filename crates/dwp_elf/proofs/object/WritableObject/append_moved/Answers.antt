@@ -1,4 +1,5 @@
-use Rattle.dwp_elf.proofs.Terms.{appended, arith, common_steps, contents_of, refl, sym, ◌≡◌}
+use Rattle.dwp_elf.proofs.Terms
+use Terms.{appended, arith, common_steps, contents_of, refl, rules, sym, ◌≡◌}
 use Rattle.dwp_elf.specs.Growing.{with_bytes}
 use Rattle.dwp_elf.proofs.Changes.{absent}
 use Rattle.dwp_elf.proofs.Growth.{is_grown-with_bytes}
@@ -14,28 +15,19 @@ invariant_of-self-in-None c =
     grind (arith, common_steps, none.added) in
     rw added (KindsDiffer-appended _ _ _ c.self.invariant)
 
-pub returns-in_ok-map_err-in-None-clause-grown : goal.returns-in_ok-map_err-in-None-clause-grown
-returns-in_ok-map_err-in-None-clause-grown c before =
+pub returns-in_ok-map_err-in-None : goal.returns-in_ok-map_err-in-None
+returns-in_ok-map_err-in-None c =
     let none = absent c.args.kind c.self.inside.sections.items
     (rw c.deref.ensures.value at c.in-None.ensures) in
     let added : contents_of c.push.new.self.items ≡ with_bytes c.args.kind
     c.args.bytes.items (contents_of c.self.inside.sections.items) =
     grind (arith, common_steps, none.added) in
-    rw (sym c.self.view_is) (is_grown-with_bytes before _ _ c.args.kind c.args.bytes.items
-    (rw added refl))
-
-pub returns-in_ok-map_err-in-None-clause-contents :
-    goal.returns-in_ok-map_err-in-None-clause-contents
-returns-in_ok-map_err-in-None-clause-contents c =
-    let none = absent c.args.kind c.self.inside.sections.items
-    (rw c.deref.ensures.value at c.in-None.ensures) in
-    let added : contents_of c.push.new.self.items ≡ with_bytes c.args.kind
-    c.args.bytes.items (contents_of c.self.inside.sections.items) =
-    grind (arith, common_steps, none.added) in
-    rw (sym c.self.view_is) (rw added refl)
-
-pub returns-in_ok-map_err-in-None-clause-place : goal.returns-in_ok-map_err-in-None-clause-place
-returns-in_ok-map_err-in-None-clause-place c =
-    let none = absent c.args.kind c.self.inside.sections.items
-    (rw c.deref.ensures.value at c.in-None.ensures) in
-    grind (arith, common_steps, none.content)
+    record {
+      nothing = λ empty. absurd (omega arith);
+      place = grind (arith, common_steps, none.content);
+      contents = rw (sym c.self.view_is) (rw added refl);
+      grown = λ before. rw (sym c.self.view_is) (is_grown-with_bytes before _ _ c.args.kind
+          c.args.bytes.items (rw added refl));
+      refused = search rules;
+      unchanged = search rules;
+    }

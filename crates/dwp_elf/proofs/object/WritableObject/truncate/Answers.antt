@@ -25,20 +25,17 @@ invariant_of-self c =
     grind (arith, common_steps, length-contents_of, cut_all, truncated-contents_of) in
     rw is (KindsDiffer-truncated _ _ c.self.invariant)
 
-pub returns-clause-taken_back : goal.returns-clause-taken_back
-returns-clause-taken_back c before grown same =
+pub returns : goal.returns
+returns c =
     let is : contents_of c.loop-number.self-inside.sections.items ≡ truncated
     (contents_of c.self.inside.sections.items) c.args.sizes.now =
     grind (arith, common_steps, length-contents_of, cut_all, truncated-contents_of) in
-    let inside = rw (sym c.self.view_is) at grown in
-    let cut = truncated-begins before.contents _ inside.contents in
-    cut_object c.self.inside c.loop-number.self-inside _ c.loop-number.invariant.others is
-    ∙ rw (same, cut, inside.class, inside.machine, inside.order) refl
-
-pub returns-clause-cut : goal.returns-clause-cut
-returns-clause-cut c =
-    let is : contents_of c.loop-number.self-inside.sections.items ≡ truncated
-    (contents_of c.self.inside.sections.items) c.args.sizes.now =
-    grind (arith, common_steps, length-contents_of, cut_all, truncated-contents_of) in
-    rw (sym c.self.view_is) (cut_object c.self.inside c.loop-number.self-inside _
-    c.loop-number.invariant.others is)
+    let whole = cut_object c.self.inside c.loop-number.self-inside _
+    c.loop-number.invariant.others is in
+    record {
+      cut = rw (sym c.self.view_is) whole;
+      taken_back = λ before grown same.
+          let inside = rw (sym c.self.view_is) at grown in
+          let begins = truncated-begins before.contents _ inside.contents in
+          whole ∙ rw (same, begins, inside.class, inside.machine, inside.order) refl;
+    }
