@@ -9,10 +9,10 @@ use Rattle.dwp_dwarf.specs.Chains.{RemembersPlace, RemembersChains, FirstAt, Sta
 use Rattle.dwp_dwarf.specs.Versions.{value_in, Grows}
 use Rattle.dwp_dwarf.specs.declared.chains.Chains.{Chains}
 use Rattle.dwp_dwarf.specs.declared.chains.Place.{Place}
-use Rattle.dwp_dwarf.proofs.Keys.{by_key, if_map}
+use Rattle.std.proofs.lemmas.Option.{IfSome_then}
+use Rattle.dwp_dwarf.proofs.Keys.{by_key}
 use Rattle.dwp_units.proofs.Readings.{one_answer, goes_then, takes_front, size}
-use Rattle.dwp_dwarf.proofs.Tables.{Next, look_up-here, look_up-other, next_shorter}
-use Rattle.dwp_dwarf.proofs.Tables.{next_takes}
+use Rattle.dwp_dwarf.proofs.Tables.{Next, look_up-here, look_up-other, next_shorter, next_takes}
 use Rattle.dwp_dwarf.proofs.NewVersions.{value_stays, grows_length, none_below}
 use Rattle.dwp_dwarf.proofs.Offsets.{from_is, from_within}
 
@@ -98,8 +98,8 @@ place_stays {nodes = nodes} {grown = grown} {place = place} g r =
 pub places_stay : (section : Input) (old new : Chains) → new.places ≡ old.places
     → Grows old.firsts.nodes.items new.firsts.nodes.items → RemembersPlaces section old
     → RemembersPlaces section new
-places_stay section old new same g r = λ left. rw same (if_map (get nat_cmp old.places left)
-    (λ place p. place_stays g p) (r left))
+places_stay section old new same g r = λ left. rw same (IfSome_then (get nat_cmp old.places left)
+    (r left) (λ place p. place_stays g p))
 
 -- ---- what is remembered is said
 
@@ -189,9 +189,9 @@ place_next {section} {i} {behind} {nodes} {grown} {left} {code} {declared} {next
           (λ apart. rw (others c apart, error, look_up-other c i x h (λ e. apart (sym e)))
           (rw table at (r.same c)));
       ends = λ c. by_key code c (λ e. rw (e, here) (ends_here section i left x is h))
-          (λ apart. rw (others c apart) (if_map (value_in nodes next.version c)
+          (λ apart. rw (others c apart) (IfSome_then (value_in nodes next.version c) (r.ends c)
           (λ first inside. ends_further section i c first x h (λ e. apart (sym e))
-          (rw table at inside)) (r.ends c)));
+          (rw table at inside))));
       behind = λ y same. let one = one_answer (next_at i) same h in
           let is : y ≡ x = cc in rw (end, is) refl;
     }

@@ -18,9 +18,8 @@ unfoldable pub use Rattle.dwp_bytes.specs.Leb.{leb_at, uleb_at}
 pub use Rattle.dwp_bytes.specs.declared.encoding.Encoding.{Encoding}
 pub use Rattle.dwp_bytes.specs.declared.encoding.Format.{Format}
 pub use Rattle.dwp_bytes.specs.declared.error.ReadError.{ReadError}
-pub use Rattle.dwp_bytes.specs.declared.error.ReadError.TheVariants.{OffsetOutOfRange}
-pub use Rattle.dwp_bytes.specs.declared.error.ReadError.TheVariants.{UnexpectedEof, UnknownCode}
-pub use Rattle.dwp_bytes.specs.declared.error.ReadError.TheVariants.{UnknownForm}
+pub use Rattle.dwp_bytes.specs.declared.error.ReadError.TheVariants.{OffsetOutOfRange, UnknownCode}
+pub use Rattle.dwp_bytes.specs.declared.error.ReadError.TheVariants.{UnexpectedEof, UnknownForm}
 pub use Rattle.dwp_dwarf.specs.Abbreviations.{Declaration, Specification, past_specifications}
 unfoldable pub use Rattle.dwp_dwarf.specs.Abbreviations.{declaration, declaration_at, pairs_in}
 pub use Rattle.dwp_dwarf.specs.Attributes.{attribute_of, attribute_seen, attributes_left, entry_of}

@@ -10,11 +10,10 @@ use Rattle.dwp_bytes.specs.Input.{found_at, after}
 use Rattle.dwp_dwarf.specs.Entries.{entry_at, root_of_code, root_at}
 use Rattle.dwp_units.specs.AbbreviationCodes.{root_code_at}
 use Rattle.dwp_dwarf.specs.Values.{LiesFirst, ValuesLie, RootValuesLie}
-use Rattle.dwp_units.proofs.Readings.{Gives, then_gives, value_gives, error_gives, test_gives, was}
-use Rattle.dwp_units.proofs.Readings.{goes_then, Answer, more_gives, then_split, bind_alike, size}
-use Rattle.dwp_units.proofs.Readings.{shorter, goes_some, goes_after, reads_byte, skip_goes}
-use Rattle.dwp_units.proofs.Readings.{number_goes, reads_uleb, reads_sleb, goes, goes_none, Steps}
-use Rattle.dwp_units.proofs.Readings.{by_step}
+use Rattle.dwp_units.proofs.Readings.{then_gives, value_gives, error_gives, test_gives, number_goes}
+use Rattle.dwp_units.proofs.Readings.{more_gives, then_split, bind_alike, goes_after, reads_byte}
+use Rattle.dwp_units.proofs.Readings.{goes_then, size, goes_some, skip_goes, reads_uleb, reads_sleb}
+use Rattle.dwp_units.proofs.Readings.{Gives, was, Answer, shorter, goes, goes_none, Steps, by_step}
 use Rattle.dwp_dwarf.proofs.Tables.{code_goes}
 use Rattle.dwp_units.proofs.Units.{unit_takes, listed_ok, Onward}
 use Rattle.dwp_dwarf.specs.declared.value.Layout.{Layout}

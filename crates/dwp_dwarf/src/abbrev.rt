@@ -176,6 +176,7 @@ pub(crate) fn next_declaration<R: Reader>(
 }
 
 /// The first declaration of a code in what is left of a table, which is read no further.
+#[tactic(auto, using(crate::proofs::Tables::look_up), unfolding(crate::specs::Grammar::next_at))]
 pub(crate) fn find_declaration<R: Reader>(
     rest: &mut R,
     code: u64,

@@ -125,11 +125,7 @@ impl Chains {
             → RemembersPlaces (R.input section) self.new }
         ensures lists { self.new.lists ≡ self.old.lists }
     {
-        let length = section.len() as u64;
-        if length < offset {
-            return None;
-        }
-        let left = length - offset;
+        let left = (section.len() as u64).checked_sub(offset)?;
         if self.is_full(section) && !self.places.contains_key(&left) {
             return None;
         }

@@ -166,11 +166,9 @@ pub fn root<R: Reader>(
     ensures { Answers (root_of R.input) result
         (root_at (unit_of R.input header.now) (table_of R.input abbreviations.now)) }
 {
-    match header.root_code()? {
-        None => Ok(None),
-        Some((code, values)) => {
-            let abbreviation = abbreviations.get(code)?.ok_or(ReadError::UnknownCode)?;
-            Ok(Some(abbreviation.entry(header.encoding(), values)))
-        }
-    }
+    let Some((code, values)) = header.root_code()? else {
+        return Ok(None);
+    };
+    let abbreviation = abbreviations.get(code)?.ok_or(ReadError::UnknownCode)?;
+    Ok(Some(abbreviation.entry(header.encoding(), values)))
 }

@@ -21,5 +21,8 @@ pub use dwp_bytes::{
 };
 pub use dwp_units::{UnitHeader, UnitHeaders, UnitSection, UnitType};
 pub use entry::{Attribute, Attributes, RootEntry, root};
+pub use needed::number_read;
 pub use split::SplitAttributes;
-pub use value::{StringSections, attr_string};
+pub use value::{
+    GNU_STR_INDEX, LINE_STRP, STRP, STRX, STRX1, STRX2, STRX3, STRX4, StringSections, attr_string,
+};

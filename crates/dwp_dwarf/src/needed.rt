@@ -170,11 +170,13 @@ fn list_needed<R: Reader>(
     Some(list)
 }
 
-/// The first number of an attribute of a name in an entry, up to the first error.
-pub(crate) fn number_read<R: Reader>(
-    entry: RootEntry<R>,
-    name: u64,
-) -> Result<Option<u64>, ReadError>
+/// The number of the first attribute of a name in an entry that is of the form data1, data2, data4,
+/// data8 or udata; None where there is no such attribute.
+///
+/// # Errors
+/// Of the first attribute before it that can't be read: `UnknownForm`, `BigLeb`, `UnexpectedEof` or
+/// `NoTerminator`.
+pub fn number_read<R: Reader>(entry: RootEntry<R>, name: u64) -> Result<Option<u64>, ReadError>
     ensures { result ≡ first_number name (entry_of R.input entry).attributes }
 {
     for attribute in entry.attributes {

@@ -36,7 +36,6 @@ pub struct SplitAttributes<R> {
 }
 
 impl<R: Reader> SplitAttributes<R> {
-    /// Those of no attributes.
     fn new() -> SplitAttributes<R>
         ensures { attributes_of R.input result ≡ none_found }
     {

@@ -32,11 +32,8 @@ pub(crate) enum Layout {
 /// How the length of a block is written.
 #[derive(Clone, Copy)]
 pub(crate) enum BlockLength {
-    /// In a byte.
     One,
-    /// In two bytes.
     Two,
-    /// In four bytes.
     Four,
     /// As an unsigned LEB128 number.
     Leb,
@@ -53,7 +50,7 @@ pub(crate) const STRING: u64 = 0x08;
 
 pub(crate) const DATA1: u64 = 0x0b;
 
-pub(crate) const STRP: u64 = 0x0e;
+pub const STRP: u64 = 0x0e;
 
 pub(crate) const UDATA: u64 = 0x0f;
 
@@ -63,21 +60,21 @@ pub(crate) const SEC_OFFSET: u64 = 0x17;
 
 pub(crate) const FLAG_PRESENT: u64 = 0x19;
 
-pub(crate) const STRX: u64 = 0x1a;
+pub const STRX: u64 = 0x1a;
 
-pub(crate) const LINE_STRP: u64 = 0x1f;
+pub const LINE_STRP: u64 = 0x1f;
 
 pub(crate) const IMPLICIT_CONST: u64 = 0x21;
 
-pub(crate) const STRX1: u64 = 0x25;
+pub const STRX1: u64 = 0x25;
 
-pub(crate) const STRX2: u64 = 0x26;
+pub const STRX2: u64 = 0x26;
 
-pub(crate) const STRX3: u64 = 0x27;
+pub const STRX3: u64 = 0x27;
 
-pub(crate) const STRX4: u64 = 0x28;
+pub const STRX4: u64 = 0x28;
 
-pub(crate) const GNU_STR_INDEX: u64 = 0x1f02;
+pub const GNU_STR_INDEX: u64 = 0x1f02;
 
 /// How the value of a form is laid out (DWARF 5, 7.5.6; the GNU forms of split DWARF and of
 /// supplementary files).
@@ -148,7 +145,6 @@ pub(crate) fn read_text<R: Reader>(reader: &mut R) -> Result<R, ReadError>
     Ok(text)
 }
 
-/// What comes behind a value.
 #[tactic(auto, unfolding(crate::specs::Forms::past_value))]
 fn after_value<R: Reader>(mut at: R, layout: Layout) -> Result<R, ReadError>
     ensures { Answers R.input result (past_value layout (R.input at)) }
@@ -172,7 +168,6 @@ fn after_value<R: Reader>(mut at: R, layout: Layout) -> Result<R, ReadError>
     Ok(at)
 }
 
-/// The bytes of a value.
 #[tactic(auto, unfolding(crate::specs::Forms::value_at))]
 pub(crate) fn read_value<R: Reader>(
     reader: &mut R,
@@ -241,7 +236,6 @@ fn from_entry<R: Reader>(table: R, format: Format, base: u64, index: u64) -> Res
     }
 }
 
-/// The string of an index.
 #[tactic(auto, unfolding(crate::specs::Strings::indexed_at))]
 fn indexed_string<R: Reader>(
     sections: &StringSections<R>,

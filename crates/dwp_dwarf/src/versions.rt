@@ -49,7 +49,6 @@ impl Versions {
         }
     }
 
-    /// The value of a key in a version.
     pub(crate) fn get(&self, version: u32, key: u64) -> Option<u32>
         ensures { result ≡ value_in self.now.nodes.items version key }
     {
@@ -82,20 +81,15 @@ impl Node {
     }
 
     /// The node with another version on the side of a key.
-    fn with_side(self, key: u64, version: u32) -> Node
+    fn with_side(mut self, key: u64, version: u32) -> Node
         ensures { result ≡ with_side self key version }
     {
         if key % 2 == 0 {
-            Node {
-                even: version,
-                ..self
-            }
+            self.even = version;
         } else {
-            Node {
-                odd: version,
-                ..self
-            }
+            self.odd = version;
         }
+        self
     }
 }
 
@@ -112,7 +106,6 @@ fn half(key: u64) -> u64
     key.saturating_sub(1) / 2
 }
 
-/// The node of a version.
 fn node_of(nodes: &[Node], version: u32) -> Option<Node>
     ensures { result ≡ node_of nodes.now version }
 {
@@ -148,9 +141,7 @@ fn value_below(nodes: &[Node], levels: u32, version: u32, key: u64) -> Option<u3
     if levels == 0 {
         return None;
     }
-    let Some(node) = node_of(nodes, version) else {
-        return None;
-    };
+    let node = node_of(nodes, version)?;
     if key == 0 {
         return (node.value != 0).then_some(node.value);
     }

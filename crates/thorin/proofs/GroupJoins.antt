@@ -3,13 +3,13 @@
 use Rattle.thorin.proofs.Terms
 use Terms.{ap, append-nil, append_assoc, AreJoined, ArePackedAlone, AreTaken, arith, begun-now}
 use Terms.{bind-was, Bool, both-true, can_join, cond, drop, drop-map, DwarfObject, File, filter}
-use Terms.{filter-append, finish_test, flat_map, HaveTheirEncodings, InProgress, input_meaning}
+use Terms.{filter-append, finish_test, flat_map, HaveTheirEncodings, input-keeps, input_meaning}
 use Terms.{inputs_of, is_compilation, IsDistinct, IsFinishedState, IsPackageOf, IsPackageOfAll}
 use Terms.{IsPackedInGroups, IsPermutation, IsPermutation-sym, IsSoundBegun, JoinAll, joining, keys}
 use Terms.{length, length-append, length-map, List, list_any, lookup, map, map-append, map-set}
 use Terms.{Meaning, Members, nat_tests, None, Ok, Option, option_or, refl, remove, rules, same_name}
 use Terms.{Some, start, State, subst, swap, sym, take, take-append-drop, take-map, taken}
-use Terms.{taken_each, true, units_in, with_input, [], ℕ, ◌&&◌, ◌++◌, ◌+◌, ◌==◌, ◌∙◌, ◌∷◌, ◌≡◌}
+use Terms.{taken_each, true, units_in, [], ℕ, ◌&&◌, ◌++◌, ◌+◌, ◌==◌, ◌∙◌, ◌∷◌, ◌≡◌}
 use Rattle.std.proofs.lemmas.List.Folds.{list_any-append}
 use Rattle.std.proofs.lemmas.List.Sorted.{IsPermutation-cons, IsPermutation-refl}
 use Rattle.std.proofs.lemmas.List.Sorted.{IsPermutation-remove, IsPermutation-trans}
@@ -264,21 +264,17 @@ joins-all (bytes ∷ rest) all before added (here, later, meaning, others, whole
           (rw named parts.1)),
     )
 
--- what the laws of the builder say
-abbrev pub KeepsSound : Type 0
-KeepsSound = (bytes : List ℕ) (begun now : Option InProgress) → IsSoundBegun begun
-    → with_input bytes begun ≡ Ok now → IsSoundBegun now
-
+-- what the law of written packages says
 abbrev pub MeansAgain : Type 0
 MeansAgain = (state : State) (file : File) → IsSoundBegun state.begun → finish_test state ≡ Ok tt
     → IsFinishedState state file → MeansOnceWritten (units_in state) file
 
-pub sound-taken : KeepsSound → (list : List (List ℕ)) (old new : State) → IsSoundBegun old.begun
+pub sound-taken : (list : List (List ℕ)) (old new : State) → IsSoundBegun old.begun
     → AreTaken list old new → IsSoundBegun new.begun
-sound-taken keeps [] old new sound are = rw are.1 sound
-sound-taken keeps (bytes ∷ rest) old new sound are =
-    sound-taken keeps rest are.1 new (keeps bytes old.begun are.1.begun sound
-    (begun-now bytes (record old { targets = are.0 }) are.1 are.2)) are.3
+sound-taken [] old new sound are = rw are.1 sound
+sound-taken (bytes ∷ rest) old new sound are =
+    sound-taken rest are.1 new (input-keeps bytes old.begun are.1.begun sound
+    (begun-now bytes (record old { targets = are.0 }) are.1 are.2)).sound are.3
 
 -- ---- units in another order
 
@@ -311,7 +307,7 @@ record AreGrouped (groups : List (List (List ℕ))) (all : Units) : Type 0 where
   are : AreJoined lists results
   whole : all ≡ flat_map (λ units. units) results
 
-module _ (keeps : KeepsSound) (again : MeansAgain) where
+module _ (again : MeansAgain) where
   grouped : (groups : List (List (List ℕ))) (packages : List (List ℕ)) (old new : State)
       (all : Units) (each : ArePackedAlone groups packages)
       → HaveTheirEncodings groups packages each → taken_each packages old ≡ Ok new
@@ -336,7 +332,7 @@ module _ (keeps : KeepsSound) (again : MeansAgain) where
           join.defined,
           rw joined (as-written alone.state p w
               (λ b. HaveEncodingOf b units → MeansWhereTaken units b)
-              (again alone.state w.file (sound-taken keeps g start alone.state tt
+              (again alone.state w.file (sound-taken g start alone.state tt
               (each-taken g start alone.state alone.taken)) w.tested w.finished) has.0 old next.0
               next.1 here meaning),
           rest.are,

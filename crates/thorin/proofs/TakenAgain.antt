@@ -2,9 +2,10 @@
 use Rattle.thorin.proofs.Terms
 use Terms.{ap, ArePackedAlone, AreTaken, arith, begun-now, CanBePackedAgain, DwarfObject, Elf}
 use Terms.{elf_of, Encoding, encoding_of, Endianness, Err, ErrorValue, File, find, finish_test}
-use Terms.{IfOk, inl, inr, is_missing, IsFinishedState, IsOfEncoding, IsPlainOf, IsSoundBegun}
-use Terms.{IsWritten, List, names_in, None, Ok, Option, refl, RefusesPackages, Result, Some, start}
-use Terms.{State, sym, taken, taken_each, Writes, written_elf, [], ℕ, ⊎_elim, ◌∙◌, ◌∷◌, ◌≡◌, ◌⊎◌}
+use Terms.{IfOk, inl, input-keeps, inr, is_missing, IsFinishedState, IsOfEncoding, IsPlainOf}
+use Terms.{IsSoundBegun, IsWritten, List, names_in, None, Ok, Option, refl, RefusesPackages, Result}
+use Terms.{Some, start, State, sym, taken, taken_each, Writes, written_elf, [], ℕ, ⊎_elim, ◌∙◌, ◌∷◌}
+use Terms.{◌≡◌, ◌⊎◌}
 use Rattle.thorin.specs.Unfinished.{AreMixed, AreTooLong, IsGroupsError, IsUnfinished, LacksInput}
 use Rattle.thorin_input.specs.Used.{input_file_of, InputFile, opened}
 use Rattle.thorin_errors.specs.declared.error.Error.{Error}
@@ -13,7 +14,6 @@ use Rattle.thorin_again.specs.Again.{input_encoding}
 use Rattle.thorin_again.specs.OwnAccepted.{IsAcceptedOnceWritten}
 use Rattle.thorin_again.specs.OwnRefusals.{IsForeseen, UnlessForeseen}
 use Rattle.thorin.specs.Groups.{IsUnwritten}
-use Rattle.thorin.proofs.GroupJoins.{KeepsSound}
 use Rattle.thorin.proofs.Running.{each-taken, read-text}
 use Rattle.thorin_again.proofs.Opened.Sections.{and-then}
 
@@ -75,8 +75,8 @@ unwritten-why law packages error u = ⊎_elim
     })))
     u.refused
 
-module _ (keeps : KeepsSound) (any : AcceptedLaw) (finishes : UnfinishedLaw) (orders : OrderLaw)
-    (order : Endianness) where
+module _ (any : AcceptedLaw) (finishes : UnfinishedLaw) (orders : OrderLaw) (order : Endianness)
+  where
   each-foreseen : (groups : List (List (List ℕ))) (packages : List (List ℕ))
       (each : ArePackedAlone groups packages) → CanBePackedAgain order groups packages each
       → (old : State) → IsSoundBegun old.begun → order_of old.begun order ≡ order
@@ -91,7 +91,7 @@ module _ (keeps : KeepsSound) (any : AcceptedLaw) (finishes : UnfinishedLaw) (or
       and-then IsForeseen (taken bytes old) (taken_each files)
       (rw w.text (accepted old sound (rw can.1 same))) (λ next took.
       each-foreseen groups files each.1 can.2 next
-      (keeps bytes old.begun next.begun sound (begun-now bytes old next took))
+      (input-keeps bytes old.begun next.begun sound (begun-now bytes old next took)).sound
       (orders bytes (written_elf w.file) old next order w.read_back took ∙ rw can.1 same))
   each-foreseen _ _ each can old sound same = absurd can
 

@@ -27,7 +27,7 @@ pub use Rattle.thorin_errors.specs.Errors.{ParseFileKind}
 unfoldable pub use Rattle.thorin_index.specs.EntryTests.{tests_under}
 pub use Rattle.thorin_input.specs.Encodings.{encoding_of}
 pub use Rattle.thorin_input.specs.Rows.{own_contribution}
-pub use Rattle.thorin_join.proofs.Joined.{source-made, takes}
+pub use Rattle.thorin_join.proofs.Joined.{input-keeps, source-made, takes}
 use Rattle.thorin_join.proofs.Terms as Joined
 pub use Joined.{ap, append-nil, append_assoc, arith, as_error, bind-ok, bind-was, Bool, by-bool}
 pub use Joined.{can_join, codes, Compilation, cond, content_of, Contribution, drop, DwarfObject}
@@ -39,6 +39,6 @@ pub use Joined.{map, map-append, Meaning, Members, nat_le, nat_tests, None, not,
 pub use Joined.{Result, same-ok, same-self, same_name, SectionKind, Some, Source, source_units, Str}
 pub use Joined.{subst, sym, take, take-append-drop, true, TypeUnit, UnitRead, units_in, Used, [], ℕ}
 pub use Joined.{◌&&◌, ◌*◌, ◌++◌, ◌+◌, ◌-◌, ◌<◌, ◌>>=◌, ◌^◌, ◌||◌, ◌∙◌, ◌∷◌, ◌≡◌, ◌≤◌, ◌⊎◌}
-pub use Rattle.thorin_join.specs.Builder.{start, with_input}
+pub use Rattle.thorin_join.specs.Builder.{start}
 pub use Rattle.thorin_join.specs.Join.{IsPackageOf, JoinAll}
 unfoldable pub use Rattle.thorin_join.specs.Meaning.{input_meaning}

@@ -33,7 +33,6 @@ use thorin_again::{
     the_first_byte_order_stays, written_packages_mean_their_units,
 };
 use thorin_builder::InputReader;
-use thorin_join::{finished_packages_are_read, inputs_are_joined};
 use thorin_sessions::Session;
 
 /// The law of accepted inputs: those of a run were taken one after another. So the laws of
@@ -94,7 +93,6 @@ pub fn taken_inputs_are_finished()
         → finish_test state ≡ Err error
         → IsUnfinished accepted state error }
 {
-    inputs_are_joined();
     taken_rows_are_in_the_format();
 }
 
@@ -112,7 +110,6 @@ pub fn packages_of_groups_are_taken_again()
         → CanBePackedAgain order groups refused.packages refused.each
         → IsGroupsError refused.packages error }
 {
-    inputs_are_joined();
     packages_that_pack_again_are_accepted();
     written_packages_are_taken_again();
     taken_inputs_are_finished();
@@ -157,8 +154,6 @@ pub fn refused_packages_mean_what_is_read()
         → taken bytes before ≡ Ok after
         → MeansAsRead (units_in state) bytes }
 {
-    inputs_are_joined();
-    finished_packages_are_read();
     written_packages_mean_their_units();
     plain_objects_pack_again();
     packages_have_the_encoding_of_their_inputs();

@@ -1,9 +1,8 @@
 //! Packing in groups.
 
 ghost use Rattle.std.specs.Prelude.{IfOk};
-ghost use Rattle.thorin.specs.Groups.{PacksAlone, PacksInGroups, IsPackedInGroups};
-ghost use Rattle.thorin.specs.Groups.{HaveTheirEncodings, IsPackageOfAll, bytes_in, groups_in};
-ghost use Rattle.thorin.specs.Groups.{inputs_of};
+ghost use Rattle.thorin.specs.Groups.{IsPackedInGroups, HaveTheirEncodings, IsPackageOfAll};
+ghost use Rattle.thorin.specs.Groups.{PacksAlone, PacksInGroups, bytes_in, groups_in, inputs_of};
 
 use crate::laws::groups_are_packed_alike;
 use crate::packing::written;
@@ -55,12 +54,9 @@ fn pack_alone<'s, Sess: Session<RelocationEntry>>(
 {
     let mut builder = DwarfPackage::new(alloc, session);
     for input in inputs {
-        match builder.add_object_bytes(input) {
-            Ok(()) => {}
-            Err(error) => {
-                drop(builder);
-                return Err(error);
-            }
+        if let Err(error) = builder.add_object_bytes(input) {
+            drop(builder);
+            return Err(error);
         }
     }
     let (file, _) = written(builder);

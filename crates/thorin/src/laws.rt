@@ -30,7 +30,6 @@ ghost use Rattle.thorin.specs.Run.{Ran, TakesInput};
 
 use thorin_again::written_packages_mean_their_units;
 use thorin_builder::InputReader;
-use thorin_join::inputs_are_joined;
 
 /// The law of joining in groups, on lists of units alone. Join each group by itself, put each
 /// result into any order, and join the results: this is defined exactly where joining all units at
@@ -56,7 +55,6 @@ pub fn groups_are_packed_alike()
         → HaveTheirEncodings groups packed.packages packed.each
         → IsPackageOfAll (inputs_of groups) file }
 {
-    inputs_are_joined();
     written_packages_mean_their_units();
 }
 

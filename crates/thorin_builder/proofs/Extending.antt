@@ -1,11 +1,11 @@
 -- A package that loses nothing of what it had.
 use Rattle.thorin_builder.proofs.Terms
-use Terms.{append-nil, arith, Contents, DebugTypeSignature, Extends, false, File, InProgress}
-use Terms.{IsGrown, length, List, map, map-append, New, new_units, Ok, parts_of, refl, Result}
-use Terms.{rules, Source, sym, take, take-append_seam, take-length, true, with_all, with_source, ℕ}
-use Terms.{[], ◌++◌, ◌∷◌, ◌≡◌}
+use Terms.{append-nil, arith, Contents, DebugTypeSignature, Extends, File, InProgress, IsGrown}
+use Terms.{length, List, map, map-append, New, new_units, Ok, parts_of, refl, Result, rules, Source}
+use Terms.{sym, take, take-append_seam, take-length, true, with_all, with_source, ℕ, [], ◌++◌, ◌∷◌}
+use Terms.{◌≡◌}
 use Rattle.std.proofs.Common.{length-take, take-take}
-use Rattle.std.specs.Result.{is_err, OnErr, OnOk}
+use Rattle.std.specs.Result.{OnOk}
 use Rattle.dwp_elf.specs.Growing.{Begins}
 use Rattle.thorin_join.specs.State.{abbreviations_test, adding}
 
@@ -70,17 +70,6 @@ pub with_source-is : (source : Source) (p : InProgress) (parts : Contents
 unfolding with_source abbreviations_test
 with_source-is source p parts new hp ha hn =
     rw (hp, hn, ha) refl
-
--- what holds of no error
-pub no_err : {T E : Type 0} (P : Type 0) (r : Result T E) → is_err r ≡ false → OnErr r P
-no_err P r h = grind rules
-
--- and what holds of no value
-pub no_ok : {T E : Type 0} (P : Type 0) (r : Result T E) → is_err r ≡ true → OnOk r P
-no_ok P r h = grind rules
-
-pub on_value : {T E : Type 0} (P : Type 0) (r : Result T E) → P → OnOk r P
-on_value P r h = grind rules
 
 -- what follows of two facts of a value
 pub on_ok-both : {T E : Type 0} (r : Result T E) (P Q R : Type 0) → OnOk r P → OnOk r Q

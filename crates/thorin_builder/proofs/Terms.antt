@@ -20,7 +20,7 @@ pub use Rattle.thorin_errors.specs.Answers.{Gives, MemoryAside}
 pub use Rattle.thorin_errors.specs.Errors.{error_of}
 pub use Rattle.thorin_errors.specs.declared.error.Error.{Error}
 pub use Rattle.thorin_errors.specs.declared.error.InputError.TheVariants.{Io, Memory}
-pub use Rattle.thorin_index.proofs.RowLemmas.{at_least, on_err}
+pub use Rattle.thorin_index.proofs.RowLemmas.{at_least}
 pub use Rattle.thorin_index.specs.Rows.{blank}
 pub use Rattle.thorin_input.specs.Encodings.{common, one_encoding}
 unfoldable pub use Rattle.thorin_input.specs.Encodings.{file_encoding, own_encoding}

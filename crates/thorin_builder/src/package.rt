@@ -35,13 +35,9 @@ use std::alloc::Global;
 use std::fmt;
 use std::marker::{Model, PhantomData};
 use std::path::Path;
-use thorin_again::{
-    one_encoding_is_kept, own_packages_are_accepted, own_packages_are_accepted_by_a_new_one,
-    plain_packages_are_kept,
-};
 use thorin_errors::Error;
 use thorin_input::common;
-use thorin_join::{finished_packages_are_read, inputs_are_joined};
+use thorin_join::inputs_are_joined;
 use thorin_sessions::Session;
 
 /// A package in the making: it takes one input after another. The session keeps what is read.
@@ -182,8 +178,6 @@ impl<'output, 'session: 'output, Sess: Session<RelocationEntry>> DwarfPackage<
         let is_first = self.in_progress.is_none();
         let units = unit_count(&self.in_progress);
         inputs_are_joined();
-        one_encoding_is_kept();
-        plain_packages_are_kept();
         let encoding = add_input(self.alloc, &mut self.in_progress, bytes)?;
         self.own = if unit_count(&self.in_progress) <= units {
             None
@@ -207,8 +201,6 @@ impl<'output, 'session: 'output, Sess: Session<RelocationEntry>> DwarfPackage<
         ensures session { self.new.session ≡ self.old.session }
     {
         inputs_are_joined();
-        one_encoding_is_kept();
-        plain_packages_are_kept();
         if let Some(package) = &mut self.in_progress {
             package.add_repeated(again)?;
             self.own = None;
@@ -278,18 +270,12 @@ impl<'output, 'session: 'output, Sess: Session<RelocationEntry>> DwarfPackage<
         ensures accepted_by_new { IfOk result.0 (IsAcceptedByNewOnceWritten self.entry.state) }
         ensures differing { map (λ s. s.0) result.1.items ≡ spec.differing_in self.entry.state }
     {
-        finished_packages_are_read();
-        own_packages_are_accepted();
-        own_packages_are_accepted_by_a_new_one();
         let tested = self.test_targets();
         let DwarfPackage {
             alloc,
-            session: _,
             in_progress,
-            no_units: _,
             targets,
-            own: _,
-            output: _,
+            ..
         } = self;
         finished_begun(alloc, in_progress, &targets, tested)
     }

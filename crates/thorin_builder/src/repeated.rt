@@ -1,7 +1,7 @@
 //! What an object adds each time that it is taken, where that is no unit and no string: an
 //! executable may name it for many units.
 
-ghost use Rattle.std.specs.Prelude.{◌≡◌, map, Some, OnOk, OnErr, IfOk, IfErr, IfSome};
+ghost use Rattle.std.specs.Prelude.{◌≡◌, length, map, take, Some, OnOk, OnErr, IfOk, IfErr, IfSome};
 ghost use Rattle.dwp_elf.specs.FileText.{Object};
 ghost use Rattle.dwp_elf.specs.Growing.{IsGrown};
 ghost use Rattle.thorin_input.specs.Parts.{with_parts};
@@ -106,7 +106,10 @@ impl InProgressDwarfPackage {
     fn try_again(&mut self, source: &Source<'_>) -> Result<Option<UnitlessInput>, Error>
         ensures found { IfOk result (λ found. IfSome found (λ again.
             AddsNoUnit (view.source source.now) again (in_progress_of self.old))) }
-        ensures extends { spec.Extends (in_progress_of self.old) (in_progress_of self.new) }
+        ensures kept { take (length (in_progress_of self.old).strings)
+            (in_progress_of self.new).strings ≡ (in_progress_of self.old).strings }
+        ensures strings { in_progress_of self.new
+            ≡ record (in_progress_of self.old) { strings = (in_progress_of self.new).strings } }
     {
         let alloc = self.alloc;
         let strings = self.strings.len();
@@ -137,10 +140,10 @@ impl InProgressDwarfPackage {
     {
         let mark = self.mark()?;
         self.differing.extend_from_slice(&again.differing)?;
-        let put = put_each(&mut self.object, &again.parts);
-        if put.is_err() {
+        if let Err(error) = put_each(&mut self.object, &again.parts) {
             self.restore(&mark);
+            return Err(error);
         }
-        put
+        Ok(())
     }
 }

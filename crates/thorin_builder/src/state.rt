@@ -106,11 +106,13 @@ impl InProgressDwarfPackage {
             (spec.Extends (in_progress_of self.old) (in_progress_of self.new)) }
     {
         let mark = self.mark()?;
-        let added = self.try_add(source);
-        if added.is_err() {
-            self.restore(&mark);
+        match self.try_add(source) {
+            Ok(alike) => Ok(alike),
+            Err(error) => {
+                self.restore(&mark);
+                Err(error)
+            }
         }
-        added
     }
 
     /// Adds the units of an input, but an `Err` may leave more than there was.
@@ -310,7 +312,6 @@ fn are_all(rows: &IndexRows, index: Index) -> bool
     true
 }
 
-/// The rows that stand in the given index.
 fn rows_in(alloc: Global, rows: &IndexRows, index: Index) -> Result<IndexRows, Error>
     ensures rows { IfOk result (λ chosen. chosen ≡ rows_in index rows.now) }
     ensures identifiers { OnOk result (IdentifiersFit rows.now) }

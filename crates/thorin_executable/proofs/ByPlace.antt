@@ -1,8 +1,9 @@
 -- Relocations whose places are in strict order, and what there is to read of a section by them.
-use Rattle.std.proofs.Common.{◌≡◌, ℕ, List, [], ◌∷◌, map, Ok, refl, sym, arith, IsTrue}
+use Rattle.std.proofs.Common.{◌≡◌, ℕ, List, [], ◌∷◌, ◌∙◌, map, map-id, Ok, refl, sym, arith, IsTrue}
 use Rattle.std.proofs.Common.{nat_cmp, lt-ltb}
 use Rattle.std.specs.List.Sorted.{IsStrictlySortedBy}
 use Rattle.std.proofs.lemmas.Map.Keys.{below_from_sorted, sorted_tail}
+use Rattle.std.proofs.lemmas.Simd.{map-map}
 use Rattle.dwp_elf_read.specs.Elf.{Elf, SectionMeaning}
 use Rattle.dwp_elf_read.specs.Relocation.{relocations_of}
 use Rattle.dwp_bytes.specs.declared.relocation.Relocation.{Relocation}
@@ -25,20 +26,17 @@ ascends-sorted (e ∷ f ∷ es) sorted =
     let rest = sorted_tail nat_cmp e.offset (places (f ∷ es)) sorted in
     rw (lt-ltb e.offset f.offset below, ascends-sorted (f ∷ es) rest) refl
 
-firsts : (es : List RelocationEntry) → map (λ (p : ℕ × Relocation). p.0) (map pair_of es)
-    ≡ places es
-firsts [] = refl
-firsts (e ∷ es) = rw (firsts es) refl
-
 -- a list of the pairs of a map in order of their places
 pub ascends_pairs : (es : List RelocationEntry) (pairs : List (ℕ × Relocation))
     → map pair_of es ≡ pairs → IsStrictlySortedBy nat_cmp (map (λ (p : ℕ × Relocation). p.0) pairs)
     → IsTrue (ascends es)
-ascends_pairs es pairs same sorted = ascends-sorted es (rw (← firsts es, same) sorted)
+ascends_pairs es pairs same sorted =
+    let firsts : map (λ (p : ℕ × Relocation). p.0) (map pair_of es) ≡ places es =
+    map-map (λ (p : ℕ × Relocation). p.0) pair_of es in
+    ascends-sorted es (rw (← firsts, same) sorted)
 
 pub entries-again : (entries : List RelocationEntry) → map entry_of (map pair_of entries) ≡ entries
-entries-again [] = refl
-entries-again (e ∷ es) = rw (entries-again es) refl
+entries-again entries = map-map entry_of pair_of entries ∙ map-id entries
 
 pub loaded_is : (file target : Elf) (kind : DebugSection) (section : SectionMeaning)
     (bytes : List ℕ) (entries placed : List RelocationEntry) → target ≡ file

@@ -70,15 +70,10 @@ impl<'a> Reader for SectionReader<'a> {
 /// A section of an executable that is read.
 #[derive(Clone, Copy)]
 pub(crate) enum DebugSection {
-    /// Abbreviations.
     Abbrev,
-    /// Units.
     Info,
-    /// Strings of line tables.
     LineStr,
-    /// Strings.
     Str,
-    /// Offsets of strings.
     StrOffsets,
 }
 

@@ -10,26 +10,11 @@ ghost use Rattle.thorin_executable.specs.Paths as spec;
 ghost use Rattle.thorin_executable.specs.Paths.{IsStringAt, IsPathAt, IsKept};
 
 use dwp_dwarf::{
-    Attribute, Format, ReadError, Reader, SplitAttributes, StringSections, attr_string,
+    Attribute, Format, GNU_STR_INDEX, LINE_STRP, ReadError, Reader, STRP, STRX, STRX1, STRX2, STRX3,
+    STRX4, SplitAttributes, StringSections, attr_string,
 };
 use std::alloc::{AllocError, Global};
 use thorin_errors::Error;
-
-const DW_FORM_STRP: u64 = 0x0e;
-
-const DW_FORM_STRX: u64 = 0x1a;
-
-const DW_FORM_LINE_STRP: u64 = 0x1f;
-
-const DW_FORM_STRX1: u64 = 0x25;
-
-const DW_FORM_STRX2: u64 = 0x26;
-
-const DW_FORM_STRX3: u64 = 0x27;
-
-const DW_FORM_STRX4: u64 = 0x28;
-
-const DW_FORM_GNU_STR_INDEX: u64 = 0x1f02;
 
 /// Where a string stands that isn't in its unit.
 #[derive(Clone, Copy, PartialEq)]
@@ -119,13 +104,13 @@ fn string_place<R: Reader>(
 {
     let mut value = attribute.value;
     let index = match attribute.form {
-        DW_FORM_STRP => return Some(StringPlace::Str(value.read_offset(format).ok()?)),
-        DW_FORM_LINE_STRP => return Some(StringPlace::LineStr(value.read_offset(format).ok()?)),
-        DW_FORM_STRX | DW_FORM_GNU_STR_INDEX => value.read_uleb128().ok()?,
-        DW_FORM_STRX1 => u64::from(value.read_u8().ok()?),
-        DW_FORM_STRX2 => u64::from(value.read_u16().ok()?),
-        DW_FORM_STRX3 => u64::from(value.read_u24().ok()?),
-        DW_FORM_STRX4 => u64::from(value.read_u32().ok()?),
+        STRP => return Some(StringPlace::Str(value.read_offset(format).ok()?)),
+        LINE_STRP => return Some(StringPlace::LineStr(value.read_offset(format).ok()?)),
+        STRX | GNU_STR_INDEX => value.read_uleb128().ok()?,
+        STRX1 => u64::from(value.read_u8().ok()?),
+        STRX2 => u64::from(value.read_u16().ok()?),
+        STRX3 => u64::from(value.read_u24().ok()?),
+        STRX4 => u64::from(value.read_u32().ok()?),
         _ => return None,
     };
     Some(StringPlace::Indexed(format, base, index))

@@ -1,10 +1,11 @@
 -- The identity by a part of a section: tables of the same bytes give the same, and so does the
 -- section's table where it says the same of the root entry's code.
 use Rattle.std.proofs.Common.{◌≡◌, ℕ, ◌+◌, ◌<◌, ◌≤◌, min, length, take, drop, Option, Some, Result}
-use Rattle.std.proofs.Common.{Ok, Err, refl, ap, sym, ◌∙◌, arith, inl, inr, ◌-◌, List, [], ◌∷◌}
-use Rattle.std.proofs.Common.{None, option_map, drop-drop, length-drop, length-take-le, take-take}
+use Rattle.std.proofs.Common.{Ok, refl, ap, sym, ◌∙◌, arith, inl, inr, ◌-◌, List, [], ◌∷◌}
+use Rattle.std.proofs.Common.{option_map, drop-drop, length-drop, length-take-le, take-take}
 use Rattle.std.proofs.lemmas.Bool.{cases_lt}
-use Rattle.std.proofs.lemmas.List.{take_min, drop-take}
+use Rattle.std.proofs.lemmas.List.{take_min}
+use Rattle.std.proofs.lemmas.Slice.{between_is}
 use Rattle.std.specs.Option.{ok_or}
 use Rattle.dwp_base.specs.Reading.{◌>>=◌}
 use Rattle.dwp_bytes.specs.declared.error.ReadError.TheVariants.{UnknownCode}
@@ -21,12 +22,12 @@ use Rattle.dwp_table.specs.declared.object.DwarfObject.{DwarfObject}
 use Rattle.thorin_errors.specs.Errors.{ErrorValue, NoDie, GimliRead, ParseUnitAbbreviations}
 use Rattle.thorin_errors.specs.Answers.{as_error}
 use Rattle.thorin_identity.specs.Identity.{entry_identity, root_identity, part_between, with_offset}
-use Rattle.thorin_identity.specs.Identity.{compilation, DW_AT_GNU_dwo_id, identifier_in, found_or}
-use Rattle.thorin_identity.specs.Identity.{first_identifier, numbered_identity}
+use Rattle.thorin_identity.specs.Identity.{compilation, DW_AT_GNU_dwo_id, first_identifier}
+use Rattle.thorin_identity.specs.Identity.{numbered_identity}
 use Rattle.dwp_base.specs.declared.endian.Endianness.{Endianness}
 use Rattle.dwp_bytes.specs.declared.encoding.Encoding.{Encoding}
 use Rattle.dwp_bytes.specs.declared.error.ReadError.{ReadError}
-use Rattle.dwp_dwarf.specs.Numbers.{first_number, number_or, numbered, numbered_at}
+use Rattle.dwp_dwarf.specs.Numbers.{first_number, numbered, numbered_at}
 
 -- by the code of the root entry
 abbrev by_code : Unit → Input → ℕ × Input → Result (Option DwarfObject) ErrorValue
@@ -83,12 +84,6 @@ pub part_min : (start end : ℕ) (whole : Input)
 part_min start end whole = rw (take_min end whole.bytes) refl
 
 -- ---- a range of a section is what is left behind its start of the bytes up to its end
--- what stands up to a place behind a start is what stands behind that of what is up to the place
-between : (bytes : List ℕ) (begin end : ℕ) → begin ≤ end
-    → take (end - begin) (drop begin bytes) ≡ drop begin (take end bytes)
-between bytes begin end early =
-    let way : begin + (end - begin) ≡ end = omega (arith, early) in
-    rw (← drop-take begin (end - begin) bytes, way) refl
 
 -- a part of a part is a part of the whole
 within : (bytes : List ℕ) (begin start end last : ℕ) → begin ≤ start → start ≤ end → end ≤ last
@@ -96,9 +91,10 @@ within : (bytes : List ℕ) (begin start end last : ℕ) → begin ≤ start →
     ≡ drop start (take end bytes)
 within bytes begin start end last early order late =
     let way : begin + (start - begin) ≡ start = omega (arith, early) in
-    let behind : begin ≤ end = omega (arith, early, order) in
+    let cut : take (end - begin) (drop begin (take last bytes))
+    ≡ drop begin (take end (take last bytes)) = between_is (take last bytes) begin end in
     rw (
-      between (take last bytes) begin end behind,
+      cut,
       take-take end last bytes late,
       drop-drop (start - begin) begin (take end bytes),
       way,
@@ -117,18 +113,10 @@ part_within order bytes begin start end last part early in_order late held =
 abbrev by_number : Result (Option ℕ) ReadError → Result (Option DwarfObject) ErrorValue
 by_number number = as_error GimliRead number >>= λ id. Ok (option_map compilation id)
 
-found_alike : (o : Option ℕ) (r : Result (Option ℕ) ReadError)
-    → by_number (number_or o r) ≡ found_or o (by_number r)
-found_alike (Some n) r = refl
-found_alike None r = refl
-
 first_alike : (read : List (Result DebugAttribute ReadError))
     → by_number (first_number DW_AT_GNU_dwo_id read) ≡ first_identifier read
 first_alike [] = refl
-first_alike (Ok a ∷ others) =
-    found_alike (identifier_in a) (first_number DW_AT_GNU_dwo_id others)
-    ∙ ap (found_or (identifier_in a)) (first_alike others)
-first_alike (Err e ∷ others) = refl
+first_alike (read ∷ others) = grind (arith, first_alike others)
 
 pub numbered_is : (e : DebugEntry)
     → numbered_identity (numbered DW_AT_GNU_dwo_id e) ≡ entry_identity e
@@ -142,11 +130,9 @@ declared_is : (encoding : Encoding) (values : Input) (said : Result (Option Decl
     (entry encoding d values)) o)) ≡ Ok (Some found)
     → (as_error ParseUnitAbbreviations said >>= λ o. ok_or o (GimliRead UnknownCode) >>= λ d.
     entry_identity (entry encoding d values)) ≡ numbered_identity found
-declared_is encoding values (Err e) found is = absurd cc
-declared_is encoding values (Ok None) found is = absurd cc
-declared_is encoding values (Ok (Some d)) found is =
-    let same : numbered DW_AT_GNU_dwo_id (entry encoding d values) ≡ found = cc in
-    sym (numbered_is (entry encoding d values)) ∙ ap numbered_identity same
+declared_is encoding values said found is =
+    let same = λ (d : Declaration). sym (numbered_is (entry encoding d values)) in
+    grind (arith, same)
 
 -- the identity in a unit's root entry, by what was found of it
 pub root_is : (section : Input) (unit : Unit) (table values : Input) (code : ℕ)

@@ -6,13 +6,12 @@ ghost use Rattle.thorin_errors.specs.Answers.{Gives};
 ghost use Rattle.dwp_units.specs.Units.{Unit, unit_of};
 ghost use Rattle.dwp_dwarf.specs.Attributes.{entry_of};
 ghost use Rattle.dwp_dwarf.specs.Numbers.{numbered_of};
-ghost use Rattle.thorin_identity.specs.Identity.{identity, identity_by, root_identity};
-ghost use Rattle.thorin_identity.specs.Identity.{entry_identity, numbered_identity, part_between};
-ghost use Rattle.thorin_identity.specs.Identity.{with_offset};
+ghost use Rattle.thorin_identity.specs.Identity.{root_identity, entry_identity, numbered_identity};
+ghost use Rattle.thorin_identity.specs.Identity.{identity, identity_by, part_between, with_offset};
 
 use dwp_dwarf::{
     AbbreviationCache, Abbreviations, EntryNumber, ReadError, Reader, RootEntry, UnitHeader,
-    UnitType,
+    UnitType, number_read,
 };
 use dwp_table::{DebugTypeSignature, DwarfObject, DwoId};
 use thorin_errors::Error;
@@ -209,21 +208,12 @@ fn numbered_identifier(found: EntryNumber) -> Result<Option<DwarfObject>, Error>
 }
 
 /// The identifier in an entry of a unit.
-#[tactic(auto, unfolding(crate::specs::Identity::entry_identity))]
 fn entry_identifier<R: Reader>(entry: RootEntry<R>) -> Result<Option<DwarfObject>, Error>
     ensures meaning { Gives (λ name. name) result (entry_identity (entry_of R.input entry)) }
     ensures memory { IfErr result (λ e. e ≢ Error.Memory) }
 {
-    if entry.tag != DW_TAG_COMPILE_UNIT && entry.tag != DW_TAG_TYPE_UNIT {
-        return Err(Error::TopLevelDieNotUnit);
-    }
-    for attribute in entry.attributes {
-        let attribute = attribute?;
-        if attribute.name == DW_AT_GNU_DWO_ID {
-            if let Some(id) = attribute.number() {
-                return Ok(Some(DwarfObject::Compilation(DwoId(id))));
-            }
-        }
-    }
-    Ok(None)
+    numbered_identifier(EntryNumber {
+        tag: entry.tag,
+        number: number_read(entry, DW_AT_GNU_DWO_ID),
+    })
 }

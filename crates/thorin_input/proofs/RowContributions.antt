@@ -1,7 +1,8 @@
 -- The rows that units get, put together of the contributions that are read for each kind of
 -- section.
-use Rattle.std.proofs.Common.{ap, cond, Err, map-id, None, Ok, Option, refl, Result, slice_get}
-use Rattle.std.proofs.Common.{Some, sym, ◌∙◌, ◌≡◌}
+use Rattle.dwp_dwarf.proofs.Terms.{ap, by-bool, cond, Encoding, Err, None, Ok, Option, refl, Result}
+use Rattle.dwp_dwarf.proofs.Terms.{slice_get, Some, sym, ◌∙◌, ◌≡◌}
+use Rattle.std.proofs.Common.{map-id}
 use Rattle.std.proofs.lemmas.Option.{get_or_from_slice_get}
 use Rattle.dwp_base.specs.ByKind.{ReadsEach, value_of, values_of}
 use Rattle.dwp_base.specs.Reading.{Answers}
@@ -9,11 +10,9 @@ use Rattle.dwp_base.specs.Sections.{all_kinds, rank_of}
 use Rattle.dwp_base.specs.declared.by_kind.ByKind.{ByKind}
 use Rattle.dwp_base.specs.declared.section.Contribution.{Contribution}
 use Rattle.dwp_base.specs.declared.section.SectionKind.{SectionKind}
-use Rattle.dwp_base.proofs.Bools.{by-bool}
 use Rattle.dwp_base.proofs.EveryKind.{same-each}
 use Rattle.dwp_base.proofs.KindsRead.{answers-each}
 use Rattle.dwp_base.proofs.Steps.{bind-err, bind-ok, each-read}
-use Rattle.dwp_bytes.specs.declared.encoding.Encoding.{Encoding}
 use Rattle.dwp_table.specs.declared.object.DwarfObject.{DwarfObject}
 use Rattle.dwp_table.specs.declared.object.DwarfObject.TheVariants.{Compilation}
 use Rattle.thorin_errors.specs.Errors.{error_of, ErrorValue}

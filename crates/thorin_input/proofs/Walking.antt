@@ -16,8 +16,7 @@ use Rattle.thorin_errors.specs.Errors.{ErrorValue, error_of}
 use Rattle.thorin_errors.specs.Answers.{Gives, MemoryAside}
 use Rattle.thorin_errors.specs.declared.error.Error.{Error}
 use Rattle.thorin_input.specs.Encodings.{is_index, is_plain}
-use Rattle.thorin_input.specs.Used.{Used, used_kind, has_kind, with_used}
-use Rattle.thorin_input.specs.Used.{used_from, input_file_of}
+use Rattle.thorin_input.specs.Used.{Used, used_kind, has_kind, with_used, used_from, input_file_of}
 use Rattle.thorin_input.specs.View as view
 use Rattle.thorin_input.specs.declared.object.InputObject.{InputObject}
 use Rattle.thorin_input.specs.declared.object.UsedSection.{UsedSection}

@@ -91,7 +91,6 @@ pub(crate) fn is_shared(kind: SectionKind) -> bool
     is_copied(kind) || kind.is(SectionKind::StrOffsets)
 }
 
-/// Whether a part of a kind is there.
 fn has_part(parts: &[Part<'_>], kind: SectionKind) -> bool
     ensures { result ≡ spec.has_part kind (map view.part parts.now) }
 {

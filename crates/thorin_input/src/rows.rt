@@ -1,8 +1,7 @@
 //! The rows that units get: each unit's contribution to each section of its input, tested, and put
 //! where the section comes to lie in the package.
 
-ghost use Rattle.std.specs.Prelude.{◌≡◌, take, drop, map, None, IfOk, IfErr};
-ghost use Rattle.std.specs.Prelude.{if◌then◌else◌};
+ghost use Rattle.std.specs.Prelude.{◌≡◌, take, drop, map, None, IfOk, IfErr, if◌then◌else◌};
 ghost use Rattle.dwp_base.specs.declared.section.SectionKind.TheVariants.{Abbrev};
 ghost use Rattle.dwp_units.specs.Units.{unit_of};
 ghost use Rattle.dwp_elf.specs.Growing.{contribution_put};

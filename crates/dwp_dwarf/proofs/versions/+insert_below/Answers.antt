@@ -1,10 +1,12 @@
-use Rattle.dwp_dwarf.proofs.Terms.{rules, ◌∙◌}
-use Rattle.dwp_dwarf.proofs.Keys.{if_map, if_both}
+use Rattle.dwp_dwarf.proofs.Terms.{◌∙◌}
+use Rattle.std.proofs.lemmas.Option.{IfSome_then}
+use Rattle.dwp_dwarf.proofs.Keys.{if_both}
 use Rattle.dwp_dwarf.proofs.NewVersions.{value_here, others_here, value_beside, others_beside}
 use Rattle.dwp_dwarf.proofs.versions.+insert_below.Goals as goal
 
 pub returns-then-key-eq0-clause-value : goal.returns-then-key-eq0-clause-value
-returns-then-key-eq0-clause-value t c = search (rules, value_here, if_map)
+returns-then-key-eq0-clause-value t c = IfSome_then c.add.result c.add.ensures.node
+    (λ added now. value_here _ _ added _ _ c.if-levels-eq0.false c.if-key-eq0.true c.requires now)
 
 pub returns-then-key-eq0-clause-others : goal.returns-then-key-eq0-clause-others
 returns-then-key-eq0-clause-others t c = if_both c.add.result (λ added above now.

@@ -9,6 +9,5 @@ returns-clause-alone c inputs bytes is packs =
     (each-taken inputs start is.state is.taken) packs is.written
 
 pub returns-clause-left : goal.returns-clause-left
-returns-clause-left c order = groups-left c.inputs_are_joined.ensures.sound
-    c.packages_that_pack_again_are_accepted.ensures.accepted
-    c.taken_inputs_are_finished.ensures c.the_first_byte_order_stays.ensures order
+returns-clause-left c = groups-left c.packages_that_pack_again_are_accepted.ensures.accepted
+    c.taken_inputs_are_finished.ensures c.the_first_byte_order_stays.ensures

@@ -1,5 +1,7 @@
-use Rattle.thorin.proofs.Terms.{begun-now, IsPackageOf, Ok, start, subst, sym, taken, units_in, ◌≡◌}
+use Rattle.thorin.proofs.Terms.{begun-now, input-keeps, IsPackageOf, Ok, start, subst, sym, taken}
+use Rattle.thorin.proofs.Terms.{units_in, ◌≡◌}
 use Rattle.thorin_again.specs.Again.{HaveEncodingOf, MeansWhereTaken}
+use Rattle.thorin_join.proofs.Files.Finished.{finished-is}
 use Rattle.thorin.proofs.GroupJoins.{sound-taken}
 use Rattle.thorin.proofs.Running.{as-written, read-text}
 use Rattle.thorin.proofs.TakenAgain.{plain-encoding}
@@ -8,9 +10,9 @@ use Rattle.thorin.proofs.again.refused_packages_mean_what_is_read.Goals as goal
 pub returns-clause-taken : goal.returns-clause-taken
 returns-clause-taken c accepted state bytes before after are w have other took =
     let units = units_in state in
-    let sound = sound-taken c.inputs_are_joined.ensures.sound accepted start state tt are in
-    let j = c.inputs_are_joined.ensures.joins bytes before.begun after.begun other
-    (begun-now bytes before after took) in
+    let sound = sound-taken accepted start state tt are in
+    let j = (input-keeps bytes before.begun after.begun other
+    (begun-now bytes before after took)).joins in
     record {
       meant = j.units;
       meaning = j.meaning;
@@ -18,7 +20,7 @@ returns-clause-taken c accepted state bytes before after are w have other took =
           (c.written_packages_mean_their_units.ensures state w.file sound w.tested w.finished)
           have before after took j.units j.meaning;
       package_of = as-written state bytes w (IsPackageOf units)
-          (c.finished_packages_are_read.ensures state w.file sound w.tested w.finished);
+          (finished-is state w.file sound w.tested w.finished);
     }
 
 pub returns-clause-own : goal.returns-clause-own

@@ -25,10 +25,10 @@ loop-input-preserved g c =
     let next : bytes_in (take (i + 1) inputs) ≡ done ++ item.now ∷ [] =
     map_more (λ (input : Bor (List ℕ)). input.now) inputs i none c.loop-input-test.true in (
       rw next (taken-then done (item.now ∷ []) start before c.loop-input.invariant.0
-          ∙ bind-ok (taken item.now before) after _ c.in-Ok.ensures.meaning),
+          ∙ bind-ok (taken item.now before) after _ c.in_default.ensures.meaning),
       rw next (join-append done (item.now ∷ []) [] (units_in before) (units_in after)
           c.loop-input.invariant.1
-          (units_in after, c.in-Ok.ensures.joins, refl)),
+          (units_in after, c.in_default.ensures.joins, refl)),
     )
 
 pub returns-in-Err : goal.returns-in-Err

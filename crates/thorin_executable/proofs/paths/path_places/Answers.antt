@@ -1,6 +1,5 @@
-use Rattle.std.proofs.Common.{◌≡◌, Some, ap, rules, option_map}
-use Rattle.dwp_dwarf.specs.Attributes.{attribute_of}
-use Rattle.dwp_dwarf.specs.Split.{attributes_of}
+use Rattle.dwp_dwarf.proofs.Terms.{ap, attribute_of, attributes_of, rules, Some, ◌≡◌}
+use Rattle.std.proofs.Common.{option_map}
 use Rattle.thorin_executable.specs.Paths.{base_of}
 use Rattle.thorin_executable.proofs.SamePaths.{path_with}
 use Rattle.thorin_executable.proofs.paths.path_places.Goals as goal

@@ -1,5 +1,4 @@
-use Rattle.std.proofs.Common.{ap, sym, drop, ◌∙◌}
-use Rattle.dwp_bytes.specs.Input.{Input}
+use Rattle.dwp_dwarf.proofs.Terms.{ap, drop, Input, sym, ◌∙◌}
 use Rattle.thorin_identity.proofs.Cut.{cut, passed_over, none_left}
 use Rattle.thorin_identity.proofs.identity.part_of.Goals as goal
 

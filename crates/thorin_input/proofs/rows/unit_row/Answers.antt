@@ -1,7 +1,6 @@
-use Rattle.std.proofs.Common.{rules, ◌∙◌, Ok, ap, sym}
-use Rattle.std.proofs.lemmas.Result.{err_from_is_err_and}
-use Rattle.thorin_input.specs.View as view
+use Rattle.dwp_dwarf.proofs.Terms.{ap, err_from_is_err_and, Ok, rules, sym, ◌∙◌}
 use Rattle.thorin_input.proofs.RowContributions.{plain-row, row-read, row-refused}
+use Rattle.thorin_input.specs.View as view
 use Rattle.thorin_input.proofs.rows.unit_row.Goals as goal
 
 pub returns-in-None-None-clause-meaning : goal.returns-in-None-None-clause-meaning

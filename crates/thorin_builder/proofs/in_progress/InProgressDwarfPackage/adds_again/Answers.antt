@@ -1,7 +1,7 @@
 use Rattle.thorin_builder.proofs.Terms
-use Terms.{ap, append-nil, Contents, DwarfObject, file_encoding, held_units, IfOk-weaker}
+use Terms.{ap, append-nil, Contents, DwarfObject, Extends, file_encoding, held_units, IfOk-weaker}
 use Terms.{IfSome_then, in_progress_of, IndexEntry, InProgress, input_file_of, IsLater, List, map}
-use Terms.{New, None, Ok, one_encoding, own_encoding, parts_of, refl, rules, Source, sym}
+use Terms.{New, None, Ok, one_encoding, own_encoding, parts_of, refl, rules, Source, subst, sym}
 use Terms.{take-length, unit_bytes, UnitlessInput, with_all, with_input, with_more, with_new_units}
 use Terms.{with_parts, with_source, with_source_or_new, with_units, ℕ, [], ◌∙◌, ◌≡◌}
 use Rattle.thorin_join.proofs.Terms.{content_of, contribution_to, kind_of, part_of, place_of}
@@ -12,7 +12,7 @@ use Rattle.thorin_join.proofs.Parts.Added.{content-with_parts, parts-none}
 use Rattle.thorin_join.proofs.Rows.OneAdded.{not-shared}
 use Rattle.thorin_builder.specs.Repeated.{AddsNoUnit}
 use Rattle.thorin_builder.proofs.AddedAgain.{later-refl, with_again}
-use Rattle.thorin_builder.proofs.Extending.{with_source-is}
+use Rattle.thorin_builder.proofs.Extending.{strings-extend, with_source-is}
 use Rattle.thorin_builder.proofs.Later.{parts-later, units-later}
 use Rattle.thorin_input.specs.View as view
 use Rattle.thorin_builder.proofs.in_progress.InProgressDwarfPackage.adds_again.Goals as goal
@@ -106,5 +106,8 @@ returns-clause-found c =
     })) c.try_again-found.ensures.found
 
 pub returns-clause-same : goal.returns-clause-same
-returns-clause-same c = c.restore.ensures (in_progress_of c.args.self.now)
-    c.try_again-found.ensures.extends c.in_ok-mark.ensures.mark
+returns-clause-same c =
+    let made = in_progress_of c.args.self.now in
+    let again = c.try_again-found.ensures in
+    c.restore.ensures made (subst (Extends made) (sym again.strings) (strings-extend again.kept))
+    c.in_ok-mark.ensures.mark

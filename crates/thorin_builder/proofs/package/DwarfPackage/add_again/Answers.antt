@@ -1,5 +1,6 @@
 use Rattle.thorin_builder.proofs.Terms
 use Terms.{ap, begun_of, building, in_progress_of, None, rules, Some, State, ◌≡◌}
+use Rattle.thorin_again.proofs.Kept.OneEncoding.{taken-holds, taken-plain}
 use Rattle.thorin_builder.proofs.AddedAgain.{input-known, taken-known, later-known, with_again}
 use Rattle.thorin_builder.proofs.package.DwarfPackage.add_again.Goals as goal
 
@@ -18,8 +19,8 @@ invariant_of-self-in-Some g c =
       c.self.invariant.0,
       c.inputs_are_joined.ensures.sound bytes old.begun (Some now) c.self.invariant.1
           (input-known bytes again old made now begun known added),
-      c.one_encoding_is_kept.ensures bytes old new c.self.invariant.1 c.self.invariant.2 step,
-      c.plain_packages_are_kept.ensures bytes old new c.self.invariant.1 c.self.invariant.3 step,
+      taken-holds bytes old new c.self.invariant.1 c.self.invariant.2 step,
+      taken-plain bytes old new c.self.invariant.1 c.self.invariant.3 step,
     )
 
 pub returns-clause-later : goal.returns-clause-later

@@ -2,6 +2,7 @@ use Rattle.thorin_builder.proofs.Terms
 use Terms.{begun_of, Bool, building, common, cond, Encoding, InProgressDwarfPackage, le-ltb, lt-ltb}
 use Terms.{not, Option, own_after, rules, State, sym, with_own, ◌∙◌, ◌≡◌}
 use Rattle.std.specs.Prelude.{is_some}
+use Rattle.thorin_again.proofs.Kept.OneEncoding.{taken-holds, taken-plain}
 use Rattle.thorin_builder.proofs.AddedAgain.{joined-later, taken-as}
 use Rattle.thorin_builder.proofs.package.DwarfPackage.add_bytes.Goals as goal
 
@@ -39,10 +40,8 @@ invariant_of-self-2 g c =
     c.in_ok-encoding.ensures.own own in (
       c.self.invariant.0,
       c.inputs_are_joined.ensures.sound c.args.bytes.now old.begun now c.self.invariant.1 made,
-      c.one_encoding_is_kept.ensures c.args.bytes.now old new c.self.invariant.1
-          c.self.invariant.2 step,
-      c.plain_packages_are_kept.ensures c.args.bytes.now old new c.self.invariant.1
-          c.self.invariant.3 step,
+      taken-holds c.args.bytes.now old new c.self.invariant.1 c.self.invariant.2 step,
+      taken-plain c.args.bytes.now old new c.self.invariant.1 c.self.invariant.3 step,
     )
 
 pub returns-clause-later : goal.returns-clause-later

@@ -1,7 +1,6 @@
 use Rattle.thorin_builder.proofs.Terms
-use Terms.{[], accepted_of, AreTaken, came, Err, err_from_is_err_and, inl, inr, Io, IsTaken, List}
-use Terms.{Memory, Ok, on_ok_weaker, Outcome, refl, rules, State, TakesReferredFile, TakesSkeleton}
-use Terms.{ℕ}
+use Terms.{accepted_of, err_from_is_err_and, Memory, on_ok_weaker, TakesReferredFile, TakesSkeleton}
+use Terms.{[], AreTaken, came, Err, inl, inr, Io, IsTaken, List, Ok, Outcome, refl, rules, State, ℕ}
 use Rattle.thorin_builder.proofs.AddedAgain.{are-taken-later, target-kept, taken-found}
 use Rattle.thorin_builder.proofs.Running.{on-ok-taken}
 use Rattle.thorin_builder.proofs.package.DwarfPackage.add_skeleton.Given.{Over}

@@ -1,6 +1,8 @@
 use Rattle.thorin_builder.proofs.Terms.{building, Error, File, finish_test, Gives, IfOk}
 use Rattle.thorin_builder.proofs.Terms.{IsFinishedState, Ok, Result, rules, State, units_in, ◌≡◌}
+use Rattle.thorin_again.proofs.Accepted.Written.{own-all, own-by-new}
 use Rattle.thorin_again.specs.OwnAccepted.{IsAcceptedByNewOnceWritten, IsAcceptedOnceWritten}
+use Rattle.thorin_join.proofs.Files.Finished.{finished-is}
 use Rattle.thorin_join.specs.Join.{IsPackageOnceWritten}
 use Rattle.thorin_builder.proofs.package.DwarfPackage.finish_with_differing.Goals as goal
 
@@ -24,19 +26,18 @@ returns-clause-packaged g c =
     let state : State = (building c.self.inside).state in
     rw (← c.self.view_is) (by-law (λ of. IsPackageOnceWritten (units_in of))
     c.finished_begun.result.0 state
-    (λ file. c.finished_packages_are_read.ensures state file c.self.invariant.1)
+    (λ file. finished-is state file c.self.invariant.1)
     (c.finished_begun.ensures.refusal c.self.inside.own)
     (c.finished_begun.ensures.finished c.self.inside.own))
 
 pub returns-clause-accepted : goal.returns-clause-accepted
 returns-clause-accepted g c =
     rw (← c.self.view_is) (by-law IsAcceptedOnceWritten c.finished_begun.result.0 _
-    (λ file. c.own_packages_are_accepted.ensures _ file c.self.invariant.1 c.self.invariant.2
-    c.self.invariant.3) (c.finished_begun.ensures.refusal _) (c.finished_begun.ensures.finished _))
+    (λ file. own-all _ file c.self.invariant.1 c.self.invariant.2 c.self.invariant.3)
+    (c.finished_begun.ensures.refusal _) (c.finished_begun.ensures.finished _))
 
 pub returns-clause-accepted_by_new : goal.returns-clause-accepted_by_new
 returns-clause-accepted_by_new g c =
     rw (← c.self.view_is) (by-law IsAcceptedByNewOnceWritten c.finished_begun.result.0 _
-    (λ file. c.own_packages_are_accepted_by_a_new_one.ensures _ file c.self.invariant.1
-    c.self.invariant.2 c.self.invariant.3)
+    (λ file. own-by-new _ file c.self.invariant.1 c.self.invariant.2 c.self.invariant.3)
     (c.finished_begun.ensures.refusal _) (c.finished_begun.ensures.finished _))

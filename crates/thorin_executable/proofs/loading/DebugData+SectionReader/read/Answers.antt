@@ -1,5 +1,4 @@
-use Rattle.std.proofs.Common.{◌≡◌, Ok, refl, rules}
-use Rattle.std.proofs.lemmas.Result.{err_from_is_err_and}
+use Rattle.dwp_dwarf.proofs.Terms.{err_from_is_err_and, Ok, refl, rules, ◌≡◌}
 use Rattle.dwp_elf_read.specs.Elf.{elf_of}
 use Rattle.dwp_elf_read.specs.View.{elf}
 use Rattle.thorin_errors.specs.Answers.{as_error}

@@ -1,7 +1,6 @@
-use Rattle.std.proofs.Common.{[], ap, drop, Err, get_or, length, List, map, refl, sym, ℕ, ◌<◌, ◌∙◌}
-use Rattle.std.proofs.Common.{◌≡◌}
-use Rattle.std.proofs.lemmas.List.{drop_more}
-use Rattle.std.proofs.lemmas.Result.{err_from_is_err_and}
+use Rattle.dwp_dwarf.proofs.Terms.{ap, drop, drop_more, Err, err_from_is_err_and, length, List, map}
+use Rattle.dwp_dwarf.proofs.Terms.{refl, sym, [], ℕ, ◌<◌, ◌∙◌, ◌≡◌}
+use Rattle.std.proofs.Common.{get_or}
 use Rattle.dwp_base.proofs.Steps.{bind-err}
 use Rattle.thorin_errors.specs.Errors.{ErrorValue}
 use Rattle.thorin_input.specs.NewUnits.{SeenSections, New, new_units, none_met, with_each_section}
