@@ -1,13 +1,10 @@
 -- Digits taken one after the other.
-use Rattle.std.proofs.Common.{◌≡◌, ℕ, ◌+◌, ◌-◌, ◌*◌, ◌^◌, ◌<◌, ◌≤◌, ◌==◌, Bool, true, false, cond}
-use Rattle.std.proofs.Common.{List, length, drop, get_or, Some, None, Option, sym, ap, refl, ◌∙◌}
-use Rattle.std.proofs.Common.{arith, pow-add}
-use Rattle.std.proofs.Math.Nat.{pow-le-pow_right}
-use Rattle.std.specs.Bool.{then_some}
-use Rattle.std.specs.List.{list_all}
-use Rattle.std.proofs.lemmas.Bool.Decides.{nat_tests}
-use Rattle.std.proofs.lemmas.List.{drop_all, drop_more}
-use Rattle.dwp_archive.specs.Headers.{is_digit, decimal_from}
+use Rattle.std.proofs.Common.{Bool, false, true, ℕ, ◌*◌, ◌+◌, ◌-◌, ◌<◌, ◌==◌, ◌^◌, ◌∙◌, ◌≡◌, ◌≤◌}
+use Rattle.std.proofs.Common.{arith, cond, drop, get_or, length, List, None, Option, pow-add, Some}
+use Rattle.std.proofs.{Common.refl, lemmas.Bool.Decides.nat_tests, Math.Nat.pow-le-pow_right}
+use Rattle.std.proofs.{Common.ap, Common.sym, lemmas.List.drop_all, lemmas.List.drop_more}
+use Rattle.std.specs.{Bool.then_some, List.list_all}
+use Rattle.dwp_archive.specs.Headers.{decimal_from, is_digit}
 
 abbrev Number : Type 0
 Number = Option ℕ

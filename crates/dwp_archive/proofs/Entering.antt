@@ -1,10 +1,9 @@
 -- Entries taken one after the other.
-use Rattle.std.proofs.Common.{◌≡◌, ℕ, zero, suc, ◌+◌, ◌-◌, ◌<◌, ◌≤◌, List, [], ◌∷◌, ◌++◌, length}
-use Rattle.std.proofs.Common.{Result, Ok, Err, sym, ap, ◌∙◌, refl, arith, append_assoc, append-nil}
+use Rattle.std.proofs.Common.{List, Ok, suc, zero, [], ℕ, ◌++◌, ◌+◌, ◌-◌, ◌<◌, ◌∙◌, ◌∷◌, ◌≡◌, ◌≤◌}
+use Rattle.std.proofs.Common.{ap, append-nil, append_assoc, arith, Err, length, refl, Result, sym}
 use Rattle.dwp_base.specs.Reading.{◌>>=◌}
-use Rattle.dwp_archive.specs.declared.error.ArchiveError.{ArchiveError}
-use Rattle.dwp_archive.specs.Entries.{Member, Entry, entry_at}
-use Rattle.dwp_archive.specs.Members.{members_from}
+use Rattle.dwp_archive.specs.{declared.error.ArchiveError.ArchiveError, Members.members_from}
+use Rattle.dwp_archive.specs.Entries.{Entry, entry_at, Member}
 
 abbrev Members : Type 0
 Members = Result (List Member) ArchiveError

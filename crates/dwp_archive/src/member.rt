@@ -1,9 +1,8 @@
 //! Members, and their names.
 
-ghost use Rattle.std.specs.Prelude.{◌≡◌, ◌==◌, ◌<◌, take};
+ghost use Rattle.std.specs.Prelude.{take, ◌<◌, ◌==◌, ◌≡◌};
 ghost use Rattle.std.specs.List.{before_first};
-ghost use Rattle.dwp_archive.specs.Names.{short_name, long_name, own_name};
-ghost use Rattle.dwp_archive.specs.View.{member};
+ghost use Rattle.dwp_archive.specs.{Names.long_name, Names.own_name, Names.short_name, View.member};
 
 use memchr::memchr;
 

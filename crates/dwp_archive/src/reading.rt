@@ -1,13 +1,12 @@
 //! The members of an archive, entry by entry (ar(5)).
 
-ghost use Rattle.std.specs.Prelude.{◌≡◌, ◌==◌, ◌+◌, ◌++◌, ◌≤◌, [], length, map, IfOk, OnOk};
+ghost use Rattle.std.specs.Prelude.{IfOk, length, map, OnOk, [], ◌++◌, ◌+◌, ◌==◌, ◌≡◌, ◌≤◌};
 ghost use Rattle.std.specs.List.{list_all};
 ghost use Rattle.dwp_base.specs.Reading.{Answers};
-ghost use Rattle.dwp_archive.specs.Answers.{Gives};
-ghost use Rattle.dwp_archive.specs.Entries.{long_at, own_at, members_at, entry_at};
+ghost use Rattle.dwp_archive.specs.{Answers.Gives, Members.members_from, Members.members_of};
+ghost use Rattle.dwp_archive.specs.Entries.{entry_at, long_at, members_at, own_at};
 ghost use Rattle.dwp_archive.specs.Headers.{decimal, is_padded, size_at};
-ghost use Rattle.dwp_archive.specs.Members.{members_from, members_of};
-ghost use Rattle.dwp_archive.specs.View.{member, listed, entry};
+ghost use Rattle.dwp_archive.specs.View.{entry, listed, member};
 
 use crate::error::ArchiveError;
 use crate::member::{Member, NameForm, own_name, short_name};

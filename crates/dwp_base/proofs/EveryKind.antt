@@ -1,18 +1,14 @@
 -- What holds of each kind of section in the list of them holds of every kind.
-use Rattle.std.proofs.Common.{◌≡◌, ℕ, zero, suc, Bool, true, false, not, List, [], ◌∷◌, map, get_or}
-use Rattle.std.proofs.Common.{refl, sym, ap, ◌∙◌, subst, arith, Some, option_map, slice_get}
-use Rattle.std.proofs.Common.{eqb-true}
-use Rattle.std.specs.List.{list_all}
-use Rattle.std.specs.Str.{bytes_eq}
-use Rattle.std.proofs.lemmas.List.FromFn.{get_or-range_with_len}
-use Rattle.std.proofs.lemmas.List.Sums.{AllPass-from_list_all}
-use Rattle.std.proofs.lemmas.Option.{same_Some, slice_get-map, slice_get_within}
-use Rattle.std.proofs.lemmas.Option.{get_or_from_slice_get}
-use Rattle.dwp_base.specs.Sections.{name_of, compressed_name_of, is_named, all_kinds, rank_of}
-use Rattle.dwp_base.specs.Sections.{same_kind, kind_named}
-use Rattle.dwp_base.specs.declared.section.SectionKind.{SectionKind}
 use Rattle.dwp_base.specs.declared.section.SectionKind.TheVariants as kinds
-use Rattle.dwp_base.proofs.Bools.{is-false}
+use Rattle.std.proofs.Common.{Bool, false, List, map, not, suc, true, zero, [], ℕ, ◌∙◌, ◌∷◌, ◌≡◌}
+use Rattle.std.proofs.Common.{ap, arith, eqb-true, get_or, option_map, refl, slice_get, Some, subst}
+use Rattle.std.proofs.lemmas.Option.{get_or_from_slice_get, slice_get-map, slice_get_within}
+use Rattle.dwp_base.specs.Sections.{all_kinds, compressed_name_of, is_named, kind_named, same_kind}
+use Rattle.dwp_base.specs.Sections.{name_of, rank_of}
+use Rattle.std.proofs.{Common.sym, lemmas.List.Sums.AllPass-from_list_all, lemmas.Option.same_Some}
+use Rattle.std.specs.{List.list_all, Str.bytes_eq}
+use Rattle.std.proofs.lemmas.List.FromFn.{get_or-range_with_len}
+use Rattle.dwp_base.{proofs.Bools.is-false, specs.declared.section.SectionKind.SectionKind}
 
 pub at-rank : (kind : SectionKind) → slice_get all_kinds (rank_of kind) ≡ Some kind
 at-rank kinds.Info = refl

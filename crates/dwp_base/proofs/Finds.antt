@@ -1,9 +1,8 @@
 -- The first item of a list that passes a test, looked for one after the other.
-use Rattle.std.proofs.Common.{◌≡◌, ℕ, zero, suc, ◌+◌, ◌<◌, ◌≤◌, Bool, true, false, cond, List, []}
-use Rattle.std.proofs.Common.{◌∷◌, length, drop, Some, None, ap, ◌∙◌, arith, slice_get}
-use Rattle.std.specs.List.{find}
-use Rattle.std.proofs.lemmas.List.{drop_all, drop_more}
-use Rattle.std.proofs.lemmas.Option.{slice_get_within, get_or_from_slice_get}
+use Rattle.std.proofs.Common.{ap, Bool, false, suc, true, zero, [], ℕ, ◌+◌, ◌<◌, ◌∙◌, ◌∷◌, ◌≡◌, ◌≤◌}
+use Rattle.std.proofs.Common.{arith, cond, drop, length, List, None, slice_get, Some}
+use Rattle.std.{proofs.lemmas.List.drop_all, proofs.lemmas.List.drop_more, specs.List.find}
+use Rattle.std.proofs.lemmas.Option.{get_or_from_slice_get, slice_get_within}
 
 pub find_at : {X : Type 0} (p : X → Bool) (xs : List X) (i : ℕ) (x : X) → slice_get xs i ≡ Some x
     → find p (drop i xs) ≡ cond (p x) (Some x) (find p (drop (i + 1) xs))

@@ -1,16 +1,13 @@
 -- Values that are read for each kind, one kind after another.
-use Rattle.std.proofs.Common.{◌≡◌, ℕ, zero, suc, ◌+◌, ◌<◌, ◌≤◌, List, [], ◌∷◌, map, length, refl}
-use Rattle.std.proofs.Common.{sym, ap, subst, ◌∙◌, ⊎_elim, arith}
-use Rattle.std.specs.Prelude.{Some, Result, Ok, Err, option_map, slice_get, slice_set}
-use Rattle.std.proofs.lemmas.Bool.{cases_lt}
-use Rattle.std.proofs.lemmas.List.{length-set, get_or-set_same, get_or-set_other, length-map}
-use Rattle.std.proofs.lemmas.Option.{same_Some, slice_get_within, slice_get_read, slice_get-map}
-use Rattle.std.proofs.lemmas.Option.{get_or_from_slice_get}
-use Rattle.dwp_base.specs.ByKind.{values_of, value_of, ReadsEach}
-use Rattle.dwp_base.specs.Reading.{Answers, read_each}
-use Rattle.dwp_base.specs.Sections.{rank_of, all_kinds}
-use Rattle.dwp_base.specs.declared.section.SectionKind.{SectionKind}
-use Rattle.dwp_base.specs.declared.by_kind.ByKind.{ByKind}
+use Rattle.std.proofs.Common.{ap, List, map, suc, zero, [], ℕ, ⊎_elim, ◌+◌, ◌<◌, ◌∙◌, ◌∷◌, ◌≡◌, ◌≤◌}
+use Rattle.std.proofs.Common.{arith, length, refl, subst, sym}
+use Rattle.std.proofs.lemmas.Option.{get_or_from_slice_get, slice_get_read, slice_get_within}
+use Rattle.std.specs.Prelude.{Err, Ok, option_map, Result, slice_get, slice_set, Some}
+use Rattle.std.proofs.{lemmas.Bool.cases_lt, lemmas.Option.same_Some, lemmas.Option.slice_get-map}
+use Rattle.std.proofs.lemmas.List.{get_or-set_other, get_or-set_same, length-map, length-set}
+use Rattle.dwp_base.specs.ByKind.{ReadsEach, value_of, values_of}
+use Rattle.dwp_base.specs.{declared.by_kind.ByKind.ByKind, declared.section.SectionKind.SectionKind}
+use Rattle.dwp_base.specs.{Reading.Answers, Reading.read_each, Sections.all_kinds, Sections.rank_of}
 use Rattle.dwp_base.proofs.EveryKind.{at-rank, rank-at}
 use Rattle.dwp_base.proofs.Steps.{bind-err, each-read, read-at}
 

@@ -1,15 +1,14 @@
 -- Readings made of others: what is left stands behind what was read, and the same is read wherever
 -- the bytes stand and whatever bytes are left.
-use Rattle.std.proofs.Common.{◌≡◌, [], ◌∙◌, ℕ, suc, ◌+◌, ◌^◌, ◌≤◌, zero, Bool, true, false, cond}
-use Rattle.std.proofs.Common.{List, ◌∷◌, ◌++◌, length, drop, Result, Ok, Err, ltb, refl, ap, sym}
-use Rattle.std.proofs.Common.{subst, add_assoc, add-zero, arith, ℤ, le-ltb, drop-drop, length-drop}
-use Rattle.std.proofs.Common.{take, take-add, append_assoc, take-append-drop}
-use Rattle.dwp_base.proofs.Bools.{by-bool}
-use Rattle.dwp_base.proofs.Steps.{bind-was}
+use Rattle.std.proofs.Common.{Bool, suc, true, zero, [], ℕ, ℤ, ◌++◌, ◌+◌, ◌^◌, ◌∙◌, ◌∷◌, ◌≡◌, ◌≤◌}
+use Rattle.std.proofs.Common.{add_assoc, append_assoc, drop-drop, length-drop, Ok, take-append-drop}
+use Rattle.std.proofs.Common.{add-zero, arith, cond, false, le-ltb, length, Result, subst, take-add}
+use Rattle.std.proofs.Common.{ap, drop, Err, List, ltb, refl, sym, take}
 use Rattle.dwp_base.specs.Reading.{◌>>=◌}
+use Rattle.dwp_base.proofs.{Bools.by-bool, Steps.bind-was}
 use Rattle.dwp_bytes.specs.declared.error.ReadError.{ReadError}
-use Rattle.dwp_bytes.specs.Input.{Input, Goes, byte_at, after}
-use Rattle.dwp_bytes.specs.Leb.{leb_at, uleb_at, signed_leb_at, sleb_at, is_i64}
+use Rattle.dwp_bytes.specs.Input.{after, byte_at, Goes, Input}
+use Rattle.dwp_bytes.specs.Leb.{is_i64, leb_at, signed_leb_at, sleb_at, uleb_at}
 
 -- ---- what is known of an answer
 

@@ -1,19 +1,15 @@
 -- The first byte of a value, as a search gives it, and the string that a zero ends.
-use Rattle.std.proofs.Common.{◌≡◌, ◌≢◌, ℕ, ◌≤◌, ◌<◌, eqb, List, length, take, drop, Option, Some}
-use Rattle.std.proofs.Common.{None, Result, Ok, Err, All, sym, refl, ◌∙◌, arith}
-use Rattle.std.specs.List.{position, position_or_len}
-use Rattle.std.specs.Option.{ok_or}
-use Rattle.std.specs.Prelude.{unwrap_or}
-use Rattle.std.proofs.lemmas.List.{get_or_default, get_or-take, length-take}
+use Rattle.std.proofs.Common.{drop, eqb, length, List, Ok, Option, take, ℕ, ◌<◌, ◌∙◌, ◌≡◌, ◌≢◌, ◌≤◌}
+use Rattle.std.proofs.Common.{All, arith, Err, None, refl, Result, Some, sym}
+use Rattle.std.specs.{List.position, List.position_or_len, Option.ok_or, Prelude.unwrap_or}
+use Rattle.std.proofs.lemmas.List.{get_or-take, get_or_default, length-take}
 use Rattle.std.proofs.lemmas.List.Folds.{list_any_at, list_any_none}
 use Rattle.std.proofs.lemmas.List.Sums.{position_or_len_is}
-use Rattle.std.proofs.lemmas.Bool.{le-ltb, false_from_ne_true, eq-eqb}
-use Rattle.memchr.specs.Find.{IsFirstByte, is_byte}
+use Rattle.std.proofs.lemmas.Bool.{eq-eqb, false_from_ne_true, le-ltb}
+use Rattle.memchr.specs.Find.{is_byte, IsFirstByte}
 use Rattle.dwp_base.specs.Reading.{Answers}
-use Rattle.dwp_bytes.specs.declared.error.ReadError.{ReadError}
-use Rattle.dwp_bytes.specs.declared.error.ReadError.TheVariants.{NoTerminator}
-use Rattle.dwp_bytes.specs.Input.{found_at}
-use Rattle.dwp_bytes.specs.StringOffsets.{string_at}
+use Rattle.dwp_bytes.specs.{declared.error.ReadError.TheVariants.NoTerminator, Input.found_at}
+use Rattle.dwp_bytes.specs.{declared.error.ReadError.ReadError, StringOffsets.string_at}
 
 -- where a byte first stands is its position
 first_is : (byte : ℕ) (xs : List ℕ) (r : Option ℕ) → IsFirstByte (is_byte byte) xs r

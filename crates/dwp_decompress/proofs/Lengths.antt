@@ -1,14 +1,12 @@
 -- What is said of a file by its headers, and what once its streams are read.
-use Rattle.std.proofs.Common.{◌≡◌, ℕ, List, Bool, true, false, Result, Ok, Err, Some, None}
-use Rattle.std.proofs.Common.{refl, ap, if◌then◌else◌}
+use Rattle.std.proofs.Common.{Bool, Err, false, List, Ok, Result, Some, true, if◌then◌else◌, ℕ, ◌≡◌}
+use Rattle.std.proofs.Common.{ap, None, refl}
 use Rattle.dwp_base.specs.Reading.{◌>>=◌}
 use Rattle.dwp_elf_read.specs.Elf.{Elf, elf_of}
-use Rattle.dwp_decompress.specs.declared.asked.Asked.{Asked}
+use Rattle.dwp_decompress.specs.{Answers.reading, declared.asked.Asked.Asked, Sizes.length_of}
 use Rattle.dwp_decompress.specs.declared.error.DecompressError.{DecompressError}
-use Rattle.dwp_decompress.specs.Answers.{reading}
 use Rattle.dwp_decompress.specs.Compressed.{has_compressed}
-use Rattle.dwp_decompress.specs.Result.{plain_file, decompressed_of, plain_length_of}
-use Rattle.dwp_decompress.specs.Sizes.{length_of}
+use Rattle.dwp_decompress.specs.Result.{decompressed_of, plain_file, plain_length_of}
 
 -- the same error of another step
 same_error : {A B : Type 0} (d e : DecompressError)

@@ -1,15 +1,11 @@
 -- The limit of what headers tell.
-use Rattle.std.proofs.Common.{◌≡◌, ℕ, ◌*◌, List, length, Result, Ok, Err, false, refl, arith}
-use Rattle.std.proofs.Common.{IsTrue}
-use Rattle.std.proofs.lemmas.Bool.{le-ltb}
+use Rattle.std.proofs.Common.{arith, Err, false, length, List, Ok, refl, Result, ℕ, ◌*◌, ◌≡◌}
+use Rattle.std.proofs.{Common.IsTrue, lemmas.Bool.le-ltb}
 use Rattle.dwp_elf_read.specs.Elf.{Elf}
-use Rattle.dwp_decompress.specs.declared.asked.Asked.{Asked}
-use Rattle.dwp_decompress.specs.declared.error.DecompressError.{DecompressError}
+use Rattle.dwp_decompress.{proofs.Sums.none_told, specs.declared.asked.Asked.Asked}
+use Rattle.dwp_decompress.specs.{declared.error.DecompressError.DecompressError, Headers.told_sizes}
+use Rattle.dwp_decompress.specs.{Compressed.has_compressed, Sizes.sum_tells_more, Sizes.tells_more}
 use Rattle.dwp_decompress.specs.declared.error.DecompressError.TheVariants.{Unrepresentable}
-use Rattle.dwp_decompress.specs.Compressed.{has_compressed}
-use Rattle.dwp_decompress.specs.Headers.{told_sizes}
-use Rattle.dwp_decompress.specs.Sizes.{tells_more, sum_tells_more}
-use Rattle.dwp_decompress.proofs.Sums.{none_told}
 
 -- an error that only comes where the sum is known is this one, past the limit
 pub limit_error : (asked : Asked) (bytes : List ℕ) (file : Elf) (sum : Result ℕ DecompressError)

@@ -1,24 +1,18 @@
 -- Sections that are compared.
-use Rattle.std.proofs.Common.{◌≡◌, ℕ, ◌+◌, ◌<◌, ◌≤◌, true, false, List, ◌++◌, length, take, drop}
-use Rattle.std.proofs.Common.{get_or, Some, Option, Ok, Err, sym, ap, ◌∙◌, refl, [], ◌∷◌, Result}
-use Rattle.std.proofs.Common.{append_assoc, append-nil, slice_get, option_map, codes}
-use Rattle.std.proofs.Common.{take-append-drop, ap₂, Bool}
-use Rattle.std.specs.List.{list_any}
-use Rattle.std.specs.Global.{Vec}
-use Rattle.std.proofs.lemmas.List.{drop_all, drop_more, map-append}
-use Rattle.std.proofs.lemmas.Option.{slice_get-map, slice_get_read, slice_get_within}
-use Rattle.std.proofs.lemmas.Option.{get_or_from_slice_get}
-use Rattle.dwp_elf_read.specs.Elf.{SectionMeaning}
-use Rattle.dwp_decompress.specs.declared.asked.Asked.{Asked}
-use Rattle.dwp_decompress.specs.Names.{plain_name, added_name_of, added_names}
-use Rattle.dwp_decompress.specs.Compressed.{is_older}
-use Rattle.dwp_decompress.specs.Result.{result_section, result_sections, plain_contents}
-use Rattle.dwp_decompress.specs.Result.{contents_of}
+use Rattle.std.proofs.Common.{false, length, List, true, [], ℕ, ◌++◌, ◌+◌, ◌<◌, ◌∙◌, ◌∷◌, ◌≡◌, ◌≤◌}
+use Rattle.std.proofs.Common.{append-nil, append_assoc, Ok, option_map, slice_get, take-append-drop}
+use Rattle.std.proofs.Common.{Bool, codes, drop, Err, get_or, Option, refl, Result, Some, sym, take}
+use Rattle.std.proofs.lemmas.Option.{get_or_from_slice_get, slice_get_read, slice_get_within}
+use Rattle.dwp_decompress.specs.Result.{plain_contents, result_section, result_sections}
 use Rattle.dwp_base.specs.Reading.{◌>>=◌}
-use Rattle.dwp_base.specs.declared.class.Class.{Class}
-use Rattle.dwp_base.specs.declared.endian.Endianness.{Endianness}
-use Rattle.dwp_decompress.specs.declared.error.DecompressError.{DecompressError}
-use Rattle.dwp_decompress.specs.Headers.{content_of}
+use Rattle.std.proofs.{Common.ap, Common.ap₂, lemmas.Option.slice_get-map}
+use Rattle.std.specs.{Global.Vec, List.list_any}
+use Rattle.std.proofs.lemmas.List.{drop_all, drop_more, map-append}
+use Rattle.dwp_elf_read.specs.Elf.{SectionMeaning}
+use Rattle.dwp_decompress.specs.{declared.error.DecompressError.DecompressError, Result.contents_of}
+use Rattle.dwp_decompress.specs.{declared.asked.Asked.Asked, Names.added_name_of, Names.added_names}
+use Rattle.dwp_decompress.specs.{Compressed.is_older, Headers.content_of, Names.plain_name}
+use Rattle.dwp_base.specs.{declared.class.Class.Class, declared.endian.Endianness.Endianness}
 
 -- ---- sections taken one after the other
 pub drop_step : {X : Type 0} (xs : List X) (i : ℕ) (x : X) → slice_get xs i ≡ Some x

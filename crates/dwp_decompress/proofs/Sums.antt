@@ -1,23 +1,19 @@
 -- Sizes that are added up.
-use Rattle.std.proofs.Common.{◌≡◌, ℕ, ◌+◌, ◌-◌, ◌*◌, ◌/◌, ◌<◌, ◌≤◌, Bool, true, false, not, ◌&&◌}
-use Rattle.std.proofs.Common.{List, [], ◌∷◌, ◌++◌, length}
-use Rattle.std.proofs.Common.{drop, Some, Ok, Err, Result, ap, sym, ◌∙◌, refl, arith}
-use Rattle.std.proofs.Common.{slice_get, nat_lt, codes, length-append, length-drop, take}
-use Rattle.std.proofs.lemmas.Slice.Eq.{bytes_eq-Decides}
-use Rattle.std.proofs.lemmas.List.{drop_all, length-take}
-use Rattle.std.proofs.lemmas.List.Sums.{sum_by-cons}
-use Rattle.std.proofs.lemmas.Bool.{lt-ltb, le-ltb, ltb-true, ltb-false}
-use Rattle.dwp_base.proofs.Bools.{by-bool, neither}
+use Rattle.std.proofs.Common.{Bool, [], ℕ, ◌&&◌, ◌*◌, ◌++◌, ◌+◌, ◌-◌, ◌/◌, ◌<◌, ◌∙◌, ◌∷◌, ◌≡◌, ◌≤◌}
+use Rattle.std.proofs.Common.{false, length, length-append, length-drop, nat_lt, Result, slice_get}
+use Rattle.std.proofs.Common.{arith, codes, drop, Err, List, not, Ok, refl, Some, sym, take, true}
 use Rattle.dwp_base.specs.Reading.{◌>>=◌}
-use Rattle.dwp_base.specs.declared.class.Class.{Class}
-use Rattle.dwp_base.specs.declared.endian.Endianness.{Endianness}
+use Rattle.std.proofs.{Common.ap, lemmas.List.Sums.sum_by-cons, lemmas.Slice.Eq.bytes_eq-Decides}
+use Rattle.std.proofs.lemmas.List.{drop_all, length-take}
+use Rattle.std.proofs.lemmas.Bool.{le-ltb, lt-ltb, ltb-false, ltb-true}
+use Rattle.dwp_base.proofs.Bools.{by-bool, neither}
+use Rattle.dwp_base.specs.{declared.class.Class.Class, declared.endian.Endianness.Endianness}
 use Rattle.dwp_elf_read.specs.Elf.{SectionMeaning}
-use Rattle.dwp_decompress.specs.declared.asked.Asked.{Asked}
+use Rattle.dwp_decompress.specs.{declared.asked.Asked.Asked, Headers.told_size, Headers.told_sizes}
 use Rattle.dwp_decompress.specs.declared.error.DecompressError.{DecompressError}
-use Rattle.dwp_decompress.specs.Compressed.{is_older, is_compressed, has_compressed}
-use Rattle.dwp_decompress.specs.Headers.{told_size, told_sizes}
-use Rattle.dwp_decompress.specs.Names.{plain_name, added_name, added_name_of, added_names}
-use Rattle.dwp_decompress.specs.Sizes.{size_in, compressed_size}
+use Rattle.dwp_decompress.specs.Compressed.{has_compressed, is_compressed, is_older}
+use Rattle.dwp_decompress.specs.Names.{added_name, added_name_of, added_names, plain_name}
+use Rattle.dwp_decompress.specs.Sizes.{compressed_size, size_in}
 use Rattle.dwp_decompress.proofs.Sections.{drop_step}
 
 -- a number and what others have together

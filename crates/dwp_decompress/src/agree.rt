@@ -1,10 +1,9 @@
 //! Whether a file means what the decompressed one is to mean.
 
-ghost use Rattle.std.specs.Prelude.{◌≡◌, ◌++◌, ◌<◌, codes, take, drop, IsTrue, option_map};
 ghost use Rattle.dwp_elf_read.specs.View as view;
+ghost use Rattle.std.specs.Prelude.{codes, drop, IsTrue, option_map, take, ◌++◌, ◌<◌, ◌≡◌};
 ghost use Rattle.dwp_elf_read.specs.View.{elf};
-ghost use Rattle.dwp_decompress.specs.Names.{plain_name};
-ghost use Rattle.dwp_decompress.specs.Result.{result_section};
+ghost use Rattle.dwp_decompress.specs.{Names.plain_name, Result.result_section};
 ghost use Rattle.dwp_decompress.specs.Agreement.{expected_file};
 
 use crate::asked::is_older;

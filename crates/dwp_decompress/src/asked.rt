@@ -1,11 +1,10 @@
 //! Which compressed sections become plain (ELF gABI, "Section Attribute Flags").
 
-ghost use Rattle.std.specs.Prelude.{◌≡◌, ◌||◌};
-ghost use Rattle.dwp_elf_read.specs.Elf.{is_named};
 ghost use Rattle.dwp_elf_read.specs.View as view;
-ghost use Rattle.dwp_elf_read.specs.View.{elf};
+ghost use Rattle.std.specs.Prelude.{◌||◌, ◌≡◌};
+ghost use Rattle.dwp_elf_read.specs.{Elf.is_named, View.elf};
 ghost use Rattle.dwp_decompress.specs.Asked.{is_asked};
-ghost use Rattle.dwp_decompress.specs.Compressed.{is_older, is_compressed, has_compressed};
+ghost use Rattle.dwp_decompress.specs.Compressed.{has_compressed, is_compressed, is_older};
 
 use dwp_elf_read::{ElfFile, Section};
 

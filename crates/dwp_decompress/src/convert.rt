@@ -1,17 +1,14 @@
 //! From a file with compressed sections to one with plain ones.
 
-ghost use Rattle.std.specs.Prelude.{◌≡◌, option_map, Ok, Err, ◌≢◌, IsTrue, IfOk, IfErr};
+ghost use Rattle.std.specs.Prelude.{Err, IfErr, IfOk, IsTrue, Ok, option_map, ◌≡◌, ◌≢◌};
 ghost use Rattle.std.specs.Prelude.{length as length_of_list};
-ghost use Rattle.dwp_elf_read.specs.Elf.{elf_of};
-ghost use Rattle.dwp_elf_read.specs.View.{elf};
-ghost use Rattle.dwp_decompress.specs.Agreement.{expected_file};
-ghost use Rattle.dwp_decompress.specs.Answers.{GivesFile};
-ghost use Rattle.dwp_decompress.specs.Compressed.{HasCompressed};
-ghost use Rattle.dwp_decompress.specs.Result.{plain_file, decompressed_of, plain_length_of};
-ghost use Rattle.dwp_decompress.specs.Headers.{told_sizes};
-ghost use Rattle.dwp_decompress.specs.Sizes.{length_of, sum_tells_more, tells_too_much};
 ghost use Rattle.dwp_decompress.specs.declared.error.DecompressError.TheVariants.{Unrepresentable};
 ghost use Rattle.dwp_decompress.specs.declared.error.DecompressError.TheVariants.{Memory};
+ghost use Rattle.dwp_elf_read.specs.{Elf.elf_of, View.elf};
+ghost use Rattle.dwp_decompress.specs.{Agreement.expected_file, Compressed.HasCompressed};
+ghost use Rattle.dwp_decompress.specs.{Answers.GivesFile, Headers.told_sizes};
+ghost use Rattle.dwp_decompress.specs.Result.{decompressed_of, plain_file, plain_length_of};
+ghost use Rattle.dwp_decompress.specs.Sizes.{length_of, sum_tells_more, tells_too_much};
 
 use crate::agree::Expected;
 use crate::asked::{Asked, has_compressed};

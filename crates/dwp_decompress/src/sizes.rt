@@ -1,20 +1,16 @@
 //! How many bytes a file has once its sections are plain, which names its table gets, and how many
 //! bytes its compressed sections have before.
 
-ghost use Rattle.std.specs.Prelude.{◌≡◌, ◌+◌, ◌++◌, ℕ, Ok, Err, false, length, slice_get, nat_lt};
-ghost use Rattle.std.specs.Prelude.{IfSome, IfOk, OnOk, IfErr, IsTrue};
-ghost use Rattle.dwp_elf_read.specs.Elf.{elf_of};
 ghost use Rattle.dwp_elf_read.specs.View as view;
-ghost use Rattle.dwp_elf_read.specs.View.{elf};
-ghost use Rattle.dwp_decompress.specs.Answers.{GivesFile};
-ghost use Rattle.dwp_decompress.specs.Compressed.{HasCompressed};
-ghost use Rattle.dwp_decompress.specs.Headers.{told_sizes};
+ghost use Rattle.std.specs.Prelude.{Err, false, length, nat_lt, Ok, slice_get, ℕ, ◌++◌, ◌+◌, ◌≡◌};
+ghost use Rattle.std.specs.Prelude.{IfErr, IfOk, IfSome, IsTrue, OnOk};
+ghost use Rattle.dwp_decompress.specs.Sizes.{length_of, length_with, overlaps, size_of, tells_more};
+ghost use Rattle.dwp_decompress.specs.Sizes.{compressed_size, sum_tells_more, tells_too_much};
+ghost use Rattle.dwp_elf_read.specs.{Elf.elf_of, View.elf};
+ghost use Rattle.dwp_decompress.specs.{Compressed.HasCompressed, Result.plain_length_of};
+ghost use Rattle.dwp_decompress.specs.{Answers.GivesFile, Headers.told_sizes, Sizes.size_in};
 ghost use Rattle.dwp_decompress.specs.Names.{added_name_of, added_names, names_number};
-ghost use Rattle.dwp_decompress.specs.Result.{plain_length_of};
 ghost use Rattle.dwp_decompress.specs.declared.error.DecompressError.TheVariants.{Unrepresentable};
-ghost use Rattle.dwp_decompress.specs.Sizes.{size_of, length_with, length_of, size_in};
-ghost use Rattle.dwp_decompress.specs.Sizes.{compressed_size, overlaps, tells_more, sum_tells_more};
-ghost use Rattle.dwp_decompress.specs.Sizes.{tells_too_much};
 
 use crate::asked::{Asked, has_compressed, is_compressed, is_older};
 use crate::error::DecompressError;

@@ -1,13 +1,11 @@
 //! The streams of compressed sections, and what they write (ELF gABI, "Section Compression").
 
-ghost use Rattle.std.specs.Prelude.{◌≡◌, ◌+◌, ◌≤◌, length, option_map};
-ghost use Rattle.dwp_base.specs.Reading.{Answers};
-ghost use Rattle.dwp_elf_read.specs.Layout.{word_size, number_at};
 ghost use Rattle.dwp_elf_read.specs.View as view;
-ghost use Rattle.dwp_elf_read.specs.View.{elf};
-ghost use Rattle.dwp_decompress.specs.Answers.{Gives};
-ghost use Rattle.dwp_decompress.specs.Headers.{packed, packed_in, told_size, content_of};
-ghost use Rattle.dwp_decompress.specs.Result.{contents_of, plain_contents};
+ghost use Rattle.std.specs.Prelude.{length, option_map, ◌+◌, ◌≡◌, ◌≤◌};
+ghost use Rattle.dwp_base.specs.Reading.{Answers};
+ghost use Rattle.dwp_elf_read.specs.{Layout.number_at, Layout.word_size, View.elf};
+ghost use Rattle.dwp_decompress.specs.{Answers.Gives, Result.contents_of, Result.plain_contents};
+ghost use Rattle.dwp_decompress.specs.Headers.{content_of, packed, packed_in, told_size};
 
 use crate::asked::{Asked, is_compressed};
 use crate::error::DecompressError;

@@ -6,13 +6,12 @@ use Terms.{Encoding, false, first_number, Fixed, Format, front, has_bytes, Input
 use Terms.{is_none, is_unmet, layout_of, le-ltb, length, List, met, named_form_at, needed, neither}
 use Terms.{None, none_met, Ok, past_value, ReadError, refl, Result, skip_at, Some, Specification}
 use Terms.{split_at, split_in, SplitAttributes, sym, value_at, ℕ, ◌∙◌, ◌∷◌, ◌≡◌}
-use Rattle.std.proofs.Math.Nat.{sub_self}
+use Rattle.std.{proofs.Math.Nat.sub_self, specs.Option.option_or}
 use Rattle.dwp_dwarf.specs.Entries.{number_of, place_of}
 use Rattle.dwp_dwarf.specs.declared.needed.UnmetNames.{UnmetNames}
 use Rattle.dwp_units.proofs.Readings.{after-zero, bind-bind, bind_alike, by-result}
-use Rattle.dwp_dwarf.proofs.Values.{named_form_cases, attribute_lies}
-use Rattle.std.specs.Option.{option_or}
-use Rattle.dwp_dwarf.specs.Split.{split_attributes, with_attribute, all_read, none_found}
+use Rattle.dwp_dwarf.proofs.Values.{attribute_lies, named_form_cases}
+use Rattle.dwp_dwarf.specs.Split.{all_read, none_found, split_attributes, with_attribute}
 
 -- ---- an attribute whose value has no bytes
 

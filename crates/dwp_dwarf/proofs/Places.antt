@@ -3,18 +3,16 @@ use Rattle.dwp_dwarf.proofs.Terms
 use Terms.{◌+◌, ◌-◌, ap, arith, Declaration, declaration, drop-take, from_at, front, get, Goes}
 use Terms.{Input, length, length-drop, length-take, List, nat_cmp, next_at, Node, Ok, refl}
 use Terms.{RemembersPlaces, Some, subst, sym, ℕ, ◌∙◌, ◌≡◌, ◌≢◌, ◌≤◌}
+use Rattle.dwp_dwarf.specs.Chains.{RemembersChains, RemembersPlace, StaysBefore, StaysBehind}
+use Rattle.dwp_dwarf.specs.Chains.{absent_by, DeclaredAt, EndsBefore, FirstAt, from_end}
 use Rattle.dwp_bytes.specs.Input.{after}
-use Rattle.dwp_dwarf.specs.Chains.{from_end, absent_by, DeclaredAt, EndsBefore, StaysBehind}
-use Rattle.dwp_dwarf.specs.Chains.{RemembersPlace, RemembersChains, FirstAt, StaysBefore}
-use Rattle.dwp_dwarf.specs.Versions.{value_in, Grows}
-use Rattle.dwp_dwarf.specs.declared.chains.Chains.{Chains}
-use Rattle.dwp_dwarf.specs.declared.chains.Place.{Place}
+use Rattle.dwp_dwarf.specs.Versions.{Grows, value_in}
+use Rattle.dwp_dwarf.specs.{declared.chains.Chains.Chains, declared.chains.Place.Place}
 use Rattle.std.proofs.lemmas.Option.{IfSome_then}
-use Rattle.dwp_dwarf.proofs.Keys.{by_key}
-use Rattle.dwp_units.proofs.Readings.{one_answer, goes_then, takes_front, size}
-use Rattle.dwp_dwarf.proofs.Tables.{Next, look_up-here, look_up-other, next_shorter, next_takes}
-use Rattle.dwp_dwarf.proofs.NewVersions.{value_stays, grows_length, none_below}
-use Rattle.dwp_dwarf.proofs.Offsets.{from_is, from_within}
+use Rattle.dwp_dwarf.proofs.{Keys.by_key, Offsets.from_is, Offsets.from_within}
+use Rattle.dwp_units.proofs.Readings.{goes_then, one_answer, size, takes_front}
+use Rattle.dwp_dwarf.proofs.Tables.{look_up-here, look_up-other, Next, next_shorter, next_takes}
+use Rattle.dwp_dwarf.proofs.NewVersions.{grows_length, none_below, value_stays}
 
 -- ---- what a table says of a code doesn't need the bytes behind the code's declaration
 

@@ -6,19 +6,18 @@ use Terms.{declaration_at, eq-eqb, eqb, eqb-false, eqb-true, Err, false, Goes, I
 use Terms.{leb_at, length, List, ne_eqb, next_at, None, Ok, Option, pairs_in, past_specifications}
 use Terms.{ReadError, refl, Result, Some, Specification, subst, suc, sym, take, uleb_at}
 use Terms.{UnexpectedEof, zero, ℕ, ◌↔◌, ◌∙◌, ◌∷◌, ◌≡◌, ◌≢◌}
-use Rattle.dwp_dwarf.specs.Abbreviations.{constant_at, specification_at, specifications_within}
-use Rattle.dwp_dwarf.specs.Abbreviations.{specifications_at, is_last, tag_at, children_at}
+use Rattle.dwp_dwarf.specs.Abbreviations.{constant_at, is_last, specification_at, specifications_at}
+use Rattle.dwp_dwarf.specs.Abbreviations.{declaration_within, pairs_within, specifications_within}
+use Rattle.dwp_dwarf.specs.Abbreviations.{children_at, pairs_from, tag_at}
+use Rattle.dwp_units.proofs.Readings.{bind-bind, error_gives, goes_length, value_gives, value_reads}
+use Rattle.dwp_units.proofs.Readings.{bind-cond, goes_none, reads_sleb, takes_then, told_there, was}
+use Rattle.dwp_units.proofs.Readings.{Answer, by-result, by_step, Gives, goes_some, shorter, Steps}
+use Rattle.dwp_units.proofs.Readings.{bind_alike, error_reads, more_gives, test_gives, then_gives}
+use Rattle.dwp_units.proofs.Readings.{reads_byte, reads_uleb, some_reads, test_reads, then_reads}
+use Rattle.dwp_units.proofs.Readings.{goes, Reads, size, Takes}
 use Rattle.dwp_units.specs.AbbreviationCodes.{code_at}
-use Rattle.dwp_dwarf.specs.Abbreviations.{pairs_from, pairs_within, declaration_within}
 use Rattle.dwp_dwarf.specs.Grammar.{DeclarationsLie, IsBehindOthers}
-use Rattle.dwp_units.proofs.Readings.{Steps, by_step, Answer, Gives, then_gives, value_gives}
-use Rattle.dwp_units.proofs.Readings.{error_gives, test_gives, more_gives, was, bind_alike}
-use Rattle.dwp_units.proofs.Readings.{bind-bind, bind-cond, size, goes_none, goes_some, goes_length}
-use Rattle.dwp_units.proofs.Readings.{Reads, then_reads, value_reads, error_reads, test_reads}
-use Rattle.dwp_units.proofs.Readings.{some_reads, reads_byte, reads_uleb, reads_sleb, shorter}
-use Rattle.dwp_units.proofs.Readings.{takes_then, Takes, goes, by-result, told_there}
-use Rattle.std.proofs.Common.{slice_index}
-use Rattle.std.specs.List.{AllByRecursion}
+use Rattle.std.{proofs.Common.slice_index, specs.List.AllByRecursion}
 
 -- a byte below 128 is a number
 pub one_byte : (i new : Input) (b : ℕ) → byte_at i ≡ Ok (b, new) → slice_index i.bytes 0 < 128

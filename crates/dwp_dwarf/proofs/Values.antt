@@ -6,21 +6,20 @@ use Terms.{DebugEntry, Declaration, declaration, Encoding, entry, eqb, eqb-true,
 use Terms.{Goes, IfSome, Input, layout_of, leb_at, List, map, named_form_at, None, Ok, ok_or}
 use Terms.{Option, past_value, ReadError, refl, Result, Some, Specification, suc, sym, uleb_at}
 use Terms.{UnexpectedEof, Unit, UnknownCode, UnknownForm, value_at, zero, ℕ, ◌∙◌, ◌∷◌, ◌≡◌, ◌≢◌}
-use Rattle.dwp_bytes.specs.Input.{found_at, after}
-use Rattle.dwp_dwarf.specs.Entries.{entry_at, root_of_code, root_at}
+use Rattle.dwp_units.proofs.Readings.{error_gives, number_goes, test_gives, then_gives, value_gives}
+use Rattle.dwp_units.proofs.Readings.{goes_some, goes_then, reads_sleb, reads_uleb, size, skip_goes}
+use Rattle.dwp_units.proofs.Readings.{Answer, by_step, Gives, goes, goes_none, shorter, Steps, was}
+use Rattle.dwp_units.proofs.Readings.{bind_alike, goes_after, more_gives, reads_byte, then_split}
+use Rattle.dwp_bytes.specs.Input.{after, found_at}
+use Rattle.dwp_dwarf.specs.Entries.{entry_at, root_at, root_of_code}
 use Rattle.dwp_units.specs.AbbreviationCodes.{root_code_at}
-use Rattle.dwp_dwarf.specs.Values.{LiesFirst, ValuesLie, RootValuesLie}
-use Rattle.dwp_units.proofs.Readings.{then_gives, value_gives, error_gives, test_gives, number_goes}
-use Rattle.dwp_units.proofs.Readings.{more_gives, then_split, bind_alike, goes_after, reads_byte}
-use Rattle.dwp_units.proofs.Readings.{goes_then, size, goes_some, skip_goes, reads_uleb, reads_sleb}
-use Rattle.dwp_units.proofs.Readings.{Gives, was, Answer, shorter, goes, goes_none, Steps, by_step}
+use Rattle.dwp_dwarf.specs.Values.{LiesFirst, RootValuesLie, ValuesLie}
 use Rattle.dwp_dwarf.proofs.Tables.{code_goes}
-use Rattle.dwp_units.proofs.Units.{unit_takes, listed_ok, Onward}
-use Rattle.dwp_dwarf.specs.declared.value.Layout.{Layout}
-use Rattle.dwp_dwarf.specs.declared.value.Layout.TheVariants.{Block, Text, Unsigned, Signed}
-use Rattle.dwp_dwarf.specs.declared.value.BlockLength.{BlockLength}
-use Rattle.dwp_dwarf.specs.declared.value.BlockLength.TheVariants.{One, Two, Four, Leb}
-use Rattle.dwp_dwarf.specs.Forms.{block_length_at, text_at, named_within}
+use Rattle.dwp_units.proofs.Units.{listed_ok, Onward, unit_takes}
+use Rattle.dwp_dwarf.specs.{declared.value.BlockLength.BlockLength, declared.value.Layout.Layout}
+use Rattle.dwp_dwarf.specs.declared.value.Layout.TheVariants.{Block, Signed, Text, Unsigned}
+use Rattle.dwp_dwarf.specs.declared.value.BlockLength.TheVariants.{Four, Leb, One, Two}
+use Rattle.dwp_dwarf.specs.Forms.{block_length_at, named_within, text_at}
 
 -- ---- the names of forms
 

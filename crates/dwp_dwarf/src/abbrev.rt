@@ -1,16 +1,13 @@
 //! Abbreviations and their table (DWARF 5, 7.5.3).
 
-ghost use Rattle.std.specs.Prelude.{◌≡◌, ℕ, Ok, Some, IfOk};
+ghost use Rattle.std.specs.Prelude.{IfOk, Ok, Some, ℕ, ◌≡◌};
+ghost use Rattle.dwp_dwarf.specs.Abbreviations.{children_at, past_specifications, specification_at};
+ghost use Rattle.dwp_dwarf.specs.Abbreviations.{declaration, Declaration, declaration_at, is_last};
+ghost use Rattle.dwp_dwarf.specs.Declarations.{declaration_of, next_of, specification_of, table_of};
+ghost use Rattle.dwp_dwarf.specs.Declarations.{found_of};
 ghost use Rattle.dwp_base.specs.Reading.{Answers, Reads};
-ghost use Rattle.dwp_bytes.specs.Input.{Input};
-ghost use Rattle.dwp_bytes.specs.Leb.{uleb_at};
-ghost use Rattle.dwp_dwarf.specs.Abbreviations.{specification_at, past_specifications, tag_at};
-ghost use Rattle.dwp_dwarf.specs.Abbreviations.{children_at, declaration_at, declaration, is_last};
-ghost use Rattle.dwp_dwarf.specs.Abbreviations.{Declaration};
-ghost use Rattle.dwp_dwarf.specs.Grammar.{next_at};
-ghost use Rattle.dwp_dwarf.specs.Offsets.{from_at};
-ghost use Rattle.dwp_dwarf.specs.Declarations.{specification_of, declaration_of, table_of};
-ghost use Rattle.dwp_dwarf.specs.Declarations.{found_of, next_of};
+ghost use Rattle.dwp_bytes.specs.{Input.Input, Leb.uleb_at};
+ghost use Rattle.dwp_dwarf.specs.{Abbreviations.tag_at, Grammar.next_at, Offsets.from_at};
 
 use crate::value::IMPLICIT_CONST;
 use dwp_bytes::{ReadError, Reader};

@@ -1,16 +1,12 @@
 //! Abbreviations that are looked up by table and code, and remembered once much was read (DWARF 5,
 //! 7.5.3).
 
-ghost use Rattle.std.specs.Prelude.{◌≡◌, Ok, Err, true, option_map};
+ghost use Rattle.std.specs.Prelude.{Err, Ok, option_map, true, ◌≡◌};
 ghost use Rattle.dwp_base.specs.Reading.{Answers};
-ghost use Rattle.dwp_bytes.specs.Input.{Input, front};
-ghost use Rattle.dwp_bytes.specs.declared.error.ReadError.{ReadError};
-ghost use Rattle.dwp_dwarf.specs.Abbreviations.{declaration};
-ghost use Rattle.dwp_dwarf.specs.Chains.{IsDeclared};
-ghost use Rattle.dwp_dwarf.specs.Declarations.{found_of};
+ghost use Rattle.dwp_bytes.specs.{declared.error.ReadError.ReadError, Input.front, Input.Input};
+ghost use Rattle.dwp_dwarf.specs.{Abbreviations.declaration, Declarations.found_of, Split.split_at};
+ghost use Rattle.dwp_dwarf.specs.{Chains.IsDeclared, Offsets.from_at, Split.attributes_of};
 ghost use Rattle.dwp_dwarf.specs.Numbers.{numbered_at, numbered_of};
-ghost use Rattle.dwp_dwarf.specs.Offsets.{from_at};
-ghost use Rattle.dwp_dwarf.specs.Split.{attributes_of, split_at};
 
 use crate::abbrev::{Abbreviation, find_declaration, from_offset};
 use crate::chains::Chains;

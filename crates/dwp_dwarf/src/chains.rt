@@ -1,16 +1,12 @@
 //! Tables of abbreviations that overlap (DWARF 5, 7.5.3).
 
-ghost use Rattle.std.specs.Prelude.{◌≡◌, Ok, [], IfSome};
-ghost use Rattle.std.specs.Ordering.{nat_cmp};
-ghost use Rattle.std.specs.BTreeMap.{get};
+ghost use Rattle.std.specs.Prelude.{IfSome, Ok, [], ◌≡◌};
+ghost use Rattle.dwp_dwarf.specs.Chains.{FirstAt, RemembersChains, RemembersPlace, RemembersPlaces};
+ghost use Rattle.std.specs.{BTreeMap.get, Ordering.nat_cmp};
 ghost use Rattle.dwp_base.specs.Reading.{Answers};
 ghost use Rattle.dwp_bytes.specs.Input.{Input};
-ghost use Rattle.dwp_dwarf.specs.Abbreviations.{declaration};
-ghost use Rattle.dwp_dwarf.specs.Chains.{from_end, RemembersPlace, RemembersPlaces};
-ghost use Rattle.dwp_dwarf.specs.Chains.{RemembersChains, FirstAt, EndsBefore};
-ghost use Rattle.dwp_dwarf.specs.Declarations.{found_of};
-ghost use Rattle.dwp_dwarf.specs.Offsets.{from_at};
-ghost use Rattle.dwp_dwarf.specs.Versions.{Grows};
+ghost use Rattle.dwp_dwarf.specs.{Abbreviations.declaration, Declarations.found_of, Versions.Grows};
+ghost use Rattle.dwp_dwarf.specs.{Chains.EndsBefore, Chains.from_end, Offsets.from_at};
 
 use crate::abbrev::{
     Abbreviation, SPECIFICATION_SIZE, from_offset, known_declaration, next_declaration,

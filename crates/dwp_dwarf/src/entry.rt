@@ -1,14 +1,13 @@
 //! Root entries and their attributes (DWARF 5, 7.5.2 to 7.5.5).
 
-ghost use Rattle.std.specs.Prelude.{◌≡◌, [], ◌∷◌, MatchOption};
-ghost use Rattle.std.specs.Iterator.{YieldsFirstBy, item_count};
+ghost use Rattle.std.specs.Prelude.{MatchOption, [], ◌∷◌, ◌≡◌};
+ghost use Rattle.dwp_dwarf.specs.Attributes.{attribute_of, attribute_seen, attributes_left};
+ghost use Rattle.std.specs.Iterator.{item_count, YieldsFirstBy};
 ghost use Rattle.dwp_base.specs.Reading.{Answers, Reads};
 ghost use Rattle.dwp_units.specs.Units.{unit_of};
-ghost use Rattle.dwp_dwarf.specs.Abbreviations.{pairs_in};
-ghost use Rattle.dwp_dwarf.specs.Declarations.{specification_of, declaration_of, table_of};
-ghost use Rattle.dwp_dwarf.specs.Entries.{attribute_at, entry, root_at, number_of, place_of};
-ghost use Rattle.dwp_dwarf.specs.Attributes.{attribute_of, attribute_seen, attributes_left};
-ghost use Rattle.dwp_dwarf.specs.Attributes.{entry_of, root_of};
+ghost use Rattle.dwp_dwarf.specs.{Abbreviations.pairs_in, Attributes.entry_of, Attributes.root_of};
+ghost use Rattle.dwp_dwarf.specs.Declarations.{declaration_of, specification_of, table_of};
+ghost use Rattle.dwp_dwarf.specs.Entries.{attribute_at, entry, number_of, place_of, root_at};
 
 use crate::abbrev::{Abbreviation, Abbreviations, AttributeSpecification, read_specification};
 use crate::value::{DATA1, DATA2, DATA4, DATA8, SEC_OFFSET, UDATA, named_form, read_value};

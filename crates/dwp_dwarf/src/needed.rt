@@ -1,16 +1,14 @@
 //! The attributes of a declaration that are needed to know an entry's numbers and what names its
 //! split object (DWARF 5, 7.5.3 and 7.5.5), and lists of them.
 
-ghost use Rattle.std.specs.Prelude.{◌≡◌, ℕ, [], map, IfSome, Option, Result, Ok, Some};
+ghost use Rattle.std.specs.Prelude.{IfSome, map, Ok, Option, Result, Some, [], ℕ, ◌≡◌};
 ghost use Rattle.dwp_base.specs.Reading.{Answers};
 ghost use Rattle.dwp_bytes.specs.declared.error.ReadError.{ReadError};
-ghost use Rattle.dwp_dwarf.specs.Abbreviations.{pairs_in, Declaration};
-ghost use Rattle.dwp_dwarf.specs.Attributes.{entry_of};
-ghost use Rattle.dwp_dwarf.specs.Declarations.{specification_of, declaration_of};
-ghost use Rattle.dwp_dwarf.specs.Entries.{attributes, entry};
-ghost use Rattle.dwp_dwarf.specs.Needed.{is_unmet, met, needed, none_met, HasLists};
-ghost use Rattle.dwp_dwarf.specs.Numbers.{first_number, has_bytes};
-ghost use Rattle.dwp_dwarf.specs.Split.{attributes_of, split_in};
+ghost use Rattle.dwp_dwarf.specs.{Abbreviations.Declaration, Abbreviations.pairs_in, Entries.entry};
+ghost use Rattle.dwp_dwarf.specs.{Attributes.entry_of, Numbers.first_number, Split.attributes_of};
+ghost use Rattle.dwp_dwarf.specs.{Entries.attributes, Numbers.has_bytes, Split.split_in};
+ghost use Rattle.dwp_dwarf.specs.Declarations.{declaration_of, specification_of};
+ghost use Rattle.dwp_dwarf.specs.Needed.{HasLists, is_unmet, met, needed, none_met};
 
 use crate::abbrev::{Abbreviation, AttributeSpecification};
 use crate::entry::{RootEntry, next_specification, read_attribute};

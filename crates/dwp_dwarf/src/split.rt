@@ -1,11 +1,10 @@
 //! The attributes of an entry that name its split object (DWARF 5, 3.1.2 and 7.5.4).
 
-ghost use Rattle.std.specs.Prelude.{◌≡◌, map, option_map};
+ghost use Rattle.dwp_dwarf.specs.Split as spec;
+ghost use Rattle.std.specs.Prelude.{map, option_map, ◌≡◌};
 ghost use Rattle.dwp_base.specs.Reading.{Answers};
 ghost use Rattle.dwp_dwarf.specs.Attributes.{attribute_of, entry_of};
-ghost use Rattle.dwp_dwarf.specs.Declarations.{specification_of};
-ghost use Rattle.dwp_dwarf.specs.Entries.{attributes};
-ghost use Rattle.dwp_dwarf.specs.Split as spec;
+ghost use Rattle.dwp_dwarf.specs.{Declarations.specification_of, Entries.attributes};
 ghost use Rattle.dwp_dwarf.specs.Split.{attributes_of, none_found, split_in, with_attribute};
 
 use crate::abbrev::AttributeSpecification;

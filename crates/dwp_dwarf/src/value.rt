@@ -1,14 +1,12 @@
 //! The values of attributes, by their forms (DWARF 5, 7.5.5 and 7.5.6), and their strings (7.26).
 
-ghost use Rattle.std.specs.Prelude.{◌≡◌, ◌+◌, ◌*◌};
-ghost use Rattle.dwp_base.specs.Reading.{Reads, Answers};
+ghost use Rattle.std.specs.Prelude.{◌*◌, ◌+◌, ◌≡◌};
+ghost use Rattle.dwp_dwarf.specs.Forms.{block_length_at, layout_of, named_form_at, past_value};
+ghost use Rattle.dwp_dwarf.specs.Forms.{text_at, value_at};
+ghost use Rattle.dwp_base.specs.Reading.{Answers, Reads};
 ghost use Rattle.dwp_bytes.specs.Encoding.{offset_size};
-ghost use Rattle.dwp_dwarf.specs.Attributes.{attribute_of};
-ghost use Rattle.dwp_dwarf.specs.Forms.{layout_of, block_length_at, text_at};
-ghost use Rattle.dwp_dwarf.specs.Forms.{past_value, value_at, named_form_at};
-ghost use Rattle.dwp_dwarf.specs.Offsets.{from_at};
-ghost use Rattle.dwp_dwarf.specs.Sections.{strings_of};
-ghost use Rattle.dwp_dwarf.specs.Strings.{string_at, indexed_at, string_of};
+ghost use Rattle.dwp_dwarf.specs.{Attributes.attribute_of, Offsets.from_at, Sections.strings_of};
+ghost use Rattle.dwp_dwarf.specs.Strings.{indexed_at, string_at, string_of};
 
 use crate::abbrev::from_offset;
 use crate::entry::Attribute;

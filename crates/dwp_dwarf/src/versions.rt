@@ -1,10 +1,9 @@
 //! Maps from numbers, among them one whose versions share what they have alike.
 
-ghost use Rattle.std.specs.Prelude.{◌≡◌, ◌≢◌, ◌≤◌, ◌<◌, ℕ, length, true, false, Some, IfSome};
-ghost use Rattle.std.specs.Ordering.{nat_cmp};
-ghost use Rattle.std.specs.BTreeMap.{get};
-ghost use Rattle.dwp_dwarf.specs.Versions.{node_of, side_of, with_side, half, older, copy_of};
-ghost use Rattle.dwp_dwarf.specs.Versions.{value_below, value_in, Grows};
+ghost use Rattle.std.specs.Prelude.{false, IfSome, length, Some, true, ℕ, ◌<◌, ◌≡◌, ◌≢◌, ◌≤◌};
+ghost use Rattle.dwp_dwarf.specs.Versions.{node_of, side_of, value_below, value_in, with_side};
+ghost use Rattle.dwp_dwarf.specs.Versions.{copy_of, Grows, half, older};
+ghost use Rattle.std.specs.{BTreeMap.get, Ordering.nat_cmp};
 
 use std::alloc::Global;
 use std::collections::BTreeMap;

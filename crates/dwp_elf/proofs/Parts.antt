@@ -1,18 +1,17 @@
 -- Lemmas on the parts of a file, section by section, and one after the other.
-use Rattle.std.proofs.Common.{nat_le, subst, leb-true}
-use Rattle.std.proofs.lemmas.List.{replicate-append-replicate}
 use Rattle.dwp_elf.proofs.Terms
 use Terms.{◌*◌, ◌+◌, ◌++◌, ◌<◌, [], ◌^◌, add-one, ap, append_assoc, IsLayout, arith, at_drop_all}
 use Terms.{Class, content_bytes, contents_of, drop, drop-cons, Elf32, Elf64, Endianness, entry_size}
 use Terms.{every, get_or, header_size, headers_from, length, length-append, List, name_of}
 use Terms.{name_table, names_of, refl, replicate, SectionKind, sym, take, take-replicate, Vec}
 use Terms.{word_size, ℕ, ◌∙◌, ◌∷◌, ◌≡◌, ◌≤◌}
-use Rattle.dwp_elf.specs.declared.output.Layout.{Layout}
+use Rattle.dwp_elf.specs.FileText.{headers_place, section_count, section_header, section_headers}
+use Rattle.dwp_elf.specs.FileText.{file_header, file_text, names_end, Object, zeros_after}
+use Rattle.std.proofs.Common.{leb-true, nat_le, subst}
+use Rattle.std.proofs.lemmas.List.{replicate-append-replicate}
+use Rattle.dwp_elf.specs.{declared.output.Layout.Layout, Object.object_of}
 use Rattle.dwp_elf.specs.declared.object.WritableObject.TheInside.{Inside}
-use Rattle.dwp_elf.specs.FileText.{Object, file_header, names_end, zeros_after, headers_place}
-use Rattle.dwp_elf.specs.FileText.{section_count, section_headers, section_header, file_text}
-use Rattle.dwp_elf.specs.Object.{object_of}
-use Rattle.dwp_elf.proofs.Changes.{Sections, length-contents_of}
+use Rattle.dwp_elf.proofs.Changes.{length-contents_of, Sections}
 
 -- what stands from a section on is its part and what stands from the next on
 module _ (xs : Sections) (i : ℕ) (x : SectionKind × Vec ℕ) (h : i < length xs)

@@ -1,6 +1,4 @@
 -- A written file means the contents that it was written from.
-use Rattle.std.proofs.Common.{◌-◌, ◌==◌, nat_lt, false, not, ◌&&◌, Ok, map, lit<, slice_get, lt-ltb}
-use Rattle.std.proofs.Common.{le-leb, ne_eqb, eq-eqb, drop-drop}
 use Rattle.dwp_elf.proofs.Terms
 use Terms.{◌*◌, ◌+◌, ◌++◌, ◌<◌, [], ◌^◌, ap, append-nil, append_assoc, arith, Big, Bool, both}
 use Terms.{Class, codes, content_bytes, drop, drop-append-add, drop-append_seam, Elf32, Elf64}
@@ -9,26 +7,25 @@ use Terms.{length, length-append, length-replicate, List, list_all, Little, ltb-
 use Terms.{name_table, names_of, number, number_bytes, position_or_len, range_with_len, refl}
 use Terms.{replicate, SectionKind, Some, suc, sym, take, take-append_seam, true, word_size, zero, ℕ}
 use Terms.{common_steps, ◌∙◌, ◌∷◌, ◌≡◌, ◌≤◌}
-use Rattle.std.specs.Str.{IsAscii}
-use Rattle.std.proofs.Math.Nat.{mul_comm}
-use Rattle.std.proofs.lemmas.Str.{IsUtf8-from_ascii, is_utf8-from_IsUtf8}
-use Rattle.std.proofs.lemmas.Str.Ascii.{IsAscii-nil, IsAscii-cons}
-use Rattle.byteorder.specs.Numbers.{little_number-reads_back, big_number-reads_back}
-use Rattle.dwp_elf_read.specs.Layout.{file_header_of, section_header_of}
-use Rattle.dwp_elf_read.specs.Identification.{kind_of, identity_of}
-use Rattle.dwp_elf_read.specs.Elf.{section_header_at, section_content, section_of, text_of, text_at}
-use Rattle.dwp_elf_read.specs.Elf.{named_count, name_table_number, elf_of, name_table_numbered}
-use Rattle.dwp_elf_read.specs.Elf.{sections_from, section_count as read_count}
-use Rattle.dwp_elf_read.specs.Elf.{name_table as read_table}
-use Rattle.dwp_elf.specs.FileText.{identification, Object, file_header, section_count, names_place}
-use Rattle.dwp_elf.specs.FileText.{names_end, headers_place, zeros_after, null_header}
-use Rattle.dwp_elf.specs.FileText.{section_header, section_headers, file_text}
-use Rattle.dwp_elf.specs.Written.{plain_section, written_sections, written_elf}
-use Rattle.dwp_elf.proofs.KindCounts.{few_sections, length-KindsDiffer}
-use Rattle.dwp_elf.proofs.Limits.{length-number_bytes, length-section_header, length-file_header}
-use Rattle.dwp_elf.proofs.Limits.{Fits-from, length-null_header, length-file_text, refused_of}
-use Rattle.dwp_elf.proofs.Parts.{length-name_of, from_contents, from_names, from_zeros}
-use Rattle.dwp_elf.proofs.Parts.{file_text-split}
+use Rattle.std.proofs.Common.{false, lt-ltb, map, nat_lt, not, Ok, slice_get, lit<, ◌&&◌, ◌-◌, ◌==◌}
+use Rattle.std.proofs.Common.{drop-drop, eq-eqb, le-leb, ne_eqb}
+use Rattle.dwp_elf_read.specs.Elf.{named_count, section_content, section_of, sections_from, text_of}
+use Rattle.dwp_elf_read.specs.Elf.{name_table as read_table, section_count as read_count, text_at}
+use Rattle.dwp_elf_read.specs.Elf.{name_table_number, name_table_numbered, section_header_at}
+use Rattle.dwp_elf.specs.FileText.{file_header, headers_place, names_end, names_place, zeros_after}
+use Rattle.dwp_elf.specs.FileText.{identification, section_count, section_header, section_headers}
+use Rattle.dwp_elf.specs.FileText.{file_text, null_header, Object}
+use Rattle.dwp_elf.proofs.Limits.{length-file_header, length-number_bytes, length-section_header}
+use Rattle.dwp_elf.proofs.Limits.{Fits-from, length-file_text, length-null_header, refused_of}
+use Rattle.dwp_elf.proofs.Parts.{file_text-split, from_contents, from_names, length-name_of}
+use Rattle.std.{proofs.Math.Nat.mul_comm, specs.Str.IsAscii}
+use Rattle.std.proofs.lemmas.Str.{is_utf8-from_IsUtf8, IsUtf8-from_ascii}
+use Rattle.std.proofs.lemmas.Str.Ascii.{IsAscii-cons, IsAscii-nil}
+use Rattle.byteorder.specs.Numbers.{big_number-reads_back, little_number-reads_back}
+use Rattle.dwp_elf_read.specs.{Elf.elf_of, Layout.file_header_of, Layout.section_header_of}
+use Rattle.dwp_elf_read.specs.Identification.{identity_of, kind_of}
+use Rattle.dwp_elf.specs.Written.{plain_section, written_elf, written_sections}
+use Rattle.dwp_elf.proofs.{KindCounts.few_sections, KindCounts.length-KindsDiffer, Parts.from_zeros}
 
 -- ---- the numbers of a header
 

@@ -1,14 +1,10 @@
 //! What a written file means and how long it is, as laws.
 
-ghost use Rattle.std.specs.Prelude.{◌≡◌, ◌^◌, ◌<◌, ◌≤◌, ℕ, List, length};
-ghost use Rattle.dwp_base.specs.Sections.{kind_count};
-ghost use Rattle.dwp_base.specs.declared.section.SectionKind.{SectionKind};
-ghost use Rattle.dwp_elf_read.specs.Layout.{word_size};
-ghost use Rattle.dwp_elf_read.specs.Elf.{elf_of};
-ghost use Rattle.dwp_elf.specs.Contents.{KindsDiffer};
-ghost use Rattle.dwp_elf.specs.FileText.{Object, headers_place, file_text};
-ghost use Rattle.dwp_elf.specs.Numbers.{file_length};
-ghost use Rattle.dwp_elf.specs.Written.{written_elf};
+ghost use Rattle.std.specs.Prelude.{length, List, ℕ, ◌<◌, ◌^◌, ◌≡◌, ◌≤◌};
+ghost use Rattle.dwp_base.specs.{declared.section.SectionKind.SectionKind, Sections.kind_count};
+ghost use Rattle.dwp_elf_read.specs.{Elf.elf_of, Layout.word_size};
+ghost use Rattle.dwp_elf.specs.{Contents.KindsDiffer, Numbers.file_length, Written.written_elf};
+ghost use Rattle.dwp_elf.specs.FileText.{file_text, headers_place, Object};
 
 /// The law that a written file is read back: it means the contents that it was written from, in
 /// order and under their names, between the null section and `.shstrtab`, with the class, machine

@@ -1,18 +1,16 @@
 //! Objects that are made section by section, and written as ELF files.
 
-ghost use Rattle.std.specs.Prelude.{[], Err, IfErr, IfOk, length, None, Ok, OkIff, OnErr, OnOk};
-ghost use Rattle.std.specs.Prelude.{position, Some, ◌+◌, ◌++◌, ◌<◌, ◌≡◌};
-ghost use Rattle.std.specs.Io.KnownBytes.{Appends};
-ghost use Rattle.std.specs.declared.io.ErrorKind.{ErrorKind};
+ghost use Rattle.std.specs.Prelude.{Err, IfErr, IfOk, length, None, Ok, [], ◌++◌, ◌+◌, ◌<◌, ◌≡◌};
+ghost use Rattle.std.specs.Prelude.{OkIff, OnErr, OnOk, position, Some};
+ghost use Rattle.std.specs.{declared.io.ErrorKind.ErrorKind, Io.KnownBytes.Appends};
 ghost use Rattle.dwp_base.specs.Sections.{same_kind};
 ghost use Rattle.dwp_elf_read.specs.Elf.{elf_of};
 ghost use Rattle.dwp_elf_read.specs.declared.error.WriteError.TheVariants.{Memory, NumberTooLarge};
 ghost use Rattle.dwp_elf.specs.Contents.{appended, content_of, contents_of, KindsDiffer, truncated};
-ghost use Rattle.dwp_elf.specs.FileText.{file_text, Object};
+ghost use Rattle.dwp_elf.specs.{FileText.file_text, FileText.Object, Written.written_elf};
 ghost use Rattle.dwp_elf.specs.Growing.{contribution_put, IsGrown, lengths, with_bytes};
 ghost use Rattle.dwp_elf.specs.Numbers.{Fits, IsLayout};
 ghost use Rattle.dwp_elf.specs.Refusals.{Blames, Errors, RefusesFile, RefusesWriter, Writes};
-ghost use Rattle.dwp_elf.specs.Written.{written_elf};
 
 use crate::headers::{entry_size, file_header};
 use crate::output::{

@@ -1,12 +1,11 @@
 //! The layout of a file, and how its parts are written to a writer.
 
-ghost use Rattle.std.specs.Prelude.{◌≡◌, ◌+◌, ◌*◌, ◌^◌, ◌<◌, ◌≤◌, length, IfSome, MatchOption};
+ghost use Rattle.std.specs.Prelude.{IfSome, length, MatchOption, ◌*◌, ◌+◌, ◌<◌, ◌^◌, ◌≡◌, ◌≤◌};
 ghost use Rattle.dwp_base.specs.Sections.{kind_count};
-ghost use Rattle.dwp_elf.specs.Contents.{contents_of};
+ghost use Rattle.dwp_elf.specs.{Contents.contents_of, Numbers.IsLayout, Numbers.PassesLimit};
 ghost use Rattle.dwp_elf_read.specs.Layout.{header_size, word_size};
-ghost use Rattle.dwp_elf.specs.FileText.{content_bytes, name_table, headers_from};
-ghost use Rattle.dwp_elf.specs.Numbers.{PassesLimit, IsLayout};
-ghost use Rattle.dwp_elf.specs.Refusals.{Writes, Errors};
+ghost use Rattle.dwp_elf.specs.FileText.{content_bytes, headers_from, name_table};
+ghost use Rattle.dwp_elf.specs.Refusals.{Errors, Writes};
 
 use crate::headers::{entry_size, header_size, section_header};
 use crate::writer::Output;

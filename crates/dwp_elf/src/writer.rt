@@ -1,9 +1,7 @@
 //! What a file is handed to, and whether a write of it failed.
 
-ghost use Rattle.std.specs.Prelude.{◌≡◌, ℕ, ◌<◌, List, length, Option, Some, IfOk, IfErr, ⊤};
-ghost use Rattle.std.specs.Io.{WritesAtMost};
-ghost use Rattle.std.specs.Io.KnownBytes.{WriteAppends};
-ghost use Rattle.std.specs.IoError.{error_kind};
+ghost use Rattle.std.specs.Prelude.{IfErr, IfOk, length, List, Option, Some, ℕ, ⊤, ◌<◌, ◌≡◌};
+ghost use Rattle.std.specs.{Io.KnownBytes.WriteAppends, Io.WritesAtMost, IoError.error_kind};
 ghost use Rattle.std.specs.declared.io.ErrorKind.{ErrorKind};
 
 use std::io;

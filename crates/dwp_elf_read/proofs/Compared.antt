@@ -1,7 +1,6 @@
 -- Sections and files that are compared.
-use Rattle.std.proofs.Common.{◌≡◌, ℕ, List, Option, refl, ◌∙◌}
-use Rattle.dwp_elf_read.specs.Compared.{with_own}
-use Rattle.dwp_elf_read.specs.Elf.{Elf, SectionMeaning}
+use Rattle.std.proofs.Common.{List, Option, refl, ℕ, ◌∙◌, ◌≡◌}
+use Rattle.dwp_elf_read.specs.{Compared.with_own, Elf.Elf, Elf.SectionMeaning}
 
 -- a section whose other numbers are those of another
 pub is_own : (new old : SectionMeaning) (name : Option (List ℕ)) (flags size : ℕ)

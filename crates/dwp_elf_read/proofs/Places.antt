@@ -1,22 +1,19 @@
 -- The sections of a file by number, and the entries of a table.
-use Rattle.std.proofs.Common.{◌≡◌, ℕ, suc, ◌+◌, ◌-◌, ◌*◌, ◌<◌, ◌≤◌, Bool, true, false, List}
-use Rattle.std.proofs.Common.{[], ◌∷◌, Some, None, Result, Ok, length, map, slice_get, find, ap}
-use Rattle.std.proofs.Common.{refl, sym, ◌∙◌, arith}
-use Rattle.std.specs.List.{range_with_len}
-use Rattle.std.proofs.lemmas.List.{length-map}
-use Rattle.std.proofs.lemmas.List.FromFn.{length-map-range_with_len, get_or-map-range_with_len}
+use Rattle.std.proofs.Common.{Bool, false, suc, true, [], ℕ, ◌*◌, ◌+◌, ◌-◌, ◌<◌, ◌∙◌, ◌∷◌, ◌≡◌, ◌≤◌}
+use Rattle.std.proofs.Common.{arith, find, length, List, map, None, refl, Result, slice_get, Some}
+use Rattle.std.proofs.Common.{ap, Ok, sym}
+use Rattle.dwp_elf_read.specs.Relocation.{relocates, relocation_at, relocation_size, relocations_in}
+use Rattle.dwp_elf_read.specs.Relocation.{entries_from, entries_then, table_of}
+use Rattle.dwp_elf_read.specs.View.{entries_left, placed_sections, relocations_left, sections_after}
+use Rattle.dwp_elf_read.specs.View.{elf, file, nth, placed, section, sections_left}
+use Rattle.std.{proofs.lemmas.List.length-map, specs.List.range_with_len}
+use Rattle.std.proofs.lemmas.List.FromFn.{get_or-map-range_with_len, length-map-range_with_len}
 use Rattle.std.proofs.lemmas.Option.{slice_get_past, slice_get_read}
-use Rattle.dwp_elf_read.specs.declared.error.ReadError.{ReadError}
-use Rattle.dwp_elf_read.specs.declared.file.ElfFile.{ElfFile}
+use Rattle.dwp_elf_read.specs.{declared.error.ReadError.ReadError, declared.section.Section.Section}
+use Rattle.dwp_elf_read.specs.{declared.file.ElfFile.ElfFile, declared.relocation.Table.Table}
 use Rattle.dwp_elf_read.specs.declared.relocation.RawRelocation.{RawRelocation}
 use Rattle.dwp_elf_read.specs.declared.relocation.Relocations.{Relocations}
-use Rattle.dwp_elf_read.specs.declared.section.Section.{Section}
-use Rattle.dwp_elf_read.specs.declared.relocation.Table.{Table}
 use Rattle.dwp_elf_read.specs.Elf.{SectionMeaning, sections_from}
-use Rattle.dwp_elf_read.specs.Relocation.{relocation_at, relocation_size, entries_from}
-use Rattle.dwp_elf_read.specs.Relocation.{entries_then, relocates, table_of, relocations_in}
-use Rattle.dwp_elf_read.specs.View.{elf, file, section, placed, placed_sections, sections_after}
-use Rattle.dwp_elf_read.specs.View.{sections_left, nth, entries_left, relocations_left}
 
 -- ---- a list made from the numbers of a range: its first item, its end, an item by its number
 

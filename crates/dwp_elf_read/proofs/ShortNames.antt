@@ -1,24 +1,20 @@
 -- Texts in a string table: what `memchr` and `from_utf8` say of them, and whether one is a text
 -- that is given, by as much of it as that is long.
-use Rattle.std.proofs.Common.{◌≡◌, ◌==◌, Bool, false, List, true, None, Some, get_or, arith, Result}
-use Rattle.std.proofs.Common.{ℕ, nat_lt, is_some, Option, length, position, MatchResult, option_map}
-use Rattle.std.proofs.Common.{◌<◌, ◌∙◌, not, take, drop, refl, ap, sym, find, Ok, Err}
-use Rattle.std.proofs.lemmas.Bool.{eqb-true, lt-ltb, ltb-false, false_from_ne_true, le-ltb}
-use Rattle.std.proofs.lemmas.List.Quantifiers.{position-Some}
-use Rattle.std.specs.List.{position_or_len}
-use Rattle.std.specs.Option.{option_and_then}
-use Rattle.std.specs.Str.{is_utf8, bytes_eq, IsUtf8}
+use Rattle.std.proofs.Common.{Bool, false, get_or, List, None, Some, true, ℕ, ◌<◌, ◌==◌, ◌∙◌, ◌≡◌}
+use Rattle.std.proofs.Common.{is_some, MatchResult, nat_lt, Option, option_map, position, Result}
+use Rattle.std.proofs.Common.{ap, arith, drop, Err, find, length, not, Ok, refl, sym, take}
+use Rattle.std.proofs.lemmas.Bool.{eqb-true, false_from_ne_true, le-ltb, lt-ltb, ltb-false}
+use Rattle.std.proofs.{lemmas.List.Quantifiers.position-Some, lemmas.Slice.Eq.bytes_eq-Decides}
+use Rattle.std.specs.{List.position_or_len, Option.option_and_then, Result.result_ok}
+use Rattle.std.specs.Str.{bytes_eq, is_utf8, IsUtf8}
 use Rattle.std.proofs.lemmas.List.{drop_all, get_or-take, length-take-le}
 use Rattle.std.proofs.lemmas.List.Sums.{fails_before_first, position_or_len_is}
-use Rattle.std.proofs.lemmas.Slice.Eq.{bytes_eq-Decides}
 use Rattle.dwp_base.specs.Sections.{all_kinds, compressed_name_of, kind_named, name_of}
 use Rattle.dwp_base.specs.declared.section.SectionKind.{SectionKind}
-use Rattle.memchr.specs.Find.{IsFirstByte, is_byte}
-use Rattle.dwp_elf_read.specs.Elf.{text_of, text_at, name_is, has_name}
-use Rattle.dwp_base.proofs.Bools.{by-bool}
-use Rattle.dwp_base.proofs.EveryKind.{every}
-use Rattle.std.specs.Result.{result_ok}
-use Rattle.std.proofs.lemmas.Str.{IsUtf8-from_is_utf8, is_utf8-from_IsUtf8}
+use Rattle.memchr.specs.Find.{is_byte, IsFirstByte}
+use Rattle.dwp_elf_read.specs.Elf.{has_name, name_is, text_at, text_of}
+use Rattle.dwp_base.proofs.{Bools.by-bool, EveryKind.every}
+use Rattle.std.proofs.lemmas.Str.{is_utf8-from_IsUtf8, IsUtf8-from_is_utf8}
 
 -- what `from_utf8` answers, its error left out
 pub text_of_result : {T E : Type 0} (view : T → List ℕ) (F : E → Type 0) (bytes : List ℕ)

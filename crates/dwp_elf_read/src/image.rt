@@ -1,14 +1,12 @@
 //! The numbers in the bytes of a file, its headers and those of its sections (ELF gABI, "Data
 //! Representation", "ELF Header" and "Section Header").
 
-ghost use Rattle.std.specs.Prelude.{◌≡◌, ◌+◌, ◌*◌, ◌^◌, ◌<◌, ◌≤◌, length, slice_range, option_map};
-ghost use Rattle.std.specs.Prelude.{IfOk, IfSome, OnOk};
-ghost use Rattle.std.specs.Option.{option_copied};
+ghost use Rattle.std.specs.Prelude.{length, option_map, slice_range, ◌*◌, ◌+◌, ◌<◌, ◌^◌, ◌≡◌, ◌≤◌};
+ghost use Rattle.dwp_elf_read.specs.Layout.{entry_size, number_at, section_header_of, word_size};
+ghost use Rattle.dwp_elf_read.specs.Elf.{section_content, section_count, section_header_at};
+ghost use Rattle.std.specs.{Option.option_copied, Prelude.IfOk, Prelude.IfSome, Prelude.OnOk};
 ghost use Rattle.dwp_base.specs.Reading.{Answers};
-ghost use Rattle.dwp_elf_read.specs.Layout.{word_size, entry_size, number_at};
-ghost use Rattle.dwp_elf_read.specs.Layout.{is_inside, section_header_of};
-ghost use Rattle.dwp_elf_read.specs.Elf.{section_header_at, section_content};
-ghost use Rattle.dwp_elf_read.specs.Elf.{section_count, name_table};
+ghost use Rattle.dwp_elf_read.specs.{Elf.name_table, Layout.is_inside};
 
 use crate::error::ReadError;
 use dwp_base::{Class, Endianness};

@@ -1,17 +1,16 @@
 -- Reading one column after the other, and where columns stand, by the numbers that say it.
-use Rattle.std.proofs.Common.{Bool, List, [], add-zero, ap, arith, cond, drop, eq-eqb, eqb, false}
-use Rattle.std.proofs.Common.{length, ltb, map, refl, suc, sym, true, zero-add, ℕ, ◌*◌, ◌++◌, ◌+◌}
-use Rattle.std.proofs.Common.{◌-◌, ◌<◌, ◌∙◌, ◌∷◌, ◌≡◌, ◌≤◌}
-use Rattle.std.proofs.lemmas.Bool.{false≢true, le-ltb, lt-ltb, ne_eqb}
-use Rattle.std.proofs.lemmas.Bool.Decides.{nat_tests}
-use Rattle.std.proofs.lemmas.List.{drop-drop, length-drop}
-use Rattle.std.specs.List.{find}
-use Rattle.std.specs.Option.{option_and_then, option_or}
-use Rattle.std.specs.Prelude.{Err, None, Ok, Option, Result, Some, is_none, is_some, not, unwrap_or}
 use Rattle.dwp_index.proofs.Terms
 use Terms.{ArePlaces, Endianness, NO_COLUMN, ReadError, SectionKind, UnexpectedEof, all_kinds}
 use Terms.{by-bool, column_place, columns_at, contribution_kinds, is-same, kind_of_column, list_any}
 use Terms.{new_column, number, numbers, position_from, same-each, same-self, same_Some, same_kind}
+use Rattle.std.proofs.Common.{ap, Bool, List, [], ℕ, ◌*◌, ◌++◌, ◌+◌, ◌-◌, ◌<◌, ◌∙◌, ◌∷◌, ◌≡◌, ◌≤◌}
+use Rattle.std.proofs.Common.{add-zero, arith, cond, drop, eq-eqb, false, length, refl, zero-add}
+use Rattle.std.proofs.Common.{eqb, ltb, map, suc, sym, true}
+use Rattle.std.proofs.lemmas.Bool.{le-ltb, lt-ltb, ne_eqb, false≢true}
+use Rattle.std.proofs.lemmas.Bool.Decides.{nat_tests}
+use Rattle.std.proofs.lemmas.List.{drop-drop, length-drop}
+use Rattle.std.specs.{List.find, Option.option_and_then, Option.option_or}
+use Rattle.std.specs.Prelude.{Err, is_none, is_some, None, not, Ok, Option, Result, Some, unwrap_or}
 use Rattle.dwp_base.specs.declared.by_kind.ByKind.{ByKind}
 use Rattle.dwp_bytes.specs.declared.error.ReadError.TheVariants.{RepeatedColumn, UnknownColumn}
 use Rattle.dwp_index.specs.Places.{IsPlace, place_held}

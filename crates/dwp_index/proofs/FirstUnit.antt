@@ -1,18 +1,17 @@
 -- The first unit of a section, and the header of a split compilation unit of DWARF 5, in the 32-bit
 -- format.
-use Rattle.std.proofs.Common.{Err, List, Ok, Result, [], ap, arith, drop, get_or, length, refl}
-use Rattle.std.proofs.Common.{take, ℕ, ◌+◌, ◌-◌, ◌<◌, ◌∙◌, ◌∷◌, ◌≡◌, ◌≤◌}
+use Rattle.std.proofs.Common.{ap, Err, List, Ok, Result, [], ℕ, ◌+◌, ◌-◌, ◌<◌, ◌∙◌, ◌∷◌, ◌≡◌, ◌≤◌}
+use Rattle.std.proofs.Common.{arith, drop, get_or, length, refl, take}
+use Rattle.dwp_index.proofs.Terms.{Dwarf32, Encoding, Endianness, ReadError, UnexpectedEof, ◌>>=◌}
+use Rattle.dwp_index.proofs.Terms.{encoding_in, number, UnitSection}
+use Rattle.dwp_bytes.specs.Input.{byte_at, number_at, offset_at, relocated_at, section, split_at}
+use Rattle.dwp_bytes.specs.Input.{Input}
+use Rattle.dwp_units.specs.Units.{address_size_at, initial_length_at, unit_code_at, unit_type_at}
+use Rattle.dwp_units.specs.Units.{header_at, newer_at, Unit, unit_at, units}
 use Rattle.std.proofs.lemmas.Bool.{le-ltb, lt-ltb}
-use Rattle.std.proofs.lemmas.Bool.Decides.{nat_tests}
-use Rattle.std.proofs.lemmas.Grind.{get_or_after_one}
+use Rattle.std.proofs.{lemmas.Bool.Decides.nat_tests, lemmas.Grind.get_or_after_one}
 use Rattle.std.proofs.lemmas.List.{get_or-drop, length-drop, length-take-le}
-use Rattle.dwp_index.proofs.Terms.{Dwarf32, Encoding, Endianness, ReadError, UnexpectedEof}
-use Rattle.dwp_index.proofs.Terms.{UnitSection, encoding_in, number, ◌>>=◌}
-use Rattle.dwp_bytes.specs.Input.{Input, byte_at, number_at, offset_at, relocated_at, section}
-use Rattle.dwp_bytes.specs.Input.{split_at}
 use Rattle.dwp_units.proofs.Units.{units-cases}
-use Rattle.dwp_units.specs.Units.{Unit, address_size_at, header_at, initial_length_at, newer_at}
-use Rattle.dwp_units.specs.Units.{unit_at, unit_code_at, unit_type_at, units}
 
 -- the encoding of the first of these units
 abbrev first_encoding : List (Result Unit ReadError) → Result Encoding ReadError

@@ -1,25 +1,21 @@
 -- The first section of a kind, met in file order, and the contents of a file whose sections hold
 -- them as they stand.
-use Rattle.std.proofs.Common.{Bool, List, None, Ok, Option, Some, [], ap, arith, cond, drop, eqb}
-use Rattle.std.proofs.Common.{false, find, inl, inr, is_some, length, ne_eqb, option_and_then}
-use Rattle.std.proofs.Common.{option_map, refl, rules, slice_get, subst, sym, true, ℕ, ◌+◌, ◌<◌}
-use Rattle.std.proofs.Common.{◌||◌, ◌∙◌, ◌∷◌, ◌≡◌}
+use Rattle.std.proofs.Common.{Bool, List, None, Ok, Option, [], ℕ, ◌+◌, ◌<◌, ◌||◌, ◌∙◌, ◌∷◌, ◌≡◌}
+use Rattle.std.proofs.Common.{is_some, length, ne_eqb, option_and_then, option_map, slice_get, Some}
+use Rattle.std.proofs.Common.{arith, cond, drop, eqb, false, find, inl, refl, rules, subst, true}
 use Rattle.std.proofs.lemmas.Bool.{false≢true}
-use Rattle.std.proofs.lemmas.Slice.Eq.{bytes_eq-Decides}
-use Rattle.std.specs.Option.{option_or}
-use Rattle.std.specs.Prelude.{IfSome, IsTrue}
-use Rattle.dwp_index.proofs.Terms.{Endianness, Index, SectionKind, all_kinds, by-bool, each-read}
-use Rattle.dwp_index.proofs.Terms.{found_with, index_of, is-same, kind-named, name_of, named-itself}
-use Rattle.dwp_index.proofs.Terms.{not-older, same-each, same-self, same_Some, same_kind, value-of}
-use Rattle.dwp_base.proofs.Bools.{both}
-use Rattle.dwp_base.proofs.Finds.{find_hit, find_miss}
+use Rattle.dwp_index.proofs.Terms.{all_kinds, each-read, not-older, same-each, same-self, same_Some}
+use Rattle.dwp_index.proofs.Terms.{by-bool, Index, index_of, is-same, name_of, same_kind, value-of}
+use Rattle.dwp_index.proofs.Terms.{Endianness, found_with, kind-named, named-itself, SectionKind}
+use Rattle.std.proofs.{Common.ap, Common.inr, Common.sym, lemmas.Slice.Eq.bytes_eq-Decides}
+use Rattle.std.specs.{Option.option_or, Prelude.IfSome, Prelude.IsTrue}
+use Rattle.dwp_base.proofs.{Bools.both, Finds.find_hit, Finds.find_miss}
 use Rattle.dwp_base.specs.Sections.{compressed_name_of, is_named, kind_named}
 use Rattle.dwp_base.specs.declared.section.SectionKind.TheVariants.{CuIndex, TuIndex}
-use Rattle.dwp_elf_read.specs.Elf.{Elf, SHT_NOBITS, SectionMeaning, elf_of, has_name}
-use Rattle.dwp_elf_read.specs.View.{section}
-use Rattle.dwp_elf_read.specs.declared.section.Section.{Section}
+use Rattle.dwp_elf_read.specs.Elf.{Elf, elf_of, has_name, SectionMeaning, SHT_NOBITS}
+use Rattle.dwp_elf_read.specs.{declared.section.Section.Section, View.section}
 use Rattle.dwp_index.specs.Contents.{content, content_among, contents_of, is_of_kind, used_bytes}
-use Rattle.dwp_index.specs.Holding.{HasContent, Holds, HoldsInOrder, held_of, sections_of}
+use Rattle.dwp_index.specs.Holding.{HasContent, held_of, Holds, HoldsInOrder, sections_of}
 use Rattle.dwp_index.specs.Package.{index_in_section, package_of}
 
 -- ---- the kind that a section's name belongs to

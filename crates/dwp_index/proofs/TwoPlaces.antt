@@ -1,23 +1,22 @@
 -- What a reading gave of a section it gives again elsewhere, of the bytes alone that it took; so a
 -- unit is read again from its own bytes.
-use Rattle.std.proofs.Common.{Bool, Err, List, Ok, Result, add-zero, add_assoc, ap, arith, cond}
-use Rattle.std.proofs.Common.{drop, eqb, false, leb, length, ltb, refl, subst, suc, sym, take, true}
-use Rattle.std.proofs.Common.{zero, inl, inr, ℕ, ◌&&◌, ◌+◌, ◌-◌, ◌∙◌, ◌≡◌, ◌≤◌, ◌⊎◌}
+use Rattle.std.proofs.Common.{Bool, Err, List, Ok, Result, ℕ, ◌&&◌, ◌+◌, ◌-◌, ◌∙◌, ◌≡◌, ◌≤◌, ◌⊎◌}
+use Rattle.std.proofs.Common.{add-zero, add_assoc, arith, cond, drop, false, length, refl, subst}
+use Rattle.std.proofs.Common.{ap, eqb, inl, inr, leb, ltb, suc, sym, take, true, zero}
+use Rattle.std.proofs.lemmas.List.{drop-drop, get_or-take, length-drop, length-take, length-take-le}
+use Rattle.std.proofs.lemmas.List.{drop-take, take-take}
+use Rattle.std.specs.Prelude.{slice_get, Some, []}
+use Rattle.dwp_index.proofs.Terms.{Dwarf32, Dwarf64, Encoding, Endianness, number, ReadError, ◌>>=◌}
+use Rattle.dwp_index.proofs.Terms.{bind-was, encoding_in, UnexpectedEof, UnitSection}
+use Rattle.dwp_bytes.specs.Input.{is_address_size, number_at, offset_at, relocated_at, split_at}
+use Rattle.dwp_bytes.specs.Input.{after, byte_at, Input, section}
+use Rattle.dwp_units.proofs.Readings.{error_gives, more_gives, test_gives, then_gives, value_gives}
+use Rattle.dwp_units.proofs.Readings.{Gives, then_split}
+use Rattle.dwp_units.specs.Units.{address_size_at, initial_length_at, older_type_at, UnitsAreTaken}
+use Rattle.dwp_units.specs.Units.{header_at, newer_at, unit_code_at, unit_type_at, units_within}
+use Rattle.dwp_units.specs.Units.{listed, older_at, type_at, Unit, unit_at, units}
 use Rattle.std.proofs.lemmas.Bool.{le-ltb, ltb-false}
-use Rattle.std.proofs.lemmas.List.{drop-drop, drop-take, get_or-take, length-drop, length-take}
-use Rattle.std.proofs.lemmas.List.{length-take-le, take-take}
-use Rattle.std.specs.Prelude.{Some, [], slice_get}
-use Rattle.dwp_index.proofs.Terms.{Dwarf32, Dwarf64, Encoding, Endianness, ReadError, UnexpectedEof}
-use Rattle.dwp_index.proofs.Terms.{UnitSection, bind-was, encoding_in, number, ◌>>=◌}
-use Rattle.dwp_bytes.specs.Encoding.{offset_size}
-use Rattle.dwp_bytes.specs.Input.{Input, after, byte_at, is_address_size, number_at, offset_at}
-use Rattle.dwp_bytes.specs.Input.{relocated_at, section, split_at}
-use Rattle.dwp_bytes.specs.declared.encoding.Format.{Format}
-use Rattle.dwp_units.proofs.Readings.{Gives, error_gives, more_gives, test_gives, then_gives}
-use Rattle.dwp_units.proofs.Readings.{then_split, value_gives}
-use Rattle.dwp_units.specs.Units.{Unit, UnitsAreTaken, address_size_at, header_at}
-use Rattle.dwp_units.specs.Units.{initial_length_at, listed, newer_at, older_at, older_type_at}
-use Rattle.dwp_units.specs.Units.{type_at, unit_at, unit_code_at, unit_type_at, units, units_within}
+use Rattle.dwp_bytes.specs.{declared.encoding.Format.Format, Encoding.offset_size}
 use Rattle.dwp_units.specs.declared.unit.UnitSection.TheVariants.{Info, Types}
 
 -- bytes that nothing relocates, from a place on

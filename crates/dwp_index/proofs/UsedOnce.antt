@@ -1,21 +1,19 @@
 -- The used slots of an index of distinct identifiers.
-use Rattle.std.proofs.Common.{Bool, List, None, Option, Some, [], add-one, ap, append_assoc, arith}
-use Rattle.std.proofs.Common.{drop, eqb, filter, get_or, get_or-set_other, length, length-append}
-use Rattle.std.proofs.Common.{length-set, map, map-id, ne_eqb, not, refl, set, subst, suc, sym}
-use Rattle.std.proofs.Common.{take, zero, ℕ, ◌++◌, ◌+◌, ◌-◌, ◌<◌, ◌∙◌, ◌∷◌, ◌≡◌, ◌≤◌, ◌⊎◌}
-use Rattle.std.proofs.Math.Seq.{get_or-append_seam}
-use Rattle.std.proofs.lemmas.Bool.{cases_eq}
-use Rattle.std.proofs.lemmas.Grind.{get_or-set_at}
+use Rattle.std.proofs.Common.{Bool, List, None, [], ℕ, ◌++◌, ◌+◌, ◌-◌, ◌<◌, ◌∙◌, ◌∷◌, ◌≡◌, ◌≤◌, ◌⊎◌}
+use Rattle.std.proofs.Common.{add-one, append_assoc, get_or-set_other, length-append, length-set}
+use Rattle.std.proofs.Common.{arith, filter, get_or, length, map-id, ne_eqb, Option, Some, subst}
+use Rattle.std.proofs.Common.{ap, drop, eqb, map, not, refl, set, suc, sym, take, zero}
+use Rattle.std.proofs.lemmas.List.Sorted.{IsPermutation-append, IsPermutation-push_more}
+use Rattle.std.proofs.lemmas.List.Sorted.{IsPermutation-middle, IsPermutation-refl}
+use Rattle.std.proofs.lemmas.List.Sorted.{IsPermutation-map, IsPermutation-sym}
+use Rattle.std.proofs.{lemmas.List.Elements.filter-append, Math.Seq.get_or-append_seam}
+use Rattle.std.proofs.{lemmas.Bool.cases_eq, lemmas.Grind.get_or-set_at}
 use Rattle.std.proofs.lemmas.List.{get_or-map, get_or_past, length-map, set-get_or, set_split}
-use Rattle.std.proofs.lemmas.List.Elements.{filter-append}
 use Rattle.std.proofs.lemmas.List.FromFn.{fill_by_all, map-range_with_len_more}
-use Rattle.std.proofs.lemmas.List.Sorted.{IsPermutation-append, IsPermutation-map}
-use Rattle.std.proofs.lemmas.List.Sorted.{IsPermutation-middle, IsPermutation-push_more}
-use Rattle.std.proofs.lemmas.List.Sorted.{IsPermutation-refl, IsPermutation-sym}
 use Rattle.std.specs.List.Sorted.{IsPermutation}
 use Rattle.dwp_index.proofs.Terms.{Index, IsIndex, place, range_with_len}
 use Rattle.dwp_index.specs.Entries.{compilation_entry, entries_from, type_entry}
-use Rattle.dwp_index.specs.Naming.{IsIndexOfIds, entries_of, numbered}
+use Rattle.dwp_index.specs.Naming.{entries_of, IsIndexOfIds, numbered}
 use Rattle.dwp_index.specs.Used.{slot_at, used_from, used_in}
 use Rattle.dwp_table.specs.Table.{IsHashTable, signature_of}
 

@@ -1,12 +1,11 @@
 //! The contents of a package's sections (DWARF 5, 7.3.5).
 
-ghost use Rattle.std.specs.Prelude.{◌≡◌, Some, IsTrue, IfSome, slice_get};
+ghost use Rattle.std.specs.Prelude.{IfSome, IsTrue, slice_get, Some, ◌≡◌};
 ghost use Rattle.std.specs.List.{find};
-ghost use Rattle.dwp_base.specs.Reading.{Answers};
+ghost use Rattle.dwp_base.specs.{declared.section.SectionKind.SectionKind, Reading.Answers};
 ghost use Rattle.dwp_elf_read.specs.View.{elf, section};
-ghost use Rattle.dwp_index.specs.Contents.{content, is_of_kind, bytes_of, contents_of};
+ghost use Rattle.dwp_index.specs.Contents.{bytes_of, content, contents_of, is_of_kind};
 ghost use Rattle.dwp_index.specs.Firsts.{first_in, found_in, found_with};
-ghost use Rattle.dwp_base.specs.declared.section.SectionKind.{SectionKind};
 ghost use Rattle.dwp_index.specs.ContentFields.{contents_in};
 
 use dwp_base::{ByKind, SectionKind};

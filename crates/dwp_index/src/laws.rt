@@ -1,30 +1,25 @@
 //! What packages give, and what a file of given sections is, as laws.
 
-ghost use Rattle.std.specs.Prelude.{◌≡◌, ℕ, ◌+◌, ◌<◌, ◌≤◌, List, [], length, slice_range};
-ghost use Rattle.std.specs.Prelude.{slice_get, Option, Some, None, Ok, false};
+ghost use Rattle.std.specs.Prelude.{length, List, Option, slice_range, [], ℕ, ◌+◌, ◌<◌, ◌≡◌, ◌≤◌};
+ghost use Rattle.std.specs.Prelude.{false, None, Ok, slice_get, Some};
+ghost use Rattle.dwp_index.specs.Package.{found_by_row, found_counted, index_in_section, row_bytes};
+ghost use Rattle.dwp_index.specs.Package.{encoding_in, index_for, Package, package_of};
+ghost use Rattle.dwp_index.specs.Holding.{HoldsInOrder, HoldsPackage, package_with, sections_of};
+ghost use Rattle.dwp_index.specs.Holding.{HasContent, held_of};
 ghost use Rattle.std.specs.List.Sorted.{IsPermutation};
-ghost use Rattle.dwp_base.specs.Sections.{name_of, same_kind, kind_named};
-ghost use Rattle.dwp_base.specs.declared.section.SectionKind.{SectionKind};
+ghost use Rattle.dwp_base.specs.{declared.section.Contribution.Contribution, Sections.kind_named};
+ghost use Rattle.dwp_base.specs.{declared.section.SectionKind.SectionKind, Sections.same_kind};
+ghost use Rattle.dwp_base.specs.{declared.endian.Endianness.Endianness, Sections.name_of};
 ghost use Rattle.dwp_elf_read.specs.Elf.{Elf, SectionMeaning};
-ghost use Rattle.dwp_base.specs.declared.section.Contribution.{Contribution};
-ghost use Rattle.dwp_base.specs.declared.endian.Endianness.{Endianness};
-ghost use Rattle.dwp_bytes.specs.Input.{section};
-ghost use Rattle.dwp_bytes.specs.declared.encoding.Encoding.{Encoding};
-ghost use Rattle.dwp_units.specs.Units.{Unit, units, unit_bytes};
+ghost use Rattle.dwp_bytes.specs.{declared.encoding.Encoding.Encoding, Input.section};
+ghost use Rattle.dwp_units.specs.Units.{Unit, unit_bytes, units};
 ghost use Rattle.dwp_units.specs.declared.unit.UnitSection.{UnitSection};
-ghost use Rattle.dwp_table.specs.Table.{IsIndex};
-ghost use Rattle.dwp_table.specs.declared.object.DwarfObject.{DwarfObject};
-ghost use Rattle.dwp_index.specs.Contents.{Sections, content, is_of_kind};
-ghost use Rattle.dwp_index.specs.Index.{Index, Ranges, range_in};
-ghost use Rattle.dwp_index.specs.IndexBytes.{index_of};
-ghost use Rattle.dwp_index.specs.Package.{Package, package_of, index_in_section, row_bytes};
-ghost use Rattle.dwp_index.specs.Package.{encoding_in, index_for, found_counted, found_by_row};
-ghost use Rattle.dwp_index.specs.Entries.{entries_from};
-ghost use Rattle.dwp_index.specs.Used.{used_in};
-ghost use Rattle.dwp_index.specs.Finding.{unit_of, HasIndex, IsUnitOf, IsNotNamed, GivesWithin};
-ghost use Rattle.dwp_index.specs.Holding.{HasContent, HoldsInOrder, HoldsPackage, held_of};
-ghost use Rattle.dwp_index.specs.Holding.{package_with, sections_of};
-ghost use Rattle.dwp_index.specs.Naming.{numbered, entries_of, IsIndexOfIds};
+ghost use Rattle.dwp_table.specs.{declared.object.DwarfObject.DwarfObject, Table.IsIndex};
+ghost use Rattle.dwp_index.specs.Contents.{content, is_of_kind, Sections};
+ghost use Rattle.dwp_index.specs.Index.{Index, range_in, Ranges};
+ghost use Rattle.dwp_index.specs.{Entries.entries_from, IndexBytes.index_of, Used.used_in};
+ghost use Rattle.dwp_index.specs.Finding.{GivesWithin, HasIndex, IsNotNamed, IsUnitOf, unit_of};
+ghost use Rattle.dwp_index.specs.Naming.{entries_of, IsIndexOfIds, numbered};
 
 /// The law of packages: where the index of a kind is one of distinct identifiers, the unit of each
 /// is found, after at most as many slots as its row's number, if its ranges lie inside their

@@ -1,18 +1,14 @@
 //! Packages: the units that their indexes name, with all that belongs to each.
 
-ghost use Rattle.std.specs.Prelude.{◌≡◌, ◌≤◌, ◌+◌, ℕ, List, length, IfOk};
+ghost use Rattle.std.specs.Prelude.{IfOk, length, List, ℕ, ◌+◌, ◌≡◌, ◌≤◌};
+ghost use Rattle.dwp_index.specs.Package.{as_error, first_outside, found_counted, index_in_section};
+ghost use Rattle.dwp_index.specs.Package.{first_byte, found, index_for, package_of, row_counted};
 ghost use Rattle.std.specs.Option.{option_copied};
 ghost use Rattle.dwp_base.specs.Reading.{Answers};
-ghost use Rattle.dwp_index.specs.Contents.{content};
-ghost use Rattle.dwp_index.specs.ContentFields.{contents_in};
-ghost use Rattle.dwp_table.specs.Objects.{identifier_of};
+ghost use Rattle.dwp_index.specs.{ContentFields.contents_in, Finding.row_number, Finding.slots_for};
+ghost use Rattle.dwp_index.specs.{Contents.content, Index.Index, Index.row_in};
+ghost use Rattle.dwp_table.specs.{Objects.identifier_of, Table.FindsExactly, Table.IsIndex};
 ghost use Rattle.dwp_table.specs.declared.object.DwarfObject.TheVariants.{Compilation, TypeUnit};
-ghost use Rattle.dwp_table.specs.Table.{IsIndex, FindsExactly};
-ghost use Rattle.dwp_index.specs.Finding.{row_number, slots_for};
-ghost use Rattle.dwp_index.specs.Index.{Index, row_in};
-ghost use Rattle.dwp_index.specs.Package.{as_error, package_of, index_in_section};
-ghost use Rattle.dwp_index.specs.Package.{index_for, first_outside, found_counted, found};
-ghost use Rattle.dwp_index.specs.Package.{first_byte, row_counted};
 ghost use Rattle.dwp_index.specs.declared.error.PackageError.TheVariants as errors;
 
 use crate::contents::Contents;

@@ -1,11 +1,9 @@
 //! Reading an index from its bytes (DWARF 5, 7.3.5.3; the GNU page DebugFissionDWP).
 
-ghost use Rattle.std.specs.Prelude.{◌≡◌, ◌*◌, ◌≤◌, ◌+◌, [], length, drop, IfOk, OnOk, IsTrue};
-ghost use Rattle.dwp_base.specs.Numbers.{number};
-ghost use Rattle.dwp_base.specs.Reading.{Answers};
-ghost use Rattle.dwp_index.specs.IndexBytes.{numbers, after, version_of, counts_of, columns_at};
-ghost use Rattle.dwp_index.specs.IndexBytes.{is_slot_count};
-ghost use Rattle.dwp_index.specs.Places.{ArePlaces};
+ghost use Rattle.std.specs.Prelude.{drop, IfOk, IsTrue, length, OnOk, [], ◌*◌, ◌+◌, ◌≡◌, ◌≤◌};
+ghost use Rattle.dwp_index.specs.IndexBytes.{columns_at, counts_of, is_slot_count, version_of};
+ghost use Rattle.dwp_base.specs.{Numbers.number, Reading.Answers};
+ghost use Rattle.dwp_index.specs.{IndexBytes.after, IndexBytes.numbers, Places.ArePlaces};
 
 use crate::unit_index::NO_COLUMN;
 use dwp_base::{ByKind, Endianness};

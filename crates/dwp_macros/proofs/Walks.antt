@@ -1,12 +1,11 @@
 -- Sections taken one after the other, from the last.
-use Rattle.std.proofs.Common.{◌≡◌, ℕ, ◌+◌, ◌≤◌, Bool, false, ◌||◌, ◌&&◌, List, [], ◌∷◌, length}
-use Rattle.std.proofs.Common.{drop, Some, refl, ap, ◌∙◌, slice_get, if◌then◌else◌}
-use Rattle.std.proofs.lemmas.Bool.{and_right}
+use Rattle.std.proofs.Common.{Bool, List, [], if◌then◌else◌, ℕ, ◌&&◌, ◌+◌, ◌||◌, ◌∙◌, ◌∷◌, ◌≡◌, ◌≤◌}
+use Rattle.std.proofs.Common.{ap, drop, false, length, refl, slice_get, Some}
+use Rattle.std.proofs.{lemmas.Bool.and_right, lemmas.List.drop_all, lemmas.List.drop_more}
 use Rattle.std.specs.List.{list_any}
-use Rattle.std.proofs.lemmas.List.{drop_all, drop_more}
-use Rattle.std.proofs.lemmas.Option.{slice_get_within, get_or_from_slice_get}
+use Rattle.std.proofs.lemmas.Option.{get_or_from_slice_get, slice_get_within}
 use Rattle.dwp_elf_read.specs.Elf.{SectionMeaning}
-use Rattle.dwp_macros.specs.Kept.{has_macros, go, emptied, kept_section, kept_sections, lose}
+use Rattle.dwp_macros.specs.Kept.{emptied, go, has_macros, kept_section, kept_sections, lose}
 use Rattle.dwp_macros.specs.declared.kept.KeptMacros.{KeptMacros}
 use Rattle.dwp_macros.specs.declared.kept.KeptMacros.TheVariants.{All}
 

@@ -1,10 +1,9 @@
 //! Which of an object's macros count, and the object in which the others don't.
 
-ghost use Rattle.std.specs.Prelude.{◌≡◌, ◌&&◌, option_map, is_some, if◌then◌else◌, Ok, IfOk};
-ghost use Rattle.std.specs.Prelude.{OnErr, IsSome, IsTrue};
-ghost use Rattle.dwp_elf_read.specs.Elf.{elf_of};
 ghost use Rattle.dwp_elf_read.specs.View as view;
-ghost use Rattle.dwp_elf_read.specs.View.{elf};
+ghost use Rattle.std.specs.Prelude.{IfOk, is_some, Ok, OnErr, option_map, if◌then◌else◌, ◌&&◌, ◌≡◌};
+ghost use Rattle.std.specs.Prelude.{IsSome, IsTrue};
+ghost use Rattle.dwp_elf_read.specs.{Elf.elf_of, View.elf};
 ghost use Rattle.dwp_macros.specs.Kept as spec;
 
 use dwp_base::{Class, SectionKind};

@@ -1,10 +1,8 @@
 -- Comparing the string at a place with another one, without looking for its end: by as many bytes
 -- as the other has, and whether a zero follows them. Halving a sorted list of positions. The string
 -- at the front of some bytes, up to the first zero.
-use Rattle.std.proofs.Math.Nat.{pow-suc}
-use Rattle.std.proofs.lemmas.List.{get_or_past, take_all}
-use Rattle.std.specs.Cmp.Lexicographic.{slice_cmp}
-use Rattle.std.specs.Ordering.{nat_cmp, ordering_then}
+use Rattle.std.proofs.{lemmas.List.get_or_past, lemmas.List.take_all, Math.Nat.pow-suc}
+use Rattle.std.specs.{Cmp.Lexicographic.slice_cmp, Ordering.nat_cmp, Ordering.ordering_then}
 use Rattle.dwp_strings.proofs.Terms
 use Terms.{All-head, All-tail, AllPairs, Equal, Greater, IsBefore, IsFirstZero, IsZeroFree, Less}
 use Terms.{List, Ordering, [], add-one, arith, before_first, cases_lt, cond, drop, eqb, exact_bytes}

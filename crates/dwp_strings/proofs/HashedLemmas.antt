@@ -1,17 +1,5 @@
 -- The strings of a table: some positions of them, in their order; places at which they begin, and
 -- strings that are used. Strings of entries, found by their hashes, or else by their order.
-use Rattle.std.proofs.lemmas.List.{flat_map_more, length-map, map-append, take-map}
-use Rattle.std.proofs.lemmas.List.Concat.{flat_map-append}
-use Rattle.std.proofs.lemmas.List.Edits.{get_or-insert_above, get_or-insert_at, get_or-insert_below}
-use Rattle.std.proofs.lemmas.List.Edits.{length-insert}
-use Rattle.std.proofs.lemmas.List.Elements.{All-cons, All-filter, All-push, All-take}
-use Rattle.std.proofs.lemmas.List.Elements.{Contains-append_cases, Contains-append_left}
-use Rattle.std.proofs.lemmas.List.Elements.{Contains-get_or, Contains-push, filter_passes}
-use Rattle.std.proofs.lemmas.List.Kept.{AllPairs-filter}
-use Rattle.std.proofs.lemmas.List.Sorted.{Contains-permutation, IsPermutation-filter_both}
-use Rattle.std.proofs.lemmas.Map.Made.{IsDistinct-from_AllPairs, is_member-Decides}
-use Rattle.std.proofs.lemmas.Map.Made.{length-le_from_is_member}
-use Rattle.std.specs.declared.alloc.AllocError.{AllocError}
 use Rattle.dwp_strings.proofs.Terms
 use Terms.{All, All-contains, All-permutation, AllPairs, BeginsAt, Bool, Contains, Decides-eqb, Err}
 use Terms.{IsBefore, IsFindable, IsHashed, IsIndexed, IsOrdered, IsPermutation-insert, IsPlaced}
@@ -22,13 +10,23 @@ use Terms.{get_or_default, held, insert, length, length-append, length-take, lt-
 use Terms.{map, nat_eq_equiv, nat_list_cmp_total, not, offset_of, offsets_from, place_of, refl}
 use Terms.{string_from, strings_in, suc, sym, take, take-append-drop, take_at, terminated}
 use Terms.{tied_itself, true, zero, ℕ, ⊎_elim, ◌++◌, ◌+◌, ◌-◌, ◌<◌, ◌^◌, ◌∙◌, ◌∷◌, ◌≡◌, ◌≢◌, ◌≤◌}
-use Rattle.dwp_strings.specs.Places.{AreFound, AreRelated, IsFound, hash, shared}
+use Rattle.std.proofs.lemmas.List.Edits.{get_or-insert_above, get_or-insert_at, get_or-insert_below}
+use Rattle.std.proofs.lemmas.List.Elements.{All-filter, Contains-append_cases, Contains-append_left}
+use Rattle.std.proofs.lemmas.List.Elements.{All-cons, Contains-get_or, Contains-push, filter_passes}
+use Rattle.std.proofs.lemmas.List.Elements.{All-push, All-take}
+use Rattle.std.proofs.lemmas.Map.Made.{IsDistinct-from_AllPairs, length-le_from_is_member}
+use Rattle.dwp_strings.proofs.Named.{length-data_of-cons, length-offsets_from, zero_free-strings_in}
+use Rattle.dwp_strings.proofs.Named.{begins_there, distinct_push, map-string_from, offset_of-absent}
+use Rattle.dwp_strings.proofs.Named.{offsets_from-above, offsets_from-append, offsets_from-below}
+use Rattle.dwp_strings.proofs.Named.{offsets_from-take, string_from-ended, strings_in-data_of}
+use Rattle.dwp_strings.proofs.Named.{has_Decides, offset_of-at}
+use Rattle.std.proofs.lemmas.List.{flat_map_more, length-map, map-append, take-map}
+use Rattle.std.proofs.{lemmas.List.Concat.flat_map-append, lemmas.Map.Made.is_member-Decides}
+use Rattle.std.proofs.{lemmas.List.Edits.length-insert, lemmas.List.Kept.AllPairs-filter}
+use Rattle.std.proofs.lemmas.List.Sorted.{Contains-permutation, IsPermutation-filter_both}
+use Rattle.std.specs.declared.alloc.AllocError.{AllocError}
+use Rattle.dwp_strings.specs.Places.{AreFound, AreRelated, hash, IsFound, shared}
 use Rattle.dwp_strings.specs.declared.entries.Entries.{Entries}
-use Rattle.dwp_strings.proofs.Named.{begins_there, distinct_push, has_Decides, length-data_of-cons}
-use Rattle.dwp_strings.proofs.Named.{length-offsets_from, map-string_from, offset_of-absent}
-use Rattle.dwp_strings.proofs.Named.{offset_of-at, offsets_from-above, offsets_from-append}
-use Rattle.dwp_strings.proofs.Named.{offsets_from-below, offsets_from-take, string_from-ended}
-use Rattle.dwp_strings.proofs.Named.{strings_in-data_of, zero_free-strings_in}
 
 -- a string that begins at an offset is the section's, whatever comes behind
 string_there : (bytes rest : List ℕ) (p : ℕ) → data_of (strings_in bytes) ≡ bytes

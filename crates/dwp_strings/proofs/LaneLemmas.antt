@@ -1,10 +1,8 @@
 -- What a mask of at most 64 bytes says of each.
-use Rattle.std.proofs.lemmas.Nat.Bits.{bit_at-trailing_zeros}
-use Rattle.std.proofs.lemmas.Simd.{bit_mask_l, get_or-chunk, get_or-replicate, get_or-sel_l}
-use Rattle.std.proofs.lemmas.Simd.{get_or-zip2, length-chunk, length-sel_l, length-zip2, mask_l-mod}
-use Rattle.std.proofs.lemmas.Simd.{tops_compared}
-use Rattle.std.specs.Int.{bit_at, trailing_zeros}
-use Rattle.std.specs.Int.Count.{trailing_of_zero}
+use Rattle.std.proofs.lemmas.Simd.{bit_mask_l, get_or-zip2, length-chunk, length-sel_l, length-zip2}
+use Rattle.std.proofs.lemmas.Simd.{get_or-chunk, get_or-replicate, get_or-sel_l, tops_compared}
+use Rattle.std.proofs.{lemmas.Nat.Bits.bit_at-trailing_zeros, lemmas.Simd.mask_l-mod}
+use Rattle.std.specs.{Int.bit_at, Int.Count.trailing_of_zero, Int.trailing_zeros}
 use Rattle.std.specs.Simd.Lanes.{mask_l, sel_l, top, zip2}
 use Rattle.dwp_strings.proofs.Terms
 use Terms.{Bool, List, ap, ap₂, arith, cases_lt, cond, drop, elements, eqb, eqb-false, false}

@@ -1,11 +1,5 @@
 -- The strings of a section in which each is ended by a zero byte, where each begins, and its
 -- offset. A string is read where its offset says, also once more strings have come.
-use Rattle.std.proofs.Common.{take_all}
-use Rattle.std.proofs.lemmas.List.{get_or_append_left, get_or_at}
-use Rattle.std.proofs.lemmas.List.Elements.{All-cons, All-nil, All-push, Contains-append_left}
-use Rattle.std.proofs.lemmas.List.Elements.{Contains-push, Decides-contains}
-use Rattle.std.proofs.lemmas.List.Quantifiers.{all_pairs_push}
-use Rattle.std.specs.Option.{is_some}
 use Rattle.dwp_strings.proofs.Terms
 use Terms.{All, All-head, All-tail, AllPairs, BeginsAt, Bool, Contains, Decides, Decides-by_or}
 use Terms.{IsTable, IsZeroFree, List, None, Ok, Option, Some, [], ap, append_assoc, arith}
@@ -15,8 +9,12 @@ use Terms.{get_or-take, get_or_default, length, length-append, length-drop, leng
 use Terms.{list_any-append, map, nat_tests, offset_of, offsets_from, onto_first, position_or_len}
 use Terms.{position_or_len_is, refl, string_from, strings_in, suc, take, take-append-drop, take_at}
 use Terms.{terminated, true, with_string, zero, ℕ, ◌++◌, ◌+◌, ◌-◌, ◌<◌, ◌∙◌, ◌∷◌, ◌≡◌, ◌≢◌, ◌≤◌}
+use Rattle.std.proofs.lemmas.List.Elements.{Contains-append_left, Contains-push, Decides-contains}
+use Rattle.std.proofs.lemmas.List.Elements.{All-cons, All-nil, All-push}
+use Rattle.std.proofs.{Common.take_all, lemmas.List.get_or_append_left, lemmas.List.get_or_at}
+use Rattle.std.{proofs.lemmas.List.Quantifiers.all_pairs_push, specs.Option.is_some}
 use Rattle.dwp_bytes.specs.StringOffsets.{string_at}
-use Rattle.memchr.specs.Find.{IsFirstByte, is_byte}
+use Rattle.memchr.specs.Find.{is_byte, IsFirstByte}
 
 before_first-ended : (s xs : List ℕ) → IsZeroFree s → before_first (λ b. eqb b 0) (s ++ 0 ∷ xs) ≡ s
 before_first-ended s xs free =

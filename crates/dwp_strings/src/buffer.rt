@@ -1,9 +1,8 @@
 //! Strings one behind the other, each ended by a zero byte, and room for more.
 
-ghost use Rattle.std.specs.Prelude.{◌≡◌, ◌≢◌, ◌<◌, ◌≤◌, ◌+◌, ◌^◌, ◌++◌, ℕ, [], length, take, drop};
-ghost use Rattle.std.specs.Prelude.{slice_index, IsTrue, OnOk, OnErr, false};
-ghost use Rattle.dwp_strings.specs.Ends.{IsFirstZero, IsCopied};
-ghost use Rattle.dwp_strings.specs.Strings.{terminated};
+ghost use Rattle.std.specs.Prelude.{drop, length, take, [], ℕ, ◌++◌, ◌+◌, ◌<◌, ◌^◌, ◌≡◌, ◌≢◌, ◌≤◌};
+ghost use Rattle.std.specs.Prelude.{false, IsTrue, OnErr, OnOk, slice_index};
+ghost use Rattle.dwp_strings.specs.{Ends.IsCopied, Ends.IsFirstZero, Strings.terminated};
 
 use std::alloc::{AllocError, Global};
 use std::marker::Model;

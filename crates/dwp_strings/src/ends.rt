@@ -1,8 +1,7 @@
 //! Where strings end, looked for 64 bytes at a time: most end within a few such steps.
 
-ghost use Rattle.std.specs.Prelude.{ℕ, ◌+◌, ◌*◌, ◌<◌, ◌≤◌, length, take, IfSome, IsNone};
-ghost use Rattle.dwp_strings.specs.Ends.{IsFirstZero, IsNear};
-ghost use Rattle.dwp_strings.specs.Strings.{IsZeroFree};
+ghost use Rattle.std.specs.Prelude.{IfSome, IsNone, length, take, ℕ, ◌*◌, ◌+◌, ◌<◌, ◌≤◌};
+ghost use Rattle.dwp_strings.specs.{Ends.IsFirstZero, Ends.IsNear, Strings.IsZeroFree};
 
 use memchr::memchr;
 use std::simd::prelude::*;

@@ -1,12 +1,11 @@
 //! Looking a string up among positions in the order of their strings.
 
-ghost use Rattle.std.specs.Prelude.{◌≡◌, ◌≤◌, ◌<◌, ◌+◌, ◌^◌, ◌↔◌, ℕ, length, take, slice_index};
-ghost use Rattle.std.specs.Prelude.{IfOk, IfErr, IsTrue, Contains};
-ghost use Rattle.std.specs.Ordering.{nat_cmp};
-ghost use Rattle.std.specs.Cmp.Lexicographic.{slice_cmp};
+ghost use Rattle.std.specs.Prelude.{length, slice_index, take, ℕ, ◌+◌, ◌<◌, ◌^◌, ◌↔◌, ◌≡◌, ◌≤◌};
+ghost use Rattle.std.specs.Prelude.{Contains, IfErr, IfOk, IsTrue};
+ghost use Rattle.dwp_strings.specs.Strings.{IsWithinDigits, IsZeroFree, offset_of, strings_in};
+ghost use Rattle.dwp_strings.specs.Strings.{BeginsAt, IsIndexed, StandsAt};
+ghost use Rattle.std.specs.{Cmp.Lexicographic.slice_cmp, Ordering.nat_cmp};
 ghost use Rattle.dwp_bytes.specs.StringOffsets.{string_from};
-ghost use Rattle.dwp_strings.specs.Strings.{strings_in, offset_of, IsZeroFree, IsIndexed};
-ghost use Rattle.dwp_strings.specs.Strings.{BeginsAt, StandsAt, IsWithinDigits};
 
 use crate::positions::Positions;
 use memchr::arch::all::is_equal;

@@ -1,11 +1,10 @@
 //! The table of distinct strings (DWARF 5, 7.26).
 
-ghost use Rattle.std.specs.Prelude.{◌≡◌, ◌↔◌, ◌<◌, ◌≤◌, ◌^◌, [], length, take, slice_index, IfOk};
-ghost use Rattle.std.specs.Prelude.{IsSome, IsNone, IfSome, IsTrue, OnErr, Contains};
+ghost use Rattle.std.specs.Prelude.{IfOk, length, slice_index, take, [], ◌<◌, ◌^◌, ◌↔◌, ◌≡◌, ◌≤◌};
+ghost use Rattle.std.specs.Prelude.{Contains, IfSome, IsNone, IsSome, IsTrue, OnErr};
+ghost use Rattle.dwp_strings.specs.Strings.{IsPlaced, IsWithinDigits, IsZeroFree, offset_of};
 ghost use Rattle.dwp_bytes.specs.StringOffsets.{string_from};
-ghost use Rattle.dwp_strings.specs.Strings.{data_of, offset_of, IsTable, IsWithinDigits, IsPlaced};
-ghost use Rattle.dwp_strings.specs.Strings.{IsZeroFree};
-ghost use Rattle.dwp_strings.specs.Marks.{mark_of};
+ghost use Rattle.dwp_strings.specs.{Marks.mark_of, Strings.data_of, Strings.IsTable};
 
 use crate::entries::Entries;
 use crate::hash::{hash, hash_here};

@@ -1,8 +1,7 @@
 -- The first number of a range that passes a test.
-use Rattle.std.proofs.Common.{◌≡◌, ℕ, zero, suc, ◌+◌, ◌<◌, ◌≤◌, Bool, true, false, ◌⊎◌, inl, inr}
-use Rattle.std.proofs.Common.{refl, ap, ◌∙◌, arith, Some, None, find}
-use Rattle.std.specs.List.{range_with_len}
-use Rattle.std.proofs.Math.Decide.{dec_lt}
+use Rattle.std.proofs.Common.{Bool, false, inl, suc, true, zero, ℕ, ◌+◌, ◌<◌, ◌∙◌, ◌≡◌, ◌≤◌, ◌⊎◌}
+use Rattle.std.proofs.Common.{ap, arith, find, inr, None, refl, Some}
+use Rattle.std.{proofs.Math.Decide.dec_lt, specs.List.range_with_len}
 use Rattle.dwp_base.proofs.Bools.{by-bool}
 
 -- what a number is that was found

@@ -1,14 +1,12 @@
 -- Powers of two, odd steps round them, and what is one to one.
-use Rattle.std.proofs.Common.{◌≡◌, ℕ, zero, suc, ◌+◌, ◌-◌, ◌*◌, ◌/◌, ◌%◌, ◌^◌, ◌<◌, ◌≤◌, cond, ltb}
-use Rattle.std.proofs.Common.{refl, eqb, inl, inr, sym, ap, ◌∙◌, arith, ◌⊎◌, eq-eqb, count_ones}
-use Rattle.std.proofs.Common.{bit_or, IsTrue, eqb-true, pow_pos, pow-suc, mod-lt, pow_mono}
-use Rattle.std.specs.Int.{is_power_of_two}
-use Rattle.std.proofs.lemmas.Bool.Decides.{nat_tests}
-use Rattle.std.proofs.lemmas.Nat.{zero_from_ones, ones_le_self, ones_cat, or_mod}
-use Rattle.std.proofs.Math.Nat.{mul-sub, div-add-mod, le_of_dvd, dvd-mul_right}
-use Rattle.std.specs.Int.Count.{ones_step}
-use Rattle.std.proofs.Math.Decide.{dec_lt}
-use Rattle.dwp_table.specs.Table.{VisitsEachOnce, HasSlots}
+use Rattle.std.proofs.Common.{suc, zero, ℕ, ◌%◌, ◌*◌, ◌+◌, ◌-◌, ◌/◌, ◌<◌, ◌^◌, ◌∙◌, ◌≡◌, ◌≤◌, ◌⊎◌}
+use Rattle.std.proofs.Common.{bit_or, count_ones, eq-eqb, eqb-true, ltb, pow-suc, pow_mono, pow_pos}
+use Rattle.std.proofs.Common.{ap, arith, cond, eqb, inl, inr, IsTrue, mod-lt, refl, sym}
+use Rattle.std.specs.{Int.Count.ones_step, Int.is_power_of_two}
+use Rattle.std.proofs.{lemmas.Bool.Decides.nat_tests, Math.Decide.dec_lt}
+use Rattle.std.proofs.lemmas.Nat.{ones_cat, ones_le_self, or_mod, zero_from_ones}
+use Rattle.std.proofs.Math.Nat.{div-add-mod, dvd-mul_right, le_of_dvd, mul-sub}
+use Rattle.dwp_table.specs.Table.{HasSlots, VisitsEachOnce}
 use Rattle.dwp_table.proofs.Finding.{first_or_none}
 
 -- ---- what has one set bit is a power of two

@@ -1,10 +1,9 @@
 -- The places of an identifier.
-use Rattle.std.proofs.Common.{◌≡◌, ℕ, ◌+◌, ◌-◌, ◌*◌, ◌/◌, ◌%◌, ◌^◌, ◌<◌, sym, ap, ◌∙◌, arith}
-use Rattle.std.specs.Prelude.{bit_and, bit_or, IsTrue}
-use Rattle.std.specs.Int.{is_power_of_two}
+use Rattle.std.proofs.Common.{ap, arith, sym, ℕ, ◌%◌, ◌*◌, ◌+◌, ◌-◌, ◌/◌, ◌<◌, ◌^◌, ◌∙◌, ◌≡◌}
+use Rattle.std.specs.{Int.is_power_of_two, Prelude.bit_and, Prelude.bit_or, Prelude.IsTrue}
 use Rattle.std.proofs.lemmas.Nat.{and_mask, pow_pos}
-use Rattle.std.proofs.Math.Nat.{mod-lt, mod-add-mod}
-use Rattle.dwp_table.specs.Probing.{step, place}
+use Rattle.std.proofs.Math.Nat.{mod-add-mod, mod-lt}
+use Rattle.dwp_table.specs.Probing.{place, step}
 use Rattle.dwp_table.proofs.Numbers.{exponent, odd-or_one, one_slot, OneToOne}
 
 pub positive : (size : ℕ) → IsTrue (is_power_of_two size) → 0 < size

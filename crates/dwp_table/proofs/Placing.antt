@@ -1,19 +1,14 @@
 -- Placing one more identifier keeps all earlier placements.
-use Rattle.std.proofs.Common.{◌≡◌, ◌≢◌, ℕ, ◌+◌, ◌^◌, ◌<◌, ◌⊎◌, List, [], ◌∷◌, ◌++◌}
-use Rattle.std.proofs.Common.{length, get_or, set, eqb, eq-eqb, Some, None, ap, arith}
-use Rattle.std.proofs.Common.{IsTrue, replicate, ne_eqb, length-set, get_or-set_same}
-use Rattle.std.proofs.Common.{get_or-set_other, length-append}
-use Rattle.std.specs.Int.{is_power_of_two}
-use Rattle.std.proofs.lemmas.Bool.{cases_eq, cases_lt}
+use Rattle.std.proofs.Common.{get_or, length, List, [], ℕ, ◌++◌, ◌+◌, ◌<◌, ◌^◌, ◌∷◌, ◌≡◌, ◌≢◌, ◌⊎◌}
+use Rattle.std.proofs.Common.{eq-eqb, get_or-set_other, get_or-set_same, length-append, length-set}
+use Rattle.std.proofs.Common.{ap, arith, eqb, IsTrue, ne_eqb, None, replicate, set, Some}
+use Rattle.std.{proofs.lemmas.Bool.cases_eq, proofs.lemmas.Bool.cases_lt, specs.Int.is_power_of_two}
 use Rattle.std.proofs.lemmas.Grind.{elements, get_or-set_at}
-use Rattle.std.proofs.lemmas.List.{length-replicate, get_or_past}
-use Rattle.std.proofs.Math.ListN.{get_or-append}
-use Rattle.std.proofs.Math.Seq.{get_or-append_seam}
-use Rattle.std.proofs.Math.Decide.{dec_lt}
-use Rattle.dwp_table.specs.Probing.{place}
-use Rattle.dwp_table.specs.Table.{IsPlacedAfter, IsHashTable, first_unused}
-use Rattle.dwp_table.proofs.Finding.{find_first, find_none}
-use Rattle.dwp_table.proofs.Tables.{row_at, IsFree, has_free}
+use Rattle.std.proofs.lemmas.List.{get_or_past, length-replicate}
+use Rattle.std.proofs.{Math.Decide.dec_lt, Math.ListN.get_or-append, Math.Seq.get_or-append_seam}
+use Rattle.dwp_table.{proofs.Finding.find_first, proofs.Finding.find_none, specs.Probing.place}
+use Rattle.dwp_table.specs.Table.{first_unused, IsHashTable, IsPlacedAfter}
+use Rattle.dwp_table.proofs.Tables.{has_free, IsFree, row_at}
 use Rattle.dwp_table.proofs.Places.{place-lt, positive}
 
 -- ---- one more row in an unused slot

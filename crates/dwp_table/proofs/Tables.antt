@@ -1,13 +1,12 @@
 -- What stands in a table, and what looking up in it gives.
-use Rattle.std.proofs.Common.{◌≡◌, ◌≢◌, ℕ, ◌+◌, ◌-◌, ◌<◌, ◌≤◌, Bool, false, eqb, inl, inr, List}
-use Rattle.std.proofs.Common.{length, get_or, refl, sym, ◌∙◌, eq-eqb, arith, add-one}
+use Rattle.std.proofs.Common.{Bool, eqb, false, inl, inr, sym, ℕ, ◌+◌, ◌-◌, ◌<◌, ◌∙◌, ◌≡◌, ◌≢◌, ◌≤◌}
+use Rattle.std.proofs.Common.{add-one, arith, eq-eqb, get_or, length, List, refl}
 use Rattle.std.specs.Prelude.{Some}
-use Rattle.std.proofs.lemmas.Bool.{eqb-true, eqb-false, ne_eqb, or_from}
-use Rattle.dwp_table.specs.Probing.{place, is_end, first_end, found_row, look_count}
-use Rattle.dwp_table.specs.Table.{IsPlacedAfter, IsHashTable, IsIndex, FindsExactly, signature_of}
-use Rattle.dwp_table.proofs.Finding.{first_or_none, find_first, find_none}
-use Rattle.dwp_table.proofs.Numbers.{pigeonhole}
-use Rattle.dwp_table.proofs.Places.{place-lt, places_apart}
+use Rattle.std.proofs.lemmas.Bool.{eqb-false, eqb-true, ne_eqb, or_from}
+use Rattle.dwp_table.specs.Probing.{first_end, found_row, is_end, look_count, place}
+use Rattle.dwp_table.specs.Table.{FindsExactly, IsHashTable, IsIndex, IsPlacedAfter, signature_of}
+use Rattle.dwp_table.proofs.Finding.{find_first, find_none, first_or_none}
+use Rattle.dwp_table.proofs.{Numbers.pigeonhole, Places.place-lt, Places.places_apart}
 use Rattle.dwp_base.proofs.Bools.{or-right}
 
 -- the row at the place of x after j others

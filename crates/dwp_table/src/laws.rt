@@ -1,10 +1,9 @@
 //! What probing, looking up and unused slots are, as laws.
 
-ghost use Rattle.std.specs.Prelude.{◌≡◌, ℕ, List, [], length, ◌+◌, ◌%◌, ◌<◌, ◌≤◌, ◌^◌, IsTrue};
-ghost use Rattle.std.specs.Prelude.{replicate};
-ghost use Rattle.std.specs.Int.{is_power_of_two};
+ghost use Rattle.std.specs.Prelude.{IsTrue, length, List, [], ℕ, ◌%◌, ◌+◌, ◌<◌, ◌^◌, ◌≡◌, ◌≤◌};
+ghost use Rattle.std.specs.{Int.is_power_of_two, Prelude.replicate};
 ghost use Rattle.dwp_table.specs.Probing.{found_row, look_count};
-ghost use Rattle.dwp_table.specs.Table.{IsHashTable, IsIndex, FindsExactly, VisitsEachOnce};
+ghost use Rattle.dwp_table.specs.Table.{FindsExactly, IsHashTable, IsIndex, VisitsEachOnce};
 
 /// The law of probing: an odd step modulo a power of two visits every slot once. It does nothing.
 pub fn odd_step_visits_every_slot()

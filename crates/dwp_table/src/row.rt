@@ -1,11 +1,10 @@
 //! The places of an identifier in a hash table (DWARF 5, 7.3.5.3).
 
-ghost use Rattle.std.specs.Prelude.{◌≡◌, ℕ, List, [], ◌∷◌, ◌++◌, ◌+◌, ◌-◌, ◌<◌, ◌≤◌, ◌^◌, length};
-ghost use Rattle.std.specs.Prelude.{IsTrue, IsSomeAnd};
-ghost use Rattle.std.specs.Int.{is_power_of_two};
-ghost use Rattle.std.specs.Option.{option_map};
+ghost use Rattle.std.specs.Prelude.{length, List, [], ℕ, ◌++◌, ◌+◌, ◌-◌, ◌<◌, ◌^◌, ◌∷◌, ◌≡◌, ◌≤◌};
+ghost use Rattle.std.specs.Prelude.{IsSomeAnd, IsTrue};
+ghost use Rattle.std.specs.{Int.is_power_of_two, Option.option_map};
 ghost use Rattle.dwp_table.specs.Probing.{place};
-ghost use Rattle.dwp_table.specs.Table.{IsPlacedAfter, IsHashTable, first_unused, rows_with};
+ghost use Rattle.dwp_table.specs.Table.{first_unused, IsHashTable, IsPlacedAfter, rows_with};
 
 /// The slot that the look-up of `x` looks at first, in a table of `size` slots.
 #[tactic(auto, unfolding(crate::specs::Probing::place))]

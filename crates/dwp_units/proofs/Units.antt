@@ -5,24 +5,21 @@ use Terms.{◌&&◌, ◌+◌, ◌++◌, ◌-◌, ◌<◌, [], ap, append-nil, ap
 use Terms.{drop-take, eqb, Err, false, flat_map, Format, front, Goes, Input, is_err, leb, length}
 use Terms.{length-append, length-take-le, List, ltb, map, ne_eqb, nil_from_length, Ok, ReadError}
 use Terms.{refl, Result, sym, take-append-drop, true, Unit, ℕ, ◌∙◌, ◌∷◌, ◌≡◌, ◌≤◌}
-use Rattle.dwp_bytes.specs.Input.{offset_at, is_address_size, after}
+use Rattle.dwp_units.specs.Units.{listed, newer_at, older_at, type_at, unit_at, unit_seen, UnitsLie}
+use Rattle.dwp_units.specs.Units.{address_size_at, initial_length_at, older_type_at, unit_code_at}
+use Rattle.dwp_units.specs.Units.{header_at, unit_bytes, unit_type_at, units_left, units_within}
+use Rattle.dwp_units.proofs.Readings.{Answer, error_gives, number_goes, relocated_goes, value_gives}
+use Rattle.dwp_units.proofs.Readings.{after-after, goes_length, more_gives, test_gives, then_gives}
+use Rattle.dwp_units.proofs.Readings.{after-zero, goes_after, goes_least, reads_byte, then_split}
+use Rattle.dwp_units.proofs.Readings.{by-result, by_step, Gives, goes_none, goes_some, goes_then}
+use Rattle.dwp_units.proofs.Readings.{goes, size, Steps}
+use Rattle.dwp_bytes.specs.Input.{after, is_address_size, offset_at}
 use Rattle.dwp_bytes.specs.Encoding.{offset_size}
-use Rattle.dwp_units.specs.declared.unit.UnitType.{UnitType}
-use Rattle.dwp_units.specs.declared.unit.UnitSection.{UnitSection}
+use Rattle.dwp_units.specs.{declared.unit.UnitSection.UnitSection, declared.unit.UnitType.UnitType}
+use Rattle.dwp_units.specs.{declared.unit.UnitHeader.UnitHeader, Units.unit_of, Units.units}
 use Rattle.dwp_units.specs.declared.unit.UnitSection.TheVariants.{Info, Types}
-use Rattle.dwp_units.specs.Units.{initial_length_at, address_size_at, type_at, older_type_at}
-use Rattle.dwp_units.specs.Units.{unit_code_at, unit_type_at, older_at, newer_at, header_at}
-use Rattle.dwp_units.specs.Units.{unit_at, listed, unit_of, unit_seen, units_left, units}
-use Rattle.dwp_units.specs.Units.{units_within, unit_bytes, UnitsLie}
-use Rattle.dwp_units.proofs.Readings.{Answer, Gives, then_gives, value_gives, error_gives}
-use Rattle.dwp_units.proofs.Readings.{test_gives, more_gives, goes_none, goes_some, goes_then}
-use Rattle.dwp_units.proofs.Readings.{goes_after, reads_byte, goes, number_goes, relocated_goes}
-use Rattle.dwp_units.proofs.Readings.{then_split, goes_least, size, goes_length, after-zero}
-use Rattle.dwp_units.proofs.Readings.{after-after, by-result, Steps, by_step}
-use Rattle.std.proofs.lemmas.Bool.Decides.{nat_tests}
-use Rattle.std.proofs.lemmas.List.Concat.{flat_map-cons}
+use Rattle.std.proofs.{lemmas.Bool.Decides.nat_tests, lemmas.List.Concat.flat_map-cons}
 use Rattle.dwp_base.specs.Reading.{Reads}
-use Rattle.dwp_units.specs.declared.unit.UnitHeader.{UnitHeader}
 use Rattle.dwp_units.specs.declared.unit.UnitHeaders.{UnitHeaders}
 
 -- what was read leaves what stands behind it

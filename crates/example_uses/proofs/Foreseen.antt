@@ -1,9 +1,8 @@
 -- What an own package can be refused with, as a builder's call answers it.
-use Rattle.std.proofs.Common.{subst, Result, Ok, Err}
+use Rattle.std.proofs.Common.{Err, Ok, Result, subst}
 use Rattle.std.specs.Prelude.{IfErr}
-use Rattle.thorin_errors.specs.Answers.{Gives, MemoryAside}
-use Rattle.thorin_errors.specs.Errors.{ErrorValue, error_of}
-use Rattle.thorin_errors.specs.declared.error.Error.{Error}
+use Rattle.thorin_errors.specs.{Answers.Gives, Answers.MemoryAside, declared.error.Error.Error}
+use Rattle.thorin_errors.specs.Errors.{error_of, ErrorValue}
 use Rattle.thorin_join.specs.Builder.{State}
 use Rattle.thorin_again.specs.OwnRefusals.{IsForeseen, UnlessForeseen}
 

@@ -1,14 +1,11 @@
 //! Adds a package that was packed before to a builder that the caller has.
 
-ghost use Rattle.std.specs.Prelude.{◌≡◌, OnErr, OnOk, IfErr};
-ghost use Rattle.dwp_elf.specs.FileText.{Object, file_text};
-ghost use Rattle.thorin_errors.specs.Answers.{Gives, MemoryAside};
-ghost use Rattle.thorin_errors.specs.Errors.{error_of};
+ghost use Rattle.std.specs.Prelude.{IfErr, OnErr, OnOk, ◌≡◌};
+ghost use Rattle.dwp_elf.specs.FileText.{file_text, Object};
+ghost use Rattle.thorin_errors.specs.{Answers.Gives, Answers.MemoryAside, Errors.error_of};
 ghost use Rattle.thorin_join.specs.Builder.{order_of, taken};
-ghost use Rattle.thorin_join.specs.Join.{Joins};
-ghost use Rattle.thorin_join.specs.Represents.{units_in};
-ghost use Rattle.thorin_again.specs.OwnAccepted.{IsAccepted};
-ghost use Rattle.thorin_again.specs.OwnRefusals.{IsForeseen};
+ghost use Rattle.thorin_join.specs.{Join.Joins, Represents.units_in};
+ghost use Rattle.thorin_again.specs.{OwnAccepted.IsAccepted, OwnRefusals.IsForeseen};
 
 use std::alloc::Global;
 use thorin::{Bump, BytesSession, DwarfPackage, Error, RelocationEntry, Session};

@@ -4,17 +4,16 @@ use Terms.{ap, append-nil, append_assoc, begun-now, bind-was, Compilation, Dwarf
 use Terms.{IndexEntry, inl, InProgress, inr, List, lookup, map, map-append, Meaning, None, Ok}
 use Terms.{Option, refl, rules, same-ok, same_name, Some, Source, source-made, source_units, State}
 use Terms.{sym, taken, takes, TypeUnit, UnitRead, units_in, Used, [], ℕ, ◌++◌, ◌∙◌, ◌∷◌, ◌≡◌}
+use Rattle.thorin.specs.Differing.{differing, differing_by, input_units, object_units, read_bytes}
+use Rattle.thorin.specs.Differing.{Bytes, or_there, own_bytes}
 use Rattle.thorin_input.specs.NewUnits.{Adding, New, NewUnit, or_held, with_first, with_unit}
 use Rattle.thorin_join.specs.Represents.{meaning_at, units_begun}
 use Rattle.thorin_join.specs.Builder.{differing_begun, differing_in, package_or_new}
 use Rattle.thorin_join.specs.State.{adding, held_units, with_source}
 use Rattle.std.proofs.lemmas.Simd.{map-map}
 use Rattle.dwp_units.specs.Units.{Unit as Header}
-use Rattle.thorin.specs.Differing.{Bytes, differing, differing_by, input_units, object_units}
-use Rattle.thorin.specs.Differing.{or_there, own_bytes, read_bytes}
 use Rattle.thorin_join.proofs.Units.ReadInTurn.{Steps, units-read}
-use Rattle.thorin_join.proofs.Parts.Added.{each-unit}
-use Rattle.thorin_join.proofs.Joined.{with_all_parts}
+use Rattle.thorin_join.proofs.{Joined.with_all_parts, Parts.Added.each-unit}
 
 -- ---- what steps do
 

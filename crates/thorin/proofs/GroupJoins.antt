@@ -10,22 +10,18 @@ use Terms.{length, length-append, length-map, List, list_any, lookup, map, map-a
 use Terms.{Meaning, Members, nat_tests, None, Ok, Option, option_or, refl, remove, rules, same_name}
 use Terms.{Some, start, State, subst, swap, sym, take, take-append-drop, take-map, taken}
 use Terms.{taken_each, true, units_in, [], ℕ, ◌&&◌, ◌++◌, ◌+◌, ◌==◌, ◌∙◌, ◌∷◌, ◌≡◌}
-use Rattle.std.proofs.lemmas.List.Folds.{list_any-append}
-use Rattle.std.proofs.lemmas.List.Sorted.{IsPermutation-cons, IsPermutation-refl}
 use Rattle.std.proofs.lemmas.List.Sorted.{IsPermutation-remove, IsPermutation-trans}
-use Rattle.std.proofs.lemmas.Map.{lookup-none}
-use Rattle.std.proofs.lemmas.Map.Entries.{none_past_head}
+use Rattle.std.proofs.lemmas.List.Sorted.{IsPermutation-cons, IsPermutation-refl}
+use Rattle.thorin_join.proofs.Units.InRows.{joined_distinct, same_name-self, same_name-true}
+use Rattle.thorin_join.proofs.Units.InRows.{apart-none}
+use Rattle.std.proofs.{lemmas.Map.Made.keys_of-map_values, lemmas.Map.Views.Contains-from_lookup}
+use Rattle.std.proofs.{lemmas.List.Folds.list_any-append, lemmas.Map.Entries.none_past_head}
+use Rattle.std.proofs.{lemmas.Map.lookup-none, Math.Seq.drop-append_seam, Math.Seq.take-append_seam}
 use Rattle.std.proofs.lemmas.Map.Keys.{IsDistinct-from_apart, IsDistinct-tail}
-use Rattle.std.proofs.lemmas.Map.Views.{Contains-from_lookup}
-use Rattle.thorin_join.proofs.Units.InRows.{apart-none, joined_distinct, same_name-self}
-use Rattle.thorin_join.proofs.Units.InRows.{same_name-true}
 use Rattle.thorin_again.proofs.Accepted.Written.{apart-again, count-again, equivalence, found-again}
 use Rattle.thorin_again.specs.Again.{all_meant, HaveEncodingOf, MeansOnceWritten, MeansWhereTaken}
-use Rattle.std.proofs.Math.ListN.{get_or-map}
-use Rattle.std.specs.List.Sorted.{apply_swaps}
-use Rattle.std.proofs.lemmas.Map.Made.{keys_of-map_values}
+use Rattle.std.{proofs.Math.ListN.get_or-map, specs.List.Sorted.apply_swaps}
 use Rattle.thorin.proofs.Running.{as-written, each-taken}
-use Rattle.std.proofs.Math.Seq.{drop-append_seam, take-append_seam}
 
 abbrev pub Named : Type 0 → Type 0
 Named X = List (DwarfObject × X)

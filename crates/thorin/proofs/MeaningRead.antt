@@ -6,23 +6,21 @@ use Terms.{input_meaning, inr, is-false, is-same, is_none, is_some, List, map, M
 use Terms.{Option, option_and_then, own_contribution, ParseFileKind, refl, Result, rules, same-ok}
 use Terms.{same-self, SectionKind, SectionMeaning, Some, Source, source_units, Str, sym, true}
 use Terms.{TypeUnit, UnitRead, Used, [], ℕ, ◌++◌, ◌>>=◌, ◌||◌, ◌∙◌, ◌∷◌, ◌≡◌, ◌⊎◌}
-use Rattle.thorin_input.specs.Used.{elf_in, first, has_info, has_kind, input_file_of, InputFile}
-use Rattle.thorin_input.specs.Used.{opened, used_bytes, used_from, used_kind, with_used}
-use Rattle.dwp_base.specs.Sections.{all_kinds, same_kind}
-use Rattle.dwp_index.specs.Index.{Index, range_in, Ranges}
-use Rattle.dwp_index.specs.Package.{index_in_section, is_outside, Package, package_of, part_of}
-use Rattle.dwp_index.specs.Package.{row_bytes}
+use Rattle.thorin_input.specs.Used.{input_file_of, InputFile, used_bytes, used_from, used_kind}
+use Rattle.thorin_input.specs.Used.{elf_in, first, has_info, has_kind, opened, with_used}
+use Rattle.dwp_index.specs.Package.{index_in_section, is_outside, Package, package_of, row_bytes}
+use Rattle.thorin_join.specs.Meaning.{contributions_by, meaning_by, object_meaning, source_meaning}
+use Rattle.thorin_join.specs.Meaning.{meaning_with, placed_row, shared_kinds, unit_meaning}
+use Rattle.thorin.specs.MeaningRead.{has_index, MeansByReader, unit_of_package, unit_of_row}
+use Rattle.thorin.specs.MeaningRead.{lies_in, unit_with}
+use Rattle.dwp_base.{proofs.KindsRead.read-kind, specs.Sections.all_kinds, specs.Sections.same_kind}
+use Rattle.dwp_index.specs.{Index.Index, Index.range_in, Index.Ranges, Package.part_of}
 use Rattle.thorin_input.specs.Indexes.{index_for, index_in, indexes_of, is_package, version_test}
 use Rattle.dwp_bytes.specs.declared.error.ReadError.{ReadError}
 use Rattle.dwp_base.specs.declared.section.SectionKind.TheVariants.{CuIndex, StrOffsets, TuIndex}
 use Rattle.thorin_join.specs.Strings.{strings_of}
-use Rattle.dwp_base.proofs.KindsRead.{read-kind}
 use Rattle.dwp_index.proofs.HeldContents.{found-passes, named-of}
 use Rattle.dwp_index.specs.Contents.{content, content_among, contents_of, is_of_kind}
-use Rattle.thorin_join.specs.Meaning.{contributions_by, meaning_by, meaning_with, object_meaning}
-use Rattle.thorin_join.specs.Meaning.{placed_row, shared_kinds, source_meaning, unit_meaning}
-use Rattle.thorin.specs.MeaningRead.{has_index, lies_in, MeansByReader, unit_of_package}
-use Rattle.thorin.specs.MeaningRead.{unit_of_row, unit_with}
 use Rattle.std.proofs.lemmas.List.Folds.{find-append}
 use Rattle.thorin_input.proofs.Walking.{kind-full}
 use Rattle.dwp_elf_read.specs.declared.kind.FileKind.{FileKind}

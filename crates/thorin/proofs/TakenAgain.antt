@@ -10,11 +10,9 @@ use Rattle.thorin.specs.Unfinished.{AreMixed, AreTooLong, IsGroupsError, IsUnfin
 use Rattle.thorin_input.specs.Used.{input_file_of, InputFile, opened}
 use Rattle.thorin_errors.specs.declared.error.Error.{Error}
 use Rattle.thorin_join.specs.Builder.{order_of}
-use Rattle.thorin_again.specs.Again.{input_encoding}
-use Rattle.thorin_again.specs.OwnAccepted.{IsAcceptedOnceWritten}
+use Rattle.thorin_again.specs.{Again.input_encoding, OwnAccepted.IsAcceptedOnceWritten}
 use Rattle.thorin_again.specs.OwnRefusals.{IsForeseen, UnlessForeseen}
-use Rattle.thorin.specs.Groups.{IsUnwritten}
-use Rattle.thorin.proofs.Running.{each-taken, read-text}
+use Rattle.thorin.{proofs.Running.each-taken, proofs.Running.read-text, specs.Groups.IsUnwritten}
 use Rattle.thorin_again.proofs.Opened.Sections.{and-then}
 
 -- of a file that may have been written

@@ -8,25 +8,23 @@ use Terms.{IndexEntry, inl, InProgress, inr, is_compilation, is_some, IsSound, I
 use Terms.{length-append, length-drop, length-take-le, LieInside, List, names_in, nat_le, nat_tests}
 use Terms.{None, not, Ok, ok_or, Option, refl, Result, SectionKind, Some, start, State, subst}
 use Terms.{takes, tests_under, true, [], ℕ, ◌*◌, ◌+◌, ◌-◌, ◌<◌, ◌>>=◌, ◌^◌, ◌∷◌, ◌≡◌, ◌≤◌, ◌⊎◌}
-use Rattle.std.proofs.lemmas.List.Filters.{length-filter_both}
+use Rattle.thorin.specs.Unfinished.{HasLongSection, IsIndexNumber, IsUnfinished, LacksTarget}
+use Rattle.thorin.specs.Unfinished.{AreMixed, LacksInput}
+use Rattle.thorin_index.specs.EntryTests.{count_test, each, format_test, index_tests, number_test}
+use Rattle.thorin_index.specs.EntryTests.{contributions_test, encoding_test, same_encoding}
+use Rattle.std.proofs.{ByRecursion.all_kept_by, lemmas.List.Filters.length-filter_both}
 use Rattle.dwp_bytes.specs.Input.{Input, number_at, section, split_at}
 use Rattle.dwp_units.specs.Units.{header_at, initial_length_at, Unit as Header, unit_at}
 use Rattle.dwp_units.specs.declared.unit.UnitSection.{UnitSection}
 use Rattle.thorin_join.specs.Laid.{is_at, IsLaid, Lie}
-use Rattle.thorin.specs.Unfinished.{AreMixed, HasLongSection, IsIndexNumber, IsUnfinished}
-use Rattle.thorin.specs.Unfinished.{LacksInput, LacksTarget}
-use Rattle.std.proofs.ByRecursion.{all_kept_by}
 use Rattle.dwp_bytes.specs.Encoding.{index_version_of}
 use Rattle.dwp_elf.specs.Growing.{Contents}
 use Rattle.dwp_table.specs.Columns.{column_of, contribution_kinds}
 use Rattle.thorin_errors.specs.Errors.{MixedInputEncodings, NoOutputObjectCreated, NumberTooLarge}
 use Rattle.thorin_index.specs.Entries.{contribution_to, offset_or_0, size_or_0}
-use Rattle.thorin_index.specs.EntryTests.{contributions_test, count_test, each, encoding_test}
-use Rattle.thorin_index.specs.EntryTests.{format_test, index_tests, number_test, same_encoding}
 use Rattle.thorin_join.specs.Builder.{compilations, indexes_test, targets_test}
 use Rattle.thorin_join.specs.StandApart.{contents_begun, EachRow}
-use Rattle.thorin_join.proofs.Rows.StandApart.{sound-inside}
-use Rattle.thorin_join.proofs.Units.ReadInTurn.{each-all}
+use Rattle.thorin_join.proofs.{Rows.StandApart.sound-inside, Units.ReadInTurn.each-all}
 use Rattle.thorin_again.specs.InFormat.{AreInFormat, HasEncodingOfOne, HaveEncodingsOf, IsInFormat}
 use Rattle.std.proofs.lemmas.List.Sums.{count_by-le-length, length-filter}
 use Rattle.dwp_base.specs.declared.section.SectionKind.TheVariants as kinds

@@ -1,28 +1,22 @@
 //! What packing says of packages that are packed again, and of inputs of one encoding, as laws.
 
-ghost use Rattle.std.specs.Prelude.{◌≡◌, ℕ, true, List, [], Option, Ok, Err, All, IfOk, ◌⊎◌};
+ghost use Rattle.std.specs.Prelude.{All, Err, IfOk, List, Ok, Option, true, [], ℕ, ◌≡◌, ◌⊎◌};
+ghost use Rattle.thorin.specs.Again.{CanBePackedAgain, HasCommonEncoding, IsTakenAgain};
+ghost use Rattle.thorin.specs.Groups.{ArePackedAlone, IsPackageOfAll, IsPackedAlone, taken_each};
+ghost use Rattle.thorin.specs.Groups.{HaveTheirEncodings, IsPackedInGroups, RefusesPackages};
 ghost use Rattle.dwp_base.specs.declared.endian.Endianness.{Endianness};
 ghost use Rattle.dwp_index.specs.Package.{Package, package_of};
 ghost use Rattle.dwp_table.specs.declared.object.DwarfObject.{DwarfObject};
 ghost use Rattle.thorin_errors.specs.Errors.{ErrorValue};
-ghost use Rattle.thorin_again.specs.Again.{HaveEncodingOf};
-ghost use Rattle.thorin_join.specs.Builder.{State, finish_test, start, taken};
-ghost use Rattle.thorin_join.specs.Meaning.{Meaning, input_meaning};
-ghost use Rattle.thorin_again.specs.OneEncoding.{IsOfOneEncoding, AnswersAs};
-ghost use Rattle.thorin_again.specs.Own.{packs_again};
-ghost use Rattle.thorin_again.specs.PlainInputs.{AreTaken};
+ghost use Rattle.thorin_again.specs.{Again.HaveEncodingOf, Own.packs_again, PlainInputs.AreTaken};
+ghost use Rattle.thorin_join.specs.Builder.{finish_test, start, State, taken};
+ghost use Rattle.thorin_join.specs.Meaning.{input_meaning, Meaning};
+ghost use Rattle.thorin_again.specs.OneEncoding.{AnswersAs, IsOfOneEncoding};
 ghost use Rattle.thorin_join.specs.Represents.{IsSoundBegun, units_in};
 ghost use Rattle.thorin_builder.specs.Taking.{Outcome};
-ghost use Rattle.thorin.specs.declared.packing.Input.{Input};
-ghost use Rattle.thorin.specs.declared.packing.Packed.{Packed};
-ghost use Rattle.thorin.specs.Again.{IsTakenAgain, CanBePackedAgain, HasCommonEncoding};
-ghost use Rattle.thorin.specs.Again.{MeansAsRead};
-ghost use Rattle.thorin.specs.Groups.{ArePackedAlone, HaveTheirEncodings, IsPackageOfAll};
-ghost use Rattle.thorin.specs.Groups.{IsPackedAlone, IsPackedInGroups, RefusesPackages, inputs_of};
-ghost use Rattle.thorin.specs.Groups.{taken_each};
-ghost use Rattle.thorin.specs.MeaningRead.{has_index, MeansByReader};
-ghost use Rattle.thorin.specs.Packed.{IsPacked};
-ghost use Rattle.thorin.specs.Run.{Ran, IsWritten};
+ghost use Rattle.thorin.specs.{declared.packing.Input.Input, declared.packing.Packed.Packed};
+ghost use Rattle.thorin.specs.{Again.MeansAsRead, MeaningRead.has_index, MeaningRead.MeansByReader};
+ghost use Rattle.thorin.specs.{Groups.inputs_of, Packed.IsPacked, Run.IsWritten, Run.Ran};
 ghost use Rattle.thorin.specs.Unfinished.{IsGroupsError, IsUnfinished};
 
 use crate::laws::groups_are_packed_alike;

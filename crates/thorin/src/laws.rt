@@ -1,31 +1,27 @@
 //! What runs and packing in groups mean, as laws.
 
-ghost use Rattle.std.specs.Prelude.{◌≡◌, ◌∷◌, ◌++◌, ℕ, List, [], Ok, Option, IsPermutation, ◌^◌};
-ghost use Rattle.std.specs.Prelude.{◌*◌, ◌≤◌, ◌<◌, Err, length, codes};
+ghost use Rattle.dwp_elf_read.specs.declared.error.WriteError.TheVariants as written;
+ghost use Rattle.std.specs.Prelude.{List, Ok, Option, [], ℕ, ◌*◌, ◌++◌, ◌<◌, ◌^◌, ◌∷◌, ◌≡◌, ◌≤◌};
+ghost use Rattle.std.specs.Prelude.{codes, Err, IsPermutation, length};
+ghost use Rattle.thorin.specs.Groups.{HaveTheirEncodings, IsPackageOfAll, IsPackedInGroups};
 ghost use Rattle.std.specs.List.{flat_map};
 ghost use Rattle.dwp_base.specs.declared.class.Class.TheVariants.{Elf32};
 ghost use Rattle.dwp_base.specs.declared.endian.Endianness.{Endianness};
 ghost use Rattle.dwp_elf_read.specs.declared.error.WriteError.{WriteError};
-ghost use Rattle.dwp_elf_read.specs.declared.error.WriteError.TheVariants as written;
-ghost use Rattle.dwp_elf.specs.FileText.{Object, headers_place};
-ghost use Rattle.dwp_elf.specs.Numbers.{Fits};
+ghost use Rattle.dwp_elf.specs.{FileText.headers_place, FileText.Object, Numbers.Fits};
 ghost use Rattle.dwp_elf.specs.Refusals.{RefusesFile, RefusesWriter};
 ghost use Rattle.dwp_bytes.specs.declared.encoding.Encoding.{Encoding};
 ghost use Rattle.dwp_table.specs.declared.object.DwarfObject.{DwarfObject};
 ghost use Rattle.thorin_errors.specs.Errors.{NumberTooLarge};
 ghost use Rattle.dwp_strings.specs.Strings.{offset_of};
 ghost use Rattle.thorin_strings.specs.StringOffsets.{named_at, offset_limit, remapped_entry};
-ghost use Rattle.thorin_index.specs.declared.entry.IndexEntry.{IndexEntry};
-ghost use Rattle.thorin_index.specs.EntryTests.{index_tests};
-ghost use Rattle.thorin_join.specs.Builder.{State, taken, differing_in};
-ghost use Rattle.thorin_join.specs.Join.{JoinAll};
-ghost use Rattle.thorin_join.specs.Meaning.{Meaning, joining, can_join};
-ghost use Rattle.thorin_join.specs.Represents.{units_in};
+ghost use Rattle.thorin_index.specs.{declared.entry.IndexEntry.IndexEntry, EntryTests.index_tests};
+ghost use Rattle.thorin_join.specs.Builder.{differing_in, State, taken};
+ghost use Rattle.thorin_join.specs.{Join.JoinAll, Represents.units_in};
+ghost use Rattle.thorin_join.specs.Meaning.{can_join, joining, Meaning};
 ghost use Rattle.thorin_builder.specs.Taking.{Outcome};
-ghost use Rattle.thorin.specs.declared.packing.Input.{Input};
-ghost use Rattle.thorin.specs.Differing.{differing, own_bytes, input_units};
-ghost use Rattle.thorin.specs.Groups.{AreJoined, HaveTheirEncodings, IsPackedInGroups};
-ghost use Rattle.thorin.specs.Groups.{IsPackageOfAll, inputs_of};
+ghost use Rattle.thorin.specs.{declared.packing.Input.Input, Groups.AreJoined, Groups.inputs_of};
+ghost use Rattle.thorin.specs.Differing.{differing, input_units, own_bytes};
 ghost use Rattle.thorin.specs.Run.{Ran, TakesInput};
 
 use thorin_again::written_packages_mean_their_units;

@@ -1,12 +1,9 @@
 //! Whole packages from lists of inputs.
 
-ghost use Rattle.std.specs.Prelude.{◌≡◌, ℕ, List, map, IfOk, IfErr};
-ghost use Rattle.thorin_join.specs.Builder.{differing_in};
-ghost use Rattle.thorin_join.specs.Join.{IsPackageOf};
-ghost use Rattle.thorin.specs.Packed.{IsPacked};
+ghost use Rattle.std.specs.Prelude.{IfErr, IfOk, List, map, ℕ, ◌≡◌};
+ghost use Rattle.thorin_join.specs.{Builder.differing_in, Join.IsPackageOf, Represents.units_in};
+ghost use Rattle.thorin.specs.{Packed.IsPacked, Run.DeclinesInput, Run.Ran, Run.Took, Run.Writes};
 ghost use Rattle.thorin_builder.specs.Reading.{OnDeclined, outcome_of};
-ghost use Rattle.thorin_join.specs.Represents.{units_in};
-ghost use Rattle.thorin.specs.Run.{DeclinesInput, Ran, Took, Writes};
 
 use dwp_bytes::RelocationEntry;
 use dwp_table::DebugTypeSignature;

@@ -16,25 +16,24 @@ use Terms.{same_name, section, section_has, sections-are, slice_get-get_or, Some
 use Terms.{source-made, source_units, subst, sym, takes, TakesUnits, true, unit_at, unit_at_row}
 use Terms.{unit_bytes, unit_in, units, units_begun, units_in, units_of, units_within, UnitSection}
 use Terms.{WasRead, with_input, written_elf, written_object, [], ℕ, ◌+◌, ◌<◌, ◌↔◌, ◌∙◌, ◌∷◌, ◌≡◌}
-use Rattle.std.proofs.Common.{MatchOption, unwrap_or}
-use Rattle.thorin_again.proofs.Kept.OneEncoding.{Before, begun-all, begun-now, CanMean, own-adds}
 use Rattle.thorin_again.proofs.Kept.OneEncoding.{taken-holds, taken-plain, units-hold, units-names}
+use Rattle.thorin_again.proofs.Kept.OneEncoding.{Before, begun-all, begun-now, CanMean, own-adds}
 use Rattle.thorin_again.specs.InFormat.{AreInFormat, HasEncodingOfOne, HaveEncodingsOf, IsInFormat}
-use Rattle.thorin_again.specs.InFormat.{IsOneOf}
+use Rattle.thorin_again.specs.OneEncoding.{AnswersOnceWritten, GivesWhole, HaveEncodingOnceWritten}
+use Rattle.thorin_again.specs.OneEncoding.{AnswersAs, IsOfEncoding, IsOfOneEncoding}
+use Rattle.thorin_join.specs.Builder.{finish_test, IsFinished, IsFinishedState, names_in, order_of}
+use Rattle.thorin_join.specs.Builder.{start, State, taken}
+use Rattle.std.proofs.Common.{MatchOption, unwrap_or}
+use Rattle.thorin_again.specs.{InFormat.IsOneOf, Own.has_sections, Own.packs_again}
 use Rattle.thorin_again.proofs.Kept.EachUnit.{input-rows, of-one, OfOne, order-added}
 use Rattle.std.proofs.lemmas.Map.Views.{IfSome-lookup_from_All}
-use Rattle.thorin_again.specs.OneEncoding.{AnswersAs, AnswersOnceWritten, GivesWhole}
-use Rattle.thorin_again.specs.OneEncoding.{HaveEncodingOnceWritten, IsOfEncoding, IsOfOneEncoding}
 use Rattle.thorin_again.proofs.Opened.Sections.{first-written, input-encoding}
 use Rattle.thorin_again.proofs.Kept.Names.{HasInfo, info-there}
 use Rattle.thorin_again.proofs.Meant.RowByRow.{of-section, read-alone}
 use Rattle.dwp_bytes.specs.declared.encoding.Format.TheVariants.{Dwarf32}
 use Rattle.dwp_units.proofs.Readings.{one_answer}
 use Rattle.thorin_again.specs.PlainInputs.{AreTaken, EachAdds, IsOfPlainObjects, IsPlainOf}
-use Rattle.thorin_again.specs.Own.{has_sections, packs_again}
 use Rattle.thorin_join.specs.Join.{GivesNone, GivesUnit, look_limit}
-use Rattle.thorin_join.specs.Builder.{finish_test, IsFinished, IsFinishedState, names_in, order_of}
-use Rattle.thorin_join.specs.Builder.{start, State, taken}
 use Rattle.dwp_index.specs.Package as index
 use Rattle.dwp_units.specs.declared.unit.UnitSection.TheVariants as places
 

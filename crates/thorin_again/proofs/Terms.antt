@@ -1,60 +1,13 @@
 -- The names that proofs of this crate cite most, passed on from one place. Declares nothing.
-pub use Rattle.dwp_base.proofs.Bools.{both, or-right}
-pub use Rattle.dwp_base.specs.declared.section.SectionKind.TheVariants.{CuIndex, Info, TuIndex}
-pub use Rattle.dwp_elf.specs.FileText.{name_table}
-pub use Rattle.dwp_elf.specs.Written.{written_elf}
 unfoldable pub use Rattle.dwp_elf_read.specs.Elf.{elf_of}
-pub use Rattle.dwp_index.specs.Index.{range_in}
 unfoldable pub use Rattle.dwp_index.specs.Package.{found_counted, package_of, unit_at_row, unit_in}
 unfoldable pub use Rattle.dwp_units.specs.Units.{header_at, older_at, unit_at, units, units_within}
-pub use Rattle.std.proofs.ByRecursion.{All-map as each-mapped, all_kept_by}
-pub use Rattle.std.proofs.Common.{IfSome, ◌↔◌}
-pub use Rattle.std.proofs.Math.ListN.{get_or-map}
-pub use Rattle.std.proofs.lemmas.Bool.{eqb-false, or_right}
-pub use Rattle.std.proofs.lemmas.List.{get_or_append_left}
-pub use Rattle.std.proofs.lemmas.List.Elements.{All-append, All-cons, All-drop, All-filter}
-pub use Rattle.std.proofs.lemmas.List.Elements.{All-from_recursion, All-head, All-map, All-nil}
-pub use Rattle.std.proofs.lemmas.List.Elements.{All-tail, All-take, recursion_from_All}
-pub use Rattle.std.proofs.lemmas.List.Folds.{Any-from_list_any, list_any_none}
-pub use Rattle.std.proofs.lemmas.List.Sorted.{All-permutation, IsPermutation-map}
-pub use Rattle.std.proofs.lemmas.Option.{get_or_from_slice_get, IfSome_then, slice_get-get_or}
-pub use Rattle.std.proofs.lemmas.Option.{slice_get_within}
-pub use Rattle.std.specs.Cmp.{both_ways, IsEquivalence}
-pub use Rattle.std.specs.List.{range_with_len}
 unfoldable pub use Rattle.thorin_again.specs.Again.{input_encoding}
-pub use Rattle.thorin_again.specs.OwnInput.{CanTake, IsOwn, own_source, TakesParts, TakesUpToParts}
-pub use Rattle.thorin_again.specs.OwnInput.{written_object, written_used}
-pub use Rattle.thorin_again.specs.OwnRefusals.{IsForeseen, UnlessStringOffset}
-pub use Rattle.thorin_again.specs.OwnUnits.{AllOf, HoldsOwn}
-pub use Rattle.thorin_again.specs.Plain.{GiveStrings, HasNamedParts, HasNamedUnits, HasOneOf}
-pub use Rattle.thorin_again.specs.Plain.{HasTiledOffsets, HoldsPlain, IsAmong, IsOfSome, IsPlain}
-pub use Rattle.thorin_again.specs.Plain.{IsWholeRange, NamesItself, Tile}
-pub use Rattle.thorin_index.specs.EntryTests.{same_encoding}
-pub use Rattle.thorin_index.specs.IndexText.{is_used}
-pub use Rattle.thorin_index.specs.ReadRows.{HasContributions, HasEntries}
 unfoldable pub use Rattle.thorin_input.specs.Adjusting.{adjusted, moved, row_of}
-pub use Rattle.thorin_input.specs.Encodings.{first_encoding, has_encoding, is_index, is_plain}
-pub use Rattle.thorin_input.specs.Encodings.{section_has}
 unfoldable pub use Rattle.thorin_input.specs.Encodings.{encoding_of, file_encoding, own_encoding}
-pub use Rattle.thorin_input.specs.Format.{is_in_format, is_of_units}
-pub use Rattle.thorin_input.specs.Indexes.{index_for, looked_up, version_test}
 unfoldable pub use Rattle.thorin_input.specs.Indexes.{index_in, indexes_of}
-pub use Rattle.thorin_input.specs.InputStrings.{rewritten}
 unfoldable pub use Rattle.thorin_input.specs.Rows.{abbreviations_for, row_test}
-pub use Rattle.thorin_input.specs.Used.{counts_once}
 unfoldable pub use Rattle.thorin_input.specs.Used.{opened, used_kind}
-pub use Rattle.thorin_join.proofs.Files.Contents.{chosen-fit, HasRows, no-bytes, nothing}
-pub use Rattle.thorin_join.proofs.Files.Finished.{finished-is, finished-order, finished-own}
-pub use Rattle.thorin_join.proofs.Files.Finished.{finished-strings, id-at, members, part-there}
-pub use Rattle.thorin_join.proofs.Joined.{all_there, grows-with_parts, input-keeps, keys-held, Made}
-pub use Rattle.thorin_join.proofs.Joined.{Made as Added, made-order, new-sound, new-units}
-pub use Rattle.thorin_join.proofs.Joined.{same-begun, source-made, Takes, takes, TakesUnits}
-pub use Rattle.thorin_join.proofs.Joined.{with_all_parts}
-pub use Rattle.thorin_join.proofs.Moved.{identity-shifted, IsShifted, newer-five, plain, unit-moves}
-pub use Rattle.thorin_join.proofs.Parts.Ranges.{count-again, names-same, range-of, strings-are}
-pub use Rattle.thorin_join.proofs.Rows.OneAdded.{keep-rows, not-outside, own-bytes, part-inside}
-pub use Rattle.thorin_join.proofs.Rows.OneAdded.{place-put, range-front, range-none, range_for}
-pub use Rattle.thorin_join.proofs.Rows.StandApart.{sound-inside}
 use Rattle.thorin_join.proofs.Terms as Joined
 pub use Joined.{Adding, adding, after, All, All-weaker, all_kinds, ap, append-nil, append_assoc}
 pub use Joined.{AreApart, AreRowsOf, arith, bind-was, by-bool, content_of, Contents, Contribution}
@@ -77,13 +30,52 @@ pub use Joined.{UnitRead, units_begun, units_in, units_of, UnitSection, Used, wi
 pub use Joined.{with_unit_added, zero, [], ℕ, ◌++◌, ◌+◌, ◌-◌, ◌<◌, ◌>>=◌, ◌∙◌, ◌∷◌, ◌≡◌, ◌≤◌, ◌⊎◌}
 unfoldable pub use Joined.{encoding_in, identity, name_for, new_units, root_identity, row_in}
 unfoldable pub use Joined.{with_input, with_new_units, with_source}
-pub use Rattle.thorin_join.proofs.Units.InRows.{keys-units, same_name-self, same_name-sym}
-pub use Rattle.thorin_join.proofs.Units.InRows.{same_name-true}
-pub use Rattle.thorin_join.proofs.Units.ReadInTurn.{AreAdded, each-all, each-joining, kind-place}
-pub use Rattle.thorin_join.proofs.Units.ReadInTurn.{name-identity, Reads, sections-are, WasRead}
 unfoldable pub use Rattle.thorin_join.specs.Builder.{source_for, with_units}
-pub use Rattle.thorin_join.specs.Laid.{HaveOneRange, is_at, IsLaid, Lie, rows_at, same_place}
 unfoldable pub use Rattle.thorin_join.specs.Meaning.{input_meaning, meaning_by}
-pub use Rattle.thorin_join.specs.StandApart.{EachRow, rows_begun}
 unfoldable pub use Rattle.thorin_join.specs.State.{abbreviations_test}
+pub use Rattle.std.proofs.Common.{IfSome, ◌↔◌}
+pub use Rattle.std.proofs.lemmas.List.Elements.{All-append, All-from_recursion, recursion_from_All}
+pub use Rattle.std.proofs.lemmas.List.Elements.{All-cons, All-drop, All-filter, All-head, All-tail}
+pub use Rattle.std.proofs.lemmas.List.Elements.{All-map, All-nil, All-take}
+pub use Rattle.std.proofs.lemmas.Option.{get_or_from_slice_get, slice_get-get_or, slice_get_within}
+pub use Rattle.thorin_again.specs.OwnInput.{CanTake, TakesUpToParts, written_object, written_used}
+pub use Rattle.thorin_again.specs.OwnInput.{IsOwn, own_source, TakesParts}
+pub use Rattle.thorin_again.specs.Plain.{GiveStrings, HasNamedParts, HasNamedUnits, HasTiledOffsets}
+pub use Rattle.thorin_again.specs.Plain.{HasOneOf, HoldsPlain, IsOfSome, IsWholeRange, NamesItself}
+pub use Rattle.thorin_again.specs.Plain.{IsAmong, IsPlain, Tile}
+pub use Rattle.thorin_input.specs.Encodings.{first_encoding, has_encoding, is_index, section_has}
+pub use Rattle.thorin_join.proofs.Files.Finished.{finished-order, finished-own, finished-strings}
+pub use Rattle.thorin_join.proofs.Files.Finished.{finished-is, id-at, members, part-there}
+pub use Rattle.thorin_join.proofs.Joined.{input-keeps, made-order, same-begun, source-made, Takes}
+pub use Rattle.thorin_join.proofs.Joined.{grows-with_parts, Made as Added, takes, with_all_parts}
+pub use Rattle.thorin_join.proofs.Joined.{all_there, keys-held, new-sound, new-units, TakesUnits}
+pub use Rattle.thorin_join.proofs.Joined.{Made}
+pub use Rattle.thorin_join.proofs.Rows.OneAdded.{not-outside, part-inside, range-front, range-none}
+pub use Rattle.thorin_join.proofs.Rows.OneAdded.{keep-rows, own-bytes, place-put, range_for}
+pub use Rattle.thorin_join.proofs.Units.InRows.{same_name-self, same_name-sym, same_name-true}
+pub use Rattle.thorin_join.proofs.Units.ReadInTurn.{AreAdded, each-all, kind-place, Reads, WasRead}
+pub use Rattle.thorin_join.proofs.Units.ReadInTurn.{each-joining, name-identity, sections-are}
+pub use Rattle.dwp_base.proofs.Bools.{both, or-right}
+pub use Rattle.dwp_base.specs.declared.section.SectionKind.TheVariants.{CuIndex, Info, TuIndex}
+pub use Rattle.dwp_elf.specs.{FileText.name_table, Written.written_elf}
+pub use Rattle.dwp_index.specs.Index.{range_in}
+pub use Rattle.std.proofs.ByRecursion.{All-map as each-mapped, all_kept_by}
+pub use Rattle.std.proofs.{lemmas.List.get_or_append_left, lemmas.Option.IfSome_then}
+pub use Rattle.std.proofs.{lemmas.Bool.eqb-false, lemmas.Bool.or_right, Math.ListN.get_or-map}
+pub use Rattle.std.proofs.lemmas.List.Folds.{Any-from_list_any, list_any_none}
+pub use Rattle.std.proofs.lemmas.List.Sorted.{All-permutation, IsPermutation-map}
+pub use Rattle.std.specs.{Cmp.both_ways, Cmp.IsEquivalence, List.range_with_len}
+pub use Rattle.thorin_again.specs.OwnRefusals.{IsForeseen, UnlessStringOffset}
+pub use Rattle.thorin_again.specs.OwnUnits.{AllOf, HoldsOwn}
+pub use Rattle.thorin_index.specs.{EntryTests.same_encoding, IndexText.is_used}
+pub use Rattle.thorin_index.specs.ReadRows.{HasContributions, HasEntries}
+pub use Rattle.thorin_input.specs.{Encodings.is_plain, InputStrings.rewritten, Used.counts_once}
+pub use Rattle.thorin_input.specs.Format.{is_in_format, is_of_units}
+pub use Rattle.thorin_input.specs.Indexes.{index_for, looked_up, version_test}
+pub use Rattle.thorin_join.proofs.Files.Contents.{chosen-fit, HasRows, no-bytes, nothing}
+pub use Rattle.thorin_join.proofs.Moved.{identity-shifted, IsShifted, newer-five, plain, unit-moves}
+pub use Rattle.thorin_join.proofs.Parts.Ranges.{count-again, names-same, range-of, strings-are}
+pub use Rattle.thorin_join.proofs.{Rows.StandApart.sound-inside, Units.InRows.keys-units}
+pub use Rattle.thorin_join.specs.Laid.{HaveOneRange, is_at, IsLaid, Lie, rows_at, same_place}
+pub use Rattle.thorin_join.specs.StandApart.{EachRow, rows_begun}
 pub use Rattle.thorin_package_input.specs.PackagedReading.{range_bytes}

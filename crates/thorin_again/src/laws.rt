@@ -1,32 +1,27 @@
 //! What a written package is as an input again, and which inputs pack again, as laws.
 
-ghost use Rattle.std.specs.Prelude.{◌≡◌, ℕ, List, ◌++◌, Option, Ok, Some, ◌↔◌, true, All};
+ghost use Rattle.std.specs.Prelude.{All, List, Ok, Option, Some, true, ℕ, ◌++◌, ◌↔◌, ◌≡◌};
+ghost use Rattle.thorin_join.specs.Builder.{finish_test, IsFinishedState, order_of, State, taken};
+ghost use Rattle.thorin_again.specs.OneEncoding.{AnswersOnceWritten, HaveEncodingOnceWritten};
+ghost use Rattle.thorin_again.specs.OneEncoding.{IsOfEncoding, IsOfOneEncoding};
+ghost use Rattle.thorin_again.specs.OwnInput.{IsOwn, TakesUpToParts, written_object, written_used};
+ghost use Rattle.thorin_again.specs.OwnInput.{CanTake, own_source, TakesParts};
 ghost use Rattle.dwp_base.specs.declared.endian.Endianness.{Endianness};
 ghost use Rattle.dwp_base.specs.declared.section.SectionKind.TheVariants.{StrOffsets};
 ghost use Rattle.dwp_elf_read.specs.Elf.{Elf, elf_of};
-ghost use Rattle.dwp_elf.specs.Contents.{KindsDiffer, content_of};
-ghost use Rattle.dwp_elf.specs.FileText.{Object};
-ghost use Rattle.dwp_elf.specs.Growing.{Contents};
-ghost use Rattle.dwp_bytes.specs.Input.{section};
-ghost use Rattle.dwp_bytes.specs.declared.encoding.Encoding.{Encoding};
+ghost use Rattle.dwp_elf.specs.Contents.{content_of, KindsDiffer};
+ghost use Rattle.dwp_elf.specs.{FileText.Object, Growing.Contents};
+ghost use Rattle.dwp_bytes.specs.{declared.encoding.Encoding.Encoding, Input.section};
 ghost use Rattle.dwp_units.specs.Units.{Unit};
 ghost use Rattle.dwp_table.specs.declared.object.DwarfObject.{DwarfObject};
 ghost use Rattle.thorin_identity.specs.Identity.{identity};
-ghost use Rattle.thorin_input.specs.Indexes.{Source, Indexes, indexes_of};
-ghost use Rattle.thorin_join.specs.Builder.{State, order_of, taken, IsFinishedState, finish_test};
-ghost use Rattle.thorin_join.specs.Builder.{start};
+ghost use Rattle.thorin_input.specs.Indexes.{Indexes, indexes_of, Source};
+ghost use Rattle.thorin_join.specs.{Builder.start, State.InProgress};
 ghost use Rattle.thorin_join.specs.Represents.{IsSoundBegun, units_in};
-ghost use Rattle.thorin_join.specs.State.{InProgress};
-ghost use Rattle.thorin_again.specs.Again.{MeansOnceWritten};
+ghost use Rattle.thorin_again.specs.{Again.MeansOnceWritten, Own.packs_again, OwnUnits.HoldsOwn};
 ghost use Rattle.thorin_again.specs.InFormat.{AreInFormat, HaveEncodingsOf};
-ghost use Rattle.thorin_again.specs.OneEncoding.{IsOfOneEncoding, IsOfEncoding, AnswersOnceWritten};
-ghost use Rattle.thorin_again.specs.OneEncoding.{HaveEncodingOnceWritten};
-ghost use Rattle.thorin_again.specs.Own.{packs_again};
 ghost use Rattle.thorin_again.specs.OwnAccepted.{IsAcceptedByNewOnceWritten, IsAcceptedOnceWritten};
-ghost use Rattle.thorin_again.specs.OwnInput.{written_used, IsOwn, TakesUpToParts, CanTake};
-ghost use Rattle.thorin_again.specs.OwnInput.{TakesParts, written_object, own_source};
 ghost use Rattle.thorin_again.specs.OwnTaken.{AreRewritten, AreUnitsTaken};
-ghost use Rattle.thorin_again.specs.OwnUnits.{HoldsOwn};
 ghost use Rattle.thorin_again.specs.Plain.{HoldsPlain, IsPlain};
 ghost use Rattle.thorin_again.specs.PlainInputs.{AreTaken, IsOfPlainObjects};
 

@@ -1,16 +1,12 @@
 -- What is read of a peer's line: its name, and its words with whole names.
-use Rattle.std.proofs.Common.{◌≡◌, ◌∙◌, ◌++◌, ◌==◌, ap, sym, refl, true, false, ℕ}
-use Rattle.std.proofs.Common.{[], ◌∷◌, Option, Some, None, MatchOption, is_some, arith}
-use Rattle.std.proofs.Common.{◌+◌, ◌<◌, ◌≤◌, ◌≢◌, ap₂, drop, get_or, length, take, take-append-drop}
-use Rattle.std.specs.Borrow.{Bor}
-use Rattle.std.specs.Str.Pattern.{RFindsChar}
-use Rattle.std.proofs.lemmas.Str.Pattern.{NoCharPasses-char, drop_at_char}
-use Rattle.clap.proofs.CutLemmas.{list_any-Lacks}
-use Rattle.std.specs.Prelude.{if◌then◌else◌, option_map}
-use Rattle.std.specs.List.{list_any}
-use Rattle.std.proofs.lemmas.Bool.{or_parts}
-use Rattle.std.proofs.lemmas.Bool.Decides.{nat_tests}
-use Rattle.clap.specs.Walk.{Text}
+use Rattle.std.proofs.Common.{ap, refl, sym, [], ℕ, ◌++◌, ◌+◌, ◌<◌, ◌==◌, ◌∙◌, ◌∷◌, ◌≡◌, ◌≢◌, ◌≤◌}
+use Rattle.std.proofs.Common.{false, get_or, is_some, length, MatchOption, Option, take-append-drop}
+use Rattle.std.proofs.Common.{ap₂, arith, drop, None, Some, take, true}
+use Rattle.std.specs.Prelude.{option_map, if◌then◌else◌}
+use Rattle.std.specs.{Borrow.Bor, List.list_any, Str.Pattern.RFindsChar}
+use Rattle.std.proofs.lemmas.Str.Pattern.{drop_at_char, NoCharPasses-char}
+use Rattle.clap.{proofs.CutLemmas.list_any-Lacks, specs.Walk.Text}
+use Rattle.std.proofs.{lemmas.Bool.Decides.nat_tests, lemmas.Bool.or_parts}
 use Rattle.thorin_arguments.specs.Peers.{last_part, last_part_in}
 
 pub kept : {X Y : Type 0} (f : X → Y) (o : Option X) → is_some o ≡ is_some (option_map f o)

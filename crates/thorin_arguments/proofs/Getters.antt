@@ -1,15 +1,9 @@
 -- What the getters of the matches give, by their rows.
-use Rattle.std.proofs.Common.{◌≡◌, ◌∙◌, ap, sym, refl, Bool, true, false, Option, Some, None, codes}
-use Rattle.std.specs.Prelude.{unwrap_or}
-use Rattle.std.specs.Option.{option_map_or}
-use Rattle.std.specs.Str.{bytes_eq}
-use Rattle.std.specs.Str.Parse.{ParsesBool}
-use Rattle.std.proofs.lemmas.Bool.{false_from_ne_true}
-use Rattle.std.proofs.lemmas.Slice.Eq.{bytes_eq-Decides}
-use Rattle.clap.specs.Matches.{ReadsOne, one_text}
-use Rattle.clap.specs.Walk.{Text, rows_of}
-use Rattle.clap.specs.declared.parser.matches.Found.{Found}
-use Rattle.clap.proofs.WalkLemmas.{one_text-rows}
+use Rattle.std.proofs.Common.{ap, Bool, codes, false, None, Option, refl, Some, sym, true, ◌∙◌, ◌≡◌}
+use Rattle.std.specs.{Option.option_map_or, Prelude.unwrap_or, Str.bytes_eq, Str.Parse.ParsesBool}
+use Rattle.std.proofs.{lemmas.Bool.false_from_ne_true, lemmas.Slice.Eq.bytes_eq-Decides}
+use Rattle.clap.specs.{Matches.one_text, Matches.ReadsOne, Walk.rows_of, Walk.Text}
+use Rattle.clap.{proofs.WalkLemmas.one_text-rows, specs.declared.parser.matches.Found.Found}
 use Rattle.thorin_arguments.specs.Flags.{is_set}
 
 abbrev is_true : Text → Bool

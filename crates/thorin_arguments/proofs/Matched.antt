@@ -1,24 +1,17 @@
 -- What comes of reading words by the grammar.
-use Rattle.std.proofs.Common.{◌≡◌, ◌⊎◌, ◌∙◌, ap, sym, refl, inl, inr, Bool, true, false, List, []}
-use Rattle.std.proofs.Common.{ℕ, Option, Some, None, Ok, Err, IsTrue, ◌≢◌, ◌↔◌, is_some, subst}
-use Rattle.std.specs.Borrow.{Bor}
-use Rattle.clap.proofs.OnLiterals.{clap_on_literals}
-use Rattle.clap.proofs.WalkLemmas.{both}
-use Rattle.clap.specs.Faults.{fault_of, is_simple_and_free}
-use Rattle.clap.specs.Kinds.{HasKind, IsAmong}
-use Rattle.clap.specs.Simple.{App, HasMatchesOf, is_simple, matches_of, subcommand_of}
-use Rattle.clap.specs.Simple.{subcommand_rows_of}
-use Rattle.clap.specs.Walk.{Row, Text, rows_of}
-use Rattle.clap.specs.Words.{found_of, kind_of}
-use Rattle.clap.specs.declared.error.Error.{Error}
-use Rattle.clap.specs.declared.error.kind.ErrorKind.{ErrorKind}
 use Rattle.clap.specs.declared.error.kind.ErrorKind.TheVariants as kinds
-use Rattle.clap.specs.declared.parser.matches.ArgMatches.{ArgMatches}
-use Rattle.thorin_arguments.specs.Grammar.{AreMatched, AreMatchesOf}
-use Rattle.thorin_arguments.specs.Grammar.{IsLine, IsText, peer, read_words, thorin}
-use Rattle.thorin_arguments.specs.Peers.{peer_of}
-use Rattle.thorin_arguments.specs.Reading.{AreReadAs, IsReadAs, IsTested, IsUnread, are_wrong}
-use Rattle.thorin_arguments.specs.Whole.{is_of_llvm}
+use Rattle.std.proofs.Common.{ap, Bool, inl, inr, refl, sym, true, [], ℕ, ◌↔◌, ◌∙◌, ◌≡◌, ◌≢◌, ◌⊎◌}
+use Rattle.std.proofs.Common.{Err, false, is_some, IsTrue, List, None, Ok, Option, Some, subst}
+use Rattle.clap.specs.Simple.{App, HasMatchesOf, matches_of, subcommand_of, subcommand_rows_of}
+use Rattle.thorin_arguments.specs.Grammar.{AreMatched, AreMatchesOf, IsLine, IsText, read_words}
+use Rattle.std.specs.Borrow.{Bor}
+use Rattle.clap.proofs.{OnLiterals.clap_on_literals, WalkLemmas.both}
+use Rattle.clap.specs.{declared.error.Error.Error, declared.parser.matches.ArgMatches.ArgMatches}
+use Rattle.clap.specs.{declared.error.kind.ErrorKind.ErrorKind, Faults.is_simple_and_free, Walk.Row}
+use Rattle.clap.specs.{Faults.fault_of, Kinds.HasKind, Simple.is_simple, Walk.Text, Words.found_of}
+use Rattle.clap.specs.{Kinds.IsAmong, Walk.rows_of, Words.kind_of}
+use Rattle.thorin_arguments.specs.{Grammar.peer, Grammar.thorin, Peers.peer_of, Whole.is_of_llvm}
+use Rattle.thorin_arguments.specs.Reading.{are_wrong, AreReadAs, IsReadAs, IsTested, IsUnread}
 use Rattle.thorin_arguments.specs.Asked.{Asks, Call, Does, IsCallBy, IsCallOf, IsStatusOf}
 use Rattle.thorin_arguments.specs.Asked as calls
 

@@ -1,25 +1,17 @@
 -- What building a command line keeps of its words, in clap's terms.
-use Rattle.std.proofs.Common.{◌≡◌, ◌∙◌, ◌++◌, ap, sym, refl, Bool, true, false, List, [], ◌∷◌, ap₂}
-use Rattle.std.proofs.Common.{drop, length, map, take, ℕ, ◌+◌, ◌<◌}
-use Rattle.std.specs.Borrow.{Bor}
-use Rattle.std.specs.Prelude.{codes, filter_map, fold}
-use Rattle.std.proofs.Math.ListN.{get_or}
+use Rattle.std.proofs.Common.{ap, Bool, List, refl, sym, true, [], ℕ, ◌++◌, ◌+◌, ◌<◌, ◌∙◌, ◌∷◌, ◌≡◌}
+use Rattle.std.proofs.Common.{ap₂, drop, false, length, map, take}
+use Rattle.clap.specs.Words.{AddsArg, AddsSubcommand, app_of, rule_of, with_rule, with_subcommand}
+use Rattle.thorin_arguments.specs.Rules.{app_in, app_of_words, AreLongNames, ArePeerWords, shape_in}
+use Rattle.std.specs.{Borrow.Bor, Prelude.codes, Prelude.filter_map, Prelude.fold}
+use Rattle.std.proofs.{lemmas.List.Sums.fold-append, Math.ListN.get_or}
 use Rattle.std.proofs.lemmas.List.{append_assoc, map-append, take-map, take_more}
-use Rattle.std.proofs.lemmas.List.Sums.{fold-append}
-use Rattle.clap.specs.Words.{AddsArg, AddsSubcommand}
-use Rattle.clap.specs.Simple.{new_shape}
-use Rattle.clap.specs.Words.{App, Shape, app_of, rule_of, with_rule, with_subcommand}
-use Rattle.clap.specs.Walk.{Rule, Text, is_simple_arg, texts}
-use Rattle.clap.specs.declared.builder.arg.Arg.{Arg}
+use Rattle.clap.specs.{declared.builder.arg.Arg.Arg, Simple.new_shape, Words.App, Words.Shape}
+use Rattle.clap.specs.Walk.{is_simple_arg, Rule, Text, texts}
 use Rattle.clap.specs.declared.builder.command.Command.{Command}
-use Rattle.clap.proofs.SimpleLemmas.{is_false}
-use Rattle.clap.proofs.WalkLemmas.{both}
-use Rattle.clap.proofs.OnLiterals.{clap_on_literals}
+use Rattle.clap.proofs.{OnLiterals.clap_on_literals, SimpleLemmas.is_false, WalkLemmas.both}
 use Rattle.thorin_arguments.specs.Grammar.{command, long_names, peer, peer_words, thorin}
-use Rattle.thorin_arguments.specs.Rules.{AreLongNames, ArePeerWords, app_in, app_of_words}
-use Rattle.thorin_arguments.specs.Rules.{rule_in, shape_in}
-use Rattle.thorin_arguments.specs.Whole.{is_of_llvm}
-use Rattle.thorin_arguments.specs.declared.command.Line.{Line}
+use Rattle.thorin_arguments.specs.{declared.command.Line.Line, Rules.rule_in, Whole.is_of_llvm}
 use Rattle.thorin_arguments.specs.declared.command.Word.{Word}
 use Rattle.thorin_arguments.specs.declared.command.Word.TheVariants as words
 

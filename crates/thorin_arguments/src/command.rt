@@ -1,12 +1,10 @@
 //! The command lines: their words and texts, and what clap makes of them.
 
-ghost use Rattle.std.specs.Prelude.{◌≡◌, IfOk, Some, option_map, string_bytes};
-ghost use Rattle.clap.specs.Walk.{texts};
-ghost use Rattle.clap.specs.Words.{app_of, new_rule, rule_of};
 ghost use Rattle.thorin_arguments.specs.Grammar as grammar;
-ghost use Rattle.thorin_arguments.specs.Rules.{AreLines, AreLongNames, ArePeerWords, app_in};
-ghost use Rattle.thorin_arguments.specs.Rules.{rule_in};
-ghost use Rattle.thorin_arguments.specs.Versions.{version_with};
+ghost use Rattle.std.specs.Prelude.{IfOk, option_map, Some, string_bytes, ◌≡◌};
+ghost use Rattle.thorin_arguments.specs.Rules.{AreLines, AreLongNames, ArePeerWords, rule_in};
+ghost use Rattle.clap.specs.{Walk.texts, Words.app_of, Words.new_rule, Words.rule_of};
+ghost use Rattle.thorin_arguments.specs.{Rules.app_in, Versions.version_with};
 
 use crate::peers::is_of_llvm;
 use crate::texts::{

@@ -1,12 +1,10 @@
 //! The command lines of peers: the names under which the program takes them, and their words, whose
 //! long options may be cut short.
 
-ghost use Rattle.std.specs.Prelude.{◌≡◌, ◌<◌, IfOk, Some, option_map, string_bytes};
-ghost use Rattle.clap.specs.Lexer.{long_of, strip_byte};
-ghost use Rattle.clap.specs.Walk.{texts};
-ghost use Rattle.thorin_arguments.specs.Asked.{words_in};
 ghost use Rattle.thorin_arguments.specs.Peers as peers;
-ghost use Rattle.thorin_arguments.specs.Reading.{AreReadAs};
+ghost use Rattle.std.specs.Prelude.{IfOk, option_map, Some, string_bytes, ◌<◌, ◌≡◌};
+ghost use Rattle.clap.specs.{Lexer.long_of, Lexer.strip_byte, Walk.texts};
+ghost use Rattle.thorin_arguments.specs.{Asked.words_in, Reading.AreReadAs};
 ghost use Rattle.thorin_arguments.specs.Whole as spec;
 
 use crate::command;

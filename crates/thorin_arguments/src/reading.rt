@@ -1,14 +1,12 @@
 //! A command line is read, and done or refused: by clap, and where options don't go together that
 //! clap takes.
 
-ghost use Rattle.std.specs.Prelude.{◌≡◌, ◌||◌, IfOk, List, Option, if◌then◌else◌, is_some};
+ghost use Rattle.std.specs.Prelude.{IfOk, is_some, List, Option, if◌then◌else◌, ◌||◌, ◌≡◌};
 ghost use Rattle.std.specs.Prelude.{option_map};
-ghost use Rattle.clap.specs.Walk.{Text};
-ghost use Rattle.clap.specs.Words.{app_of, found_of, rows_of};
+ghost use Rattle.clap.specs.{Walk.Text, Words.app_of, Words.found_of, Words.rows_of};
 ghost use Rattle.thorin_arguments.specs.Asked.{Does, IsCallBy, IsCallOf, words_in};
-ghost use Rattle.thorin_arguments.specs.Grammar.{IsLine};
-ghost use Rattle.thorin_arguments.specs.Peers.{peer_of};
-ghost use Rattle.thorin_arguments.specs.Reading.{AreReadAs, IsReadAs, IsTested, are_wrong};
+ghost use Rattle.thorin_arguments.specs.{Grammar.IsLine, Peers.peer_of};
+ghost use Rattle.thorin_arguments.specs.Reading.{are_wrong, AreReadAs, IsReadAs, IsTested};
 ghost use Rattle.thorin_arguments.specs.Wrong.{is_given, is_wrong_pack, is_wrong_peer, lack_marks};
 
 use crate::asking::{Commands, dispatch, has_flag, value_of, values_of};

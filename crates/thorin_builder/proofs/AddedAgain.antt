@@ -8,13 +8,11 @@ use Terms.{own_encoding, part, refl, Remembers, rules, Some, State, String, stri
 use Terms.{sym, take-length, taken, true≢false, UnitlessInput, units_begun, units_of, with_input}
 use Terms.{with_more, ℕ, [], ◌∷◌, ◌≡◌, ◌⊎◌}
 use Rattle.thorin_join.proofs.Terms.{is_some, Joins}
-use Rattle.std.proofs.lemmas.Simd.{map-map}
-use Rattle.std.proofs.lemmas.Slice.Eq.{bytes_eq-Decides}
+use Rattle.std.proofs.{lemmas.Simd.map-map, lemmas.Slice.Eq.bytes_eq-Decides}
 use Rattle.indexmap.specs.IndexMap.{insert_entry}
 use Rattle.thorin_builder.specs.Repeated.{AddsAgain, AddsAgainTo, ExtendsBegun, IsLaterBegun}
 use Rattle.thorin_builder.specs.Taking.{with_target}
-use Rattle.thorin_builder.proofs.Extending.{extends-refl}
-use Rattle.thorin_builder.proofs.Running.{Offer}
+use Rattle.thorin_builder.proofs.{Extending.extends-refl, Running.Offer}
 
 -- packages that another one became
 pub later-refl : (made : InProgress) → IsLater made made

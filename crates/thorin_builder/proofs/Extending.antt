@@ -4,8 +4,7 @@ use Terms.{append-nil, arith, Contents, DebugTypeSignature, Extends, File, InPro
 use Terms.{length, List, map, map-append, New, new_units, Ok, parts_of, refl, Result, rules, Source}
 use Terms.{sym, take, take-append_seam, take-length, true, with_all, with_source, ℕ, [], ◌++◌, ◌∷◌}
 use Terms.{◌≡◌}
-use Rattle.std.proofs.Common.{length-take, take-take}
-use Rattle.std.specs.Result.{OnOk}
+use Rattle.std.{proofs.Common.length-take, proofs.Common.take-take, specs.Result.OnOk}
 use Rattle.dwp_elf.specs.Growing.{Begins}
 use Rattle.thorin_join.specs.State.{abbreviations_test, adding}
 

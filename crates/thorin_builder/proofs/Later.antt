@@ -9,14 +9,13 @@ use Rattle.thorin_join.proofs.Terms as Joined
 use Joined.{◌>>=◌, Adding, Contribution, entry_count, name_for, packaged_offsets, ReadError}
 use Joined.{remapped, rewritten, slice_range, Str, unit_section, UnitSection}
 use Joined.{with_each_part, with_offsets, with_part, with_string, with_unit}
-use Rattle.std.proofs.lemmas.Bool.{cond-true}
-use Rattle.std.proofs.lemmas.Grind.{length_at_push}
-use Rattle.thorin_strings.specs.StringOffsets.{remapped_entry, remapped_entries}
+use Rattle.std.proofs.{lemmas.Bool.cond-true, lemmas.Grind.length_at_push}
+use Rattle.thorin_strings.specs.StringOffsets.{remapped_entries, remapped_entry}
 use Rattle.thorin_package_input.specs.PackagedOffsets.{offset_ranges, rewritten_from}
 use Rattle.dwp_strings.specs.Strings.{offset_of}
 use Rattle.dwp_strings.proofs.Named.{there_later, there_once_used}
 use Rattle.dwp_units.specs.Units.{Unit as Header}
-use Rattle.thorin_input.specs.NewUnits.{with_read, once_test, with_section_at, with_section_in}
+use Rattle.thorin_input.specs.NewUnits.{once_test, with_read, with_section_at, with_section_in}
 
 abbrev Strings : Type 0
 Strings = List (List ℕ)

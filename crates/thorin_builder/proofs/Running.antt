@@ -4,19 +4,17 @@ use Terms.{ap, append-nil, append_assoc, Bool, came, DwarfObject, Err, Error, er
 use Terms.{false, input_error_in, keys, length, List, MemoryAside, names_in, None, Ok, Option}
 use Terms.{Outcome, outcome_of, refl, Result, rules, Some, State, subst, sym, take, take-append-add}
 use Terms.{take-length, TakesSkeleton, units_in, unread, ℕ, [], ◌++◌, ◌∙◌, ◌∷◌, ◌≡◌, ◌≢◌}
-use Rattle.std.proofs.lemmas.List.{length-append}
-use Rattle.std.specs.Prelude.{OnOk}
-use Rattle.std.specs.declared.io.Error.{Error as IoError}
-use Rattle.thorin_errors.specs.declared.error.InputError.{InputError}
 use Rattle.thorin_errors.specs.declared.error.InputError.TheVariants as input
+use Rattle.std.proofs.lemmas.List.{length-append}
+use Rattle.std.specs.{declared.io.Error.Error as IoError, Prelude.OnOk}
+use Rattle.thorin_errors.specs.declared.error.InputError.{InputError}
 use Rattle.thorin_errors.specs.declared.error.MissingReferencedObjectBehaviour.{MissingReferencedObjectBehaviour}
 use Rattle.thorin_executable.specs.Skeletons.{Listed}
 use Rattle.thorin_builder.specs.Taking.{MayRead, TakesNamed, TakesSkeletons}
 use Rattle.thorin_builder.specs.Reading.{DeclinesNamed, error_in, IsRead, OnDeclined}
 use Rattle.thorin_builder.specs.declared.reader.NotTaken.{NotTaken}
-use Rattle.thorin_errors.specs.Inputs.{input_error}
+use Rattle.thorin_errors.specs.{Errors.Memory, Inputs.input_error}
 use Rattle.thorin_join.proofs.Units.InRows.{keys-units}
-use Rattle.thorin_errors.specs.Errors.{Memory}
 
 abbrev pub Offer : Type 1
 Offer = List ℕ → Result (List ℕ) IoError → Type 0

@@ -1,13 +1,12 @@
 //! What an input's bytes make of a package: the input is read as ELF, its byte order is tested, and
 //! its units are added.
 
-ghost use Rattle.std.specs.Prelude.{◌≡◌, Ok, OnErr, OnOk, IfOk};
+ghost use Rattle.thorin_join.specs.Builder as spec;
+ghost use Rattle.std.specs.Prelude.{IfOk, Ok, OnErr, OnOk, ◌≡◌};
 ghost use Rattle.dwp_elf_read.specs.View.{elf};
 ghost use Rattle.thorin_errors.specs.Answers.{Gives};
-ghost use Rattle.thorin_join.specs.Builder as spec;
-ghost use Rattle.thorin_input.specs.Encodings.{encoding_of, file_encoding, own_encoding, are_alike};
-ghost use Rattle.thorin_builder.specs.Repeated.{ExtendsBegun};
-ghost use Rattle.thorin_builder.specs.StateView.{begun_of};
+ghost use Rattle.thorin_input.specs.Encodings.{are_alike, encoding_of, file_encoding, own_encoding};
+ghost use Rattle.thorin_builder.specs.{Repeated.ExtendsBegun, StateView.begun_of};
 ghost use Rattle.thorin_input.specs.Used.{input_file_of};
 ghost use Rattle.thorin_input.specs.View as view;
 

@@ -1,14 +1,13 @@
 //! Executables as inputs: the executable is read, then each object that it names is read and added,
 //! passed over, or refused (DWARF 5, 3.1.2; the GNU page DebugFission).
 
-ghost use Rattle.std.specs.Prelude.{◌≡◌, ℕ, false, List, Option, OnOk};
-ghost use Rattle.std.specs.Path.{path_bytes};
-ghost use Rattle.thorin_builder.specs.Taking.{TakesExecutable, TakesExecutableSkippingNameless};
-ghost use Rattle.thorin_builder.specs.Taking.{TakesExecutableBy, TakesNamed, TakesSkeleton};
-ghost use Rattle.thorin_builder.specs.Taking.{TakesReferredFile, Takes, IsUnread, came, is_there};
-ghost use Rattle.thorin_builder.specs.Taking.{all_named, nameless_skipped};
+ghost use Rattle.std.specs.Prelude.{false, List, OnOk, Option, ℕ, ◌≡◌};
+ghost use Rattle.thorin_builder.specs.Taking.{nameless_skipped, TakesExecutable, TakesReferredFile};
+ghost use Rattle.thorin_builder.specs.Taking.{all_named, came, IsUnread, TakesNamed, TakesSkeleton};
+ghost use Rattle.thorin_builder.specs.Taking.{TakesExecutableBy, TakesExecutableSkippingNameless};
 ghost use Rattle.thorin_builder.specs.Reading.{DeclinesExecutable, DeclinesNamed, OnDeclined};
-ghost use Rattle.thorin_builder.specs.Reading.{outcome_of};
+ghost use Rattle.std.specs.Path.{path_bytes};
+ghost use Rattle.thorin_builder.specs.{Reading.outcome_of, Taking.is_there, Taking.Takes};
 ghost use Rattle.thorin_builder.specs.Repeated.{AddsAgainTo, AreTaken, IsLaterBegun, Remembers};
 ghost use Rattle.thorin_join.specs.State.{InProgress};
 ghost use Rattle.thorin_executable.specs.Skeletons.{skeletons_by};

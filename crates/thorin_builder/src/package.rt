@@ -1,23 +1,19 @@
 //! The package builder: `DwarfPackage`, its calls for objects and packages, and finishing. Its
 //! calls for executables are in `executables`.
 
-ghost use Rattle.std.specs.Prelude.{◌≡◌, ℕ, List, map, filter, length, IsTrue, IfOk, IfErr, OnOk};
-ghost use Rattle.std.specs.Prelude.{true, OnErr, IfSome, Option, []};
+ghost use Rattle.thorin_join.specs.Builder as spec;
+ghost use Rattle.std.specs.Prelude.{filter, IfErr, IfOk, IsTrue, length, List, map, [], ℕ, ◌≡◌};
+ghost use Rattle.std.specs.Prelude.{IfSome, OnErr, OnOk, Option, true};
 ghost use Rattle.dwp_bytes.specs.declared.encoding.Encoding.{Encoding as OwnEncoding};
 ghost use Rattle.thorin_errors.specs.Answers.{Gives};
 ghost use Rattle.std.specs.Path.{path_bytes};
-ghost use Rattle.thorin_join.specs.Builder as spec;
-ghost use Rattle.thorin_join.specs.Builder.{IsFinishedState};
-ghost use Rattle.thorin_join.specs.Join.{Joins, IsPackageOnceWritten};
-ghost use Rattle.thorin_join.specs.Meaning.{keys};
-ghost use Rattle.thorin_join.specs.Represents.{IsSoundBegun, units_in};
+ghost use Rattle.thorin_join.specs.{Builder.IsFinishedState, Join.IsPackageOnceWritten, Join.Joins};
+ghost use Rattle.thorin_join.specs.{Meaning.keys, Represents.IsSoundBegun, Represents.units_in};
 ghost use Rattle.thorin_builder.specs.Missing.{missing_left, without_targets};
-ghost use Rattle.thorin_again.specs.Own.{packs_again};
+ghost use Rattle.thorin_again.specs.{Own.packs_again, OwnUnits.HasOneEncoding};
 ghost use Rattle.thorin_again.specs.OwnAccepted.{IsAcceptedByNewOnceWritten, IsAcceptedOnceWritten};
-ghost use Rattle.thorin_again.specs.OwnUnits.{HasOneEncoding};
-ghost use Rattle.thorin_builder.specs.Reading.{OnDeclined, outcome_of};
+ghost use Rattle.thorin_builder.specs.{Reading.OnDeclined, Reading.outcome_of, StateView.begun_of};
 ghost use Rattle.thorin_builder.specs.Repeated.{AddsAgainTo, IsLaterBegun};
-ghost use Rattle.thorin_builder.specs.StateView.{begun_of};
 ghost use Rattle.thorin_builder.specs.Taking.{Takes, TakesFile, with_target};
 
 use crate::adding::add_input;

@@ -1,11 +1,10 @@
 //! What reads the inputs that paths name, and why an input isn't taken.
 
-ghost use Rattle.std.specs.Prelude.{◌≡◌, ℕ, Bool, false, List, Result, IfErr};
-ghost use Rattle.std.specs.Path.{path_bytes};
-ghost use Rattle.std.specs.declared.io.Error.{Error as IoError};
-ghost use Rattle.thorin_sessions.specs.Sessions.{IsNoWantOfMemory};
 ghost use Rattle.thorin_errors.specs.declared.error.InputError.TheVariants as input;
 ghost use Rattle.thorin_builder.specs.declared.reader.NotTaken.TheVariants as not_taken;
+ghost use Rattle.std.specs.Prelude.{Bool, false, IfErr, List, Result, ℕ, ◌≡◌};
+ghost use Rattle.std.specs.{declared.io.Error.Error as IoError, Path.path_bytes};
+ghost use Rattle.thorin_sessions.specs.Sessions.{IsNoWantOfMemory};
 ghost use Rattle.thorin_builder.specs.Reading.{IsRead, OnDeclined, OnFailed, outcome_of};
 ghost use Rattle.thorin_builder.specs.Reading as spec;
 

@@ -1,11 +1,10 @@
 //! What an object adds each time that it is taken, where that is no unit and no string: an
 //! executable may name it for many units.
 
-ghost use Rattle.std.specs.Prelude.{◌≡◌, length, map, take, Some, OnOk, OnErr, IfOk, IfErr, IfSome};
-ghost use Rattle.dwp_elf.specs.FileText.{Object};
-ghost use Rattle.dwp_elf.specs.Growing.{IsGrown};
-ghost use Rattle.thorin_input.specs.Parts.{with_parts};
 ghost use Rattle.thorin_input.specs.View as view;
+ghost use Rattle.std.specs.Prelude.{IfErr, IfOk, IfSome, length, map, OnErr, OnOk, Some, take, ◌≡◌};
+ghost use Rattle.dwp_elf.specs.{FileText.Object, Growing.IsGrown};
+ghost use Rattle.thorin_input.specs.Parts.{with_parts};
 ghost use Rattle.thorin_builder.specs.Repeated.{AddsAgain, AddsNoUnit, with_more};
 ghost use Rattle.thorin_builder.specs.StateView.{in_progress_of};
 ghost use Rattle.thorin_join.specs.State as spec;

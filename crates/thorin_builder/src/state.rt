@@ -1,20 +1,17 @@
 //! A package while it is made: adding a source's units, taking them back, and finishing with
 //! strings and indexes.
 
-ghost use Rattle.std.specs.Prelude.{◌≡◌, ℕ, ◌<◌, ◌^◌, List, map, take, Some};
-ghost use Rattle.std.specs.Prelude.{IfOk, IfErr, OnOk, OnErr, true};
+ghost use Rattle.thorin_join.specs.State as spec;
+ghost use Rattle.std.specs.Prelude.{IfErr, IfOk, List, map, OnOk, Some, take, ℕ, ◌<◌, ◌^◌, ◌≡◌};
+ghost use Rattle.std.specs.Prelude.{OnErr, true};
 ghost use Rattle.dwp_table.specs.Objects.{identifier_of};
 ghost use Rattle.thorin_errors.specs.Answers.{Gives};
-ghost use Rattle.thorin_index.specs.EntryTests.{index_tests};
-ghost use Rattle.thorin_index.specs.IndexText.{IsIndexOf};
+ghost use Rattle.thorin_index.specs.{EntryTests.index_tests, IndexText.IsIndexOf};
 ghost use Rattle.dwp_strings.specs.Marks.{mark_of};
 ghost use Rattle.dwp_elf_read.specs.View.{elf};
-ghost use Rattle.thorin_join.specs.Builder.{begun_by, IsFinished, indexes_test, IdentifiersFit};
-ghost use Rattle.thorin_input.specs.Encodings.{are_alike};
-ghost use Rattle.thorin_input.specs.Names.{is_compilation};
-ghost use Rattle.thorin_input.specs.NewUnits.{new_units};
+ghost use Rattle.thorin_join.specs.Builder.{begun_by, IdentifiersFit, indexes_test, IsFinished};
+ghost use Rattle.thorin_input.specs.{Encodings.are_alike, Names.is_compilation, NewUnits.new_units};
 ghost use Rattle.thorin_again.specs.Own.{has_sections};
-ghost use Rattle.thorin_join.specs.State as spec;
 ghost use Rattle.thorin_builder.specs.RowsByIndex.{is_of_compilations, rows_in};
 ghost use Rattle.thorin_builder.specs.StateView.{amount_in, in_progress_of};
 ghost use Rattle.thorin_input.specs.UnitView.{new_of};

@@ -1,16 +1,15 @@
 -- Looking a row up, or a unit, is looking a row up by the index of its kind.
-use Rattle.std.proofs.Common.{◌≡◌, ◌∙◌, ℕ, refl, sym, ap, rules}
-use Rattle.std.specs.Prelude.{Option, Some, None}
+use Rattle.std.proofs.Common.{ap, refl, rules, sym, ℕ, ◌∙◌, ◌≡◌}
 use Rattle.dwp_base.specs.Reading.{◌>>=◌}
-use Rattle.dwp_table.specs.Objects.{identifier_of}
+use Rattle.dwp_index.specs.Package.{found_counted, index_for, row_counted, unit_at_row, unit_found}
+use Rattle.dwp_index.specs.Package.{found_by, Package, row_by, row_found, unit_in}
+use Rattle.std.specs.Prelude.{None, Option, Some}
+use Rattle.dwp_table.specs.{declared.object.DwarfObject.DwarfObject, Objects.identifier_of}
 use Rattle.dwp_table.specs.Probing.{found_row, look_count}
-use Rattle.dwp_table.specs.declared.object.DwarfObject.{DwarfObject}
 use Rattle.dwp_units.proofs.Readings.{by-result}
 use Rattle.dwp_index.specs.Index.{Index, row_in}
-use Rattle.dwp_index.specs.Package.{Package, index_for, row_found, row_by, row_counted}
-use Rattle.dwp_index.specs.Package.{unit_in, unit_at_row, unit_found, found_by, found_counted}
-use Rattle.thorin_c.specs.ByIndex.{row_numbered, row_listed, inside, with_header}
-use Rattle.thorin_c.specs.Finding.{as_status, present, of_object}
+use Rattle.thorin_c.specs.ByIndex.{inside, row_listed, row_numbered, with_header}
+use Rattle.thorin_c.specs.Finding.{as_status, of_object, present}
 
 module _ (pack : Package) (object : DwarfObject) where
   by_number : (index : Index) (found : Option ℕ) (slots : ℕ)

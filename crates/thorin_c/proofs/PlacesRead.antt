@@ -1,26 +1,20 @@
 -- The places of sections that are read for each kind, and a package by them.
-use Rattle.std.proofs.Common.{◌≡◌, ℕ, List, arith, refl}
-use Rattle.std.specs.Prelude.{Option, Some, None, Result, Ok, Err, IfOk, IfSome, slice_get}
-use Rattle.std.specs.Prelude.{[], option_map, find}
-use Rattle.std.proofs.lemmas.Option.{get_or_from_slice_get}
-use Rattle.dwp_base.specs.ByKind.{value_of}
-use Rattle.dwp_base.specs.Reading.{Answers}
-use Rattle.dwp_base.specs.Sections.{rank_of, all_kinds}
-use Rattle.dwp_base.specs.declared.section.SectionKind.{SectionKind}
-use Rattle.dwp_base.proofs.EveryKind.{value-of}
-use Rattle.dwp_base.proofs.KindsRead.{ReadBelow, read-all, answers-each}
-use Rattle.dwp_base.proofs.Steps.{each-read}
-use Rattle.dwp_elf_read.specs.Elf.{Elf, SectionMeaning, elf_of}
-use Rattle.dwp_elf_read.specs.View.{section}
-use Rattle.dwp_elf_read.specs.declared.error.ReadError.{ReadError}
-use Rattle.dwp_elf_read.specs.declared.section.Section.{Section}
-use Rattle.dwp_index.specs.Contents.{content, content_among, contents_of, is_of_kind, bytes_of}
-use Rattle.dwp_index.specs.Package.{package_of}
 use Rattle.dwp_index.specs.declared.error.PackageError.TheVariants as errors
-use Rattle.thorin_c.specs.Opening.{bytes_at, nowhere, IsPlaceIn, place_in, sections_at, order_of}
-use Rattle.thorin_c.specs.Opening.{package_in}
+use Rattle.std.proofs.Common.{arith, List, refl, ℕ, ◌≡◌}
+use Rattle.std.specs.Prelude.{Err, IfOk, IfSome, None, Ok, Option, Result, slice_get, Some, []}
+use Rattle.std.specs.Prelude.{find, option_map}
+use Rattle.thorin_c.specs.Opening.{bytes_at, IsPlaceIn, order_of, package_in, place_in, sections_at}
+use Rattle.std.proofs.lemmas.Option.{get_or_from_slice_get}
+use Rattle.dwp_base.specs.{ByKind.value_of, Reading.Answers, Sections.all_kinds, Sections.rank_of}
+use Rattle.dwp_base.specs.declared.section.SectionKind.{SectionKind}
+use Rattle.dwp_base.proofs.{EveryKind.value-of, Steps.each-read}
+use Rattle.dwp_base.proofs.KindsRead.{answers-each, read-all, ReadBelow}
+use Rattle.dwp_elf_read.specs.{declared.error.ReadError.ReadError, declared.section.Section.Section}
+use Rattle.dwp_elf_read.specs.{Elf.Elf, Elf.elf_of, Elf.SectionMeaning, View.section}
+use Rattle.dwp_index.specs.Contents.{bytes_of, content, content_among, contents_of, is_of_kind}
+use Rattle.dwp_index.specs.Package.{package_of}
+use Rattle.thorin_c.specs.{declared.types.ThorinRange.ThorinRange, Opening.nowhere}
 use Rattle.thorin_c.specs.declared.types.ThorinPackage.{ThorinPackage}
-use Rattle.thorin_c.specs.declared.types.ThorinRange.{ThorinRange}
 
 -- what is read for a kind is the place of its section, inside the bytes
 abbrev pub IsPlaceOf : List SectionMeaning → List ℕ → SectionKind → Result ThorinRange ReadError

@@ -1,14 +1,13 @@
 -- Files that are decompressed, and the errors of those that aren't.
-use Rattle.std.proofs.Common.{◌≡◌, ◌∙◌, ap, ℕ, ◌<◌, ◌≤◌, List, length, take, drop, arith, inl, inr}
+use Rattle.dwp_decompress.specs.declared.error.DecompressError.TheVariants as errors
+use Rattle.std.proofs.Common.{ap, arith, drop, inl, inr, length, List, take, ℕ, ◌<◌, ◌∙◌, ◌≡◌, ◌≤◌}
+use Rattle.std.specs.Prelude.{Err, Ok, pos, Some, ℤ, ◌≢◌, ◌⊎◌}
 use Rattle.std.proofs.lemmas.Int.{ints}
-use Rattle.std.specs.Prelude.{◌≢◌, ◌⊎◌, ℤ, pos, Some, Ok, Err}
 use Rattle.dwp_elf_read.specs.Elf.{elf_of}
 use Rattle.dwp_decompress.specs.Result.{decompressed_of, plain_length_of}
-use Rattle.dwp_decompress.specs.declared.asked.Asked.TheVariants.{All}
-use Rattle.dwp_decompress.proofs.Lengths.{length_fails}
+use Rattle.dwp_decompress.{proofs.Lengths.length_fails, specs.declared.asked.Asked.TheVariants.All}
 use Rattle.dwp_decompress.specs.declared.error.DecompressError.{DecompressError}
-use Rattle.dwp_decompress.specs.declared.error.DecompressError.TheVariants as errors
-use Rattle.thorin_c.specs.Plain.{Decompresses, NeedsRoom, status_of, IsError, TellsError}
+use Rattle.thorin_c.specs.Plain.{Decompresses, IsError, NeedsRoom, status_of, TellsError}
 
 module _ (bytes file : List ℕ) (size : ℕ) where
   -- the file was put at the beginning of the room

@@ -1,12 +1,11 @@
 -- A list whose elements are replaced one after the other by what comes of them.
-use Rattle.std.proofs.Common.{◌≡◌, ℕ, ◌+◌, List, ◌++◌, refl, ◌<◌, ◌≤◌, length, take, drop, set}
-use Rattle.std.proofs.Common.{get_or, map, take_all, arith, rules}
-use Rattle.std.specs.Prelude.{ℤ, Result, Ok}
-use Rattle.std.proofs.lemmas.List.{take_more_set, drop_more, drop-set-lt, drop-map, drop_all}
-use Rattle.std.proofs.lemmas.List.{append_assoc, append-nil, map-set, get_or-map, set-get_or}
+use Rattle.std.proofs.Common.{drop, length, List, map, refl, set, take, ℕ, ◌++◌, ◌+◌, ◌<◌, ◌≡◌, ◌≤◌}
+use Rattle.std.proofs.Common.{arith, get_or, rules, take_all}
+use Rattle.std.specs.Prelude.{Ok, Result, ℤ}
+use Rattle.std.proofs.lemmas.List.{append-nil, append_assoc, drop-set-lt, get_or-map, take_more_set}
+use Rattle.std.proofs.lemmas.List.{drop-map, drop_all, drop_more, map-set, set-get_or}
 use Rattle.dwp_index.specs.Package.{Package}
-use Rattle.thorin_c.specs.Finding.{told, looked}
-use Rattle.thorin_c.specs.declared.types.ThorinLookup.{ThorinLookup}
+use Rattle.thorin_c.specs.{declared.types.ThorinLookup.ThorinLookup, Finding.looked, Finding.told}
 use Rattle.thorin_c.specs.declared.types.ThorinUnit.{ThorinUnit}
 
 -- the first elements, which are replaced, and what comes of the others

@@ -1,18 +1,15 @@
 -- Lists of the units that an executable names.
-use Rattle.std.proofs.Common.{◌≡◌, ◌∙◌, ℕ, zero, suc, ◌+◌, ◌-◌, ◌<◌, List, [], ◌∷◌, ◌++◌, refl, sym}
-use Rattle.std.proofs.Common.{ap, arith, map, min, take, length, Option}
 use native.Mathlib.Numerals.{unary_clauses}
-use Rattle.std.proofs.lemmas.List.{append_assoc, append-nil, length-append, map-append, take_min}
-use Rattle.thorin_executable.specs.Skeletons.{Named, Listed}
+use Rattle.std.proofs.Common.{List, refl, suc, sym, zero, [], ℕ, ◌++◌, ◌+◌, ◌-◌, ◌<◌, ◌∙◌, ◌∷◌, ◌≡◌}
+use Rattle.std.proofs.Common.{ap, arith, length, map, min, Option, take}
+use Rattle.thorin_c.specs.Skeletons.{IsFirst, ListsUnits, paths_of, skeleton_named, TellsOfEnd}
+use Rattle.std.proofs.lemmas.List.{append-nil, append_assoc, length-append, map-append, take_min}
+use Rattle.thorin_executable.specs.Skeletons.{Listed, Named}
 use Rattle.thorin_errors.specs.Errors.{ErrorValue}
-use Rattle.thorin_c.specs.Skeletons.{paths_of, skeleton_named, IsFirst, ListsUnits}
-use Rattle.thorin_c.specs.Skeletons.{room_of, TellsOfEnd}
-use Rattle.thorin_c.specs.Packing.{TellsOfError}
-use Rattle.thorin_c.specs.Listing.{written_over}
-use Rattle.thorin_c.specs.declared.types.ThorinReport.{ThorinReport}
+use Rattle.thorin_c.specs.{declared.types.ThorinReport.ThorinReport, declared.units.Room.Room}
+use Rattle.thorin_c.specs.{Listing.written_over, Packing.TellsOfError, Skeletons.room_of}
 use Rattle.thorin_c.specs.declared.types.ThorinSkeleton.{ThorinSkeleton}
 use Rattle.thorin_c.specs.declared.units.FirstUnits.{FirstUnits}
-use Rattle.thorin_c.specs.declared.units.Room.{Room}
 
 -- ---- the first of a list, as far as there is room
 

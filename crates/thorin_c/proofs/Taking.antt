@@ -1,26 +1,22 @@
 -- Inputs taken one after the other.
-use Rattle.thorin.proofs.Terms.{ap, AreTaken, arith, bind-ok, Err, finish_test, get_or, inl, inr}
-use Rattle.thorin.proofs.Terms.{IsPackageOf, IsTakenAgain, IsWritten, length, length-map, List, map}
-use Rattle.thorin.proofs.Terms.{map_more, Ok, refl, start, State, sym, take, taken, taken_each}
-use Rattle.thorin.proofs.Terms.{true, units_in, [], ℕ, ◌+◌, ◌<◌, ◌∙◌, ◌∷◌, ◌≡◌, ◌≤◌, ◌⊎◌}
+use Rattle.thorin.proofs.Terms.{ap, AreTaken, arith, Err, [], ℕ, ◌+◌, ◌<◌, ◌∙◌, ◌∷◌, ◌≡◌, ◌≤◌, ◌⊎◌}
+use Rattle.thorin.proofs.Terms.{finish_test, inl, IsPackageOf, IsTakenAgain, length-map, taken_each}
+use Rattle.thorin.proofs.Terms.{bind-ok, get_or, IsWritten, length, List, map_more, start, units_in}
+use Rattle.thorin.proofs.Terms.{inr, map, Ok, refl, State, sym, take, taken, true}
 use Rattle.std.proofs.Common.{if◌then◌else◌}
-use Rattle.std.specs.Prelude.{◌≢◌, ℤ, pos}
+use Rattle.std.specs.Prelude.{pos, ℤ, ◌≢◌}
+use Rattle.thorin_c.specs.Packing.{ArePackedAgain, IsDifferingStatus, TellsRefused, TellsUnfinished}
+use Rattle.thorin_c.specs.Packing.{Accepts, bytes_of, IsFailure, IsPackage, RunsOutAfter, RunsOutAt}
+use Rattle.thorin_c.specs.Packing.{Differ, Leaves, Refuses, StopsAt}
 use Rattle.thorin_errors.specs.Errors.{error_of, NoOutputObjectCreated}
-use Rattle.thorin_errors.specs.Answers.{MemoryAside}
-use Rattle.thorin_errors.specs.declared.error.Error.{Error}
+use Rattle.thorin_errors.specs.{Answers.MemoryAside, declared.error.Error.Error}
 use Rattle.thorin.specs.Run.{RefusesToWrite}
 use Rattle.dwp_table.specs.declared.object.DebugTypeSignature.{DebugTypeSignature}
-use Rattle.thorin_c.specs.Errors.{Tells}
-use Rattle.thorin_c.specs.Listing.{written_over}
-use Rattle.thorin_c.specs.declared.packing.RefusedInput.{RefusedInput}
-use Rattle.thorin_c.specs.declared.types.ThorinReport.{ThorinReport}
-use Rattle.thorin_join.specs.Builder.{differing_in, targets_test}
-use Rattle.thorin_join.specs.Join.{Joins}
+use Rattle.thorin_c.specs.{declared.packing.RefusedInput.RefusedInput, Listing.written_over}
+use Rattle.thorin_c.specs.{declared.types.ThorinReport.ThorinReport, Errors.Tells}
+use Rattle.thorin_join.specs.{Builder.differing_in, Builder.targets_test, Join.Joins}
 use Rattle.thorin_again.specs.Own.{packs_again}
-use Rattle.thorin.proofs.Running.{taken-then, each-taken, join-append}
-use Rattle.thorin_c.specs.Packing.{bytes_of, Accepts, StopsAt, Leaves, IsFailure, IsDifferingStatus}
-use Rattle.thorin_c.specs.Packing.{TellsRefused, TellsUnfinished, Refuses, RunsOutAt, RunsOutAfter}
-use Rattle.thorin_c.specs.Packing.{IsPackage, ArePackedAgain, Differ}
+use Rattle.thorin.proofs.Running.{each-taken, join-append, taken-then}
 use Rattle.thorin_c.specs.declared.types.ThorinBytes.{ThorinBytes}
 use Rattle.thorin_errors.specs.declared.error.Error.TheVariants as errors
 

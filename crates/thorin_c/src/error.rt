@@ -2,8 +2,7 @@
 
 ghost use Rattle.std.specs.Prelude.{◌≡◌};
 ghost use Rattle.thorin_errors.specs.Errors.{error_of};
-ghost use Rattle.thorin_c.specs.Errors.{number_of, Tells};
-ghost use Rattle.thorin_c.specs.Packing.{TellsOfError};
+ghost use Rattle.thorin_c.specs.{Errors.number_of, Errors.Tells, Packing.TellsOfError};
 
 use crate::types::ThorinReport;
 use std::fmt::InlineText;

@@ -1,9 +1,8 @@
 //! The exports over a package that is open: they check their arguments and fill what the caller
 //! gave.
 
-ghost use Rattle.thorin_c.specs.Finding.{as_status, unit_found, row_found, lent_in, Fills};
-ghost use Rattle.thorin_c.specs.Listing.{count_in, Lists};
-ghost use Rattle.thorin_c.specs.Opening.{package_in};
+ghost use Rattle.thorin_c.specs.Finding.{as_status, Fills, lent_in, row_found, unit_found};
+ghost use Rattle.thorin_c.specs.{Listing.count_in, Listing.Lists, Opening.package_in};
 ghost use Rattle.thorin_c.specs.declared.opened.Lent.TheVariants.{Section, String};
 
 use crate::finding::{object_of, write};

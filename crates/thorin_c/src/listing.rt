@@ -1,10 +1,9 @@
 //! Listing the units of a package.
 
-ghost use Rattle.std.specs.Prelude.{◌≡◌, map};
-ghost use Rattle.dwp_index.specs.Entries.{units_left};
-ghost use Rattle.dwp_index.specs.Package.{package_of};
-ghost use Rattle.thorin_c.specs.Finding.{as_status, Fills};
-ghost use Rattle.thorin_c.specs.Listing.{kind_number, name_of, counted, count_in, written_over, Lists};
+ghost use Rattle.std.specs.Prelude.{map, ◌≡◌};
+ghost use Rattle.thorin_c.specs.Listing.{count_in, counted, kind_number, name_of, written_over};
+ghost use Rattle.dwp_index.specs.{Entries.units_left, Package.package_of};
+ghost use Rattle.thorin_c.specs.{Finding.as_status, Finding.Fills, Listing.Lists};
 
 use crate::inside::thorin_list_in;
 use crate::opening::placed;

@@ -1,13 +1,11 @@
 //! A package that is open: its sections, rows, units and names, and what is lent of them.
 
-ghost use Rattle.std.specs.Prelude.{◌≡◌, Ok};
+ghost use Rattle.std.specs.Prelude.{Ok, ◌≡◌};
+ghost use Rattle.dwp_index.specs.Package.{first_outside, found_counted, index_for, row_counted};
 ghost use Rattle.dwp_base.specs.Reading.{Answers};
-ghost use Rattle.dwp_index.specs.Contents.{content};
-ghost use Rattle.dwp_index.specs.Package.{index_for, found_counted, row_counted};
-ghost use Rattle.dwp_index.specs.Package.{row_bytes, first_outside};
-ghost use Rattle.thorin_c.specs.ByIndex.{row_listed};
-ghost use Rattle.thorin_c.specs.Finding.{of_object, lent_in};
-ghost use Rattle.dwp_index.specs.Entries.{units_left, entries_from};
+ghost use Rattle.dwp_index.specs.{Contents.content, Package.row_bytes};
+ghost use Rattle.thorin_c.specs.{ByIndex.row_listed, Finding.lent_in, Finding.of_object};
+ghost use Rattle.dwp_index.specs.Entries.{entries_from, units_left};
 ghost use Rattle.thorin_c.specs.OpenedFields.{row_held, unit_held};
 ghost use Rattle.thorin_c.specs.Opening.{package_in, sections_at};
 

@@ -1,12 +1,11 @@
 //! Where the sections of a package lie among its bytes.
 
-ghost use Rattle.std.specs.Prelude.{◌≡◌, pos, Err, Some, IfOk, IfErr, IfSome, find, slice_get};
+ghost use Rattle.std.specs.Prelude.{Err, find, IfErr, IfOk, IfSome, pos, slice_get, Some, ◌≡◌};
 ghost use Rattle.dwp_base.specs.Reading.{Answers};
-ghost use Rattle.dwp_elf_read.specs.View.{elf, section, bytes_of, file_bytes};
-ghost use Rattle.dwp_index.specs.Contents.{is_of_kind, used_bytes, content_among};
-ghost use Rattle.dwp_index.specs.Firsts.{first_in, found_in};
-ghost use Rattle.dwp_index.specs.Package.{package_of};
-ghost use Rattle.thorin_c.specs.Opening.{bytes_at, order_of, package_in, opened, IsPlaceIn, LieIn};
+ghost use Rattle.dwp_elf_read.specs.View.{bytes_of, elf, file_bytes, section};
+ghost use Rattle.dwp_index.specs.Contents.{content_among, is_of_kind, used_bytes};
+ghost use Rattle.dwp_index.specs.{Firsts.first_in, Firsts.found_in, Package.package_of};
+ghost use Rattle.thorin_c.specs.Opening.{bytes_at, IsPlaceIn, LieIn, opened, order_of, package_in};
 ghost use Rattle.thorin_c.specs.Finding.{as_status, Fills};
 
 use crate::opened::OpenPackage;

@@ -1,19 +1,16 @@
 //! Packing objects and packages.
 
-ghost use Rattle.std.specs.Prelude.{◌≡◌, ◌≢◌, ◌<◌, ◌≤◌, true, map, take, length, IfOk, IfErr, OnOk};
-ghost use Rattle.std.specs.Prelude.{pos, ◌⊎◌, if◌then◌else◌};
-ghost use Rattle.thorin_errors.specs.Errors.{error_of};
-ghost use Rattle.thorin_errors.specs.declared.error.Error.TheVariants.{Memory};
-ghost use Rattle.thorin_join.specs.Represents.{units_in};
-ghost use Rattle.thorin_join.specs.Join.{IsPackageOf};
-ghost use Rattle.thorin.specs.Run.{Writes};
-ghost use Rattle.thorin_c.specs.Errors.{Tells};
-ghost use Rattle.thorin_c.specs.Listing.{written_over};
-ghost use Rattle.thorin_c.specs.Packing.{TellsUnfinished, IsDifferingStatus, TellsOfDiffering};
+ghost use Rattle.std.specs.Prelude.{IfOk, map, take, true, if◌then◌else◌, ◌<◌, ◌≡◌, ◌≢◌, ◌≤◌, ◌⊎◌};
+ghost use Rattle.std.specs.Prelude.{IfErr, length, OnOk, pos};
+ghost use Rattle.thorin_c.specs.Packing.{IsFailure, IsPackage, RunsOutAt, TellsAlone, TellsOfError};
 ghost use Rattle.thorin_c.specs.Packing.{Accepts, ArePackedAgain, IsPackingStatus, TellsOfPackage};
-ghost use Rattle.thorin_c.specs.Packing.{TellsRefused, RunsOutAfter, TellsOfInput, TellsOfMemory};
-ghost use Rattle.thorin_c.specs.Packing.{IsPackage, IsFailure, RunsOutAt, TellsAlone, TellsOfError};
-ghost use Rattle.thorin_c.specs.Packing.{StopsAt, Packs, Needs, Refuses, Differ};
+ghost use Rattle.thorin_c.specs.Packing.{RunsOutAfter, TellsOfInput, TellsOfMemory, TellsRefused};
+ghost use Rattle.thorin_c.specs.Packing.{IsDifferingStatus, TellsOfDiffering, TellsUnfinished};
+ghost use Rattle.thorin_c.specs.Packing.{Differ, Needs, Packs, Refuses, StopsAt};
+ghost use Rattle.thorin_errors.specs.{declared.error.Error.TheVariants.Memory, Errors.error_of};
+ghost use Rattle.thorin_join.specs.{Join.IsPackageOf, Represents.units_in};
+ghost use Rattle.thorin.specs.Run.{Writes};
+ghost use Rattle.thorin_c.specs.{Errors.Tells, Listing.written_over};
 
 use crate::error::tell;
 use crate::session::NoFiles;

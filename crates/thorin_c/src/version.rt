@@ -1,8 +1,7 @@
 //! What the library is, and what its statuses mean.
 
-ghost use Rattle.std.specs.Prelude.{◌≡◌, length};
-ghost use Rattle.thorin_c.specs.Listing.{written_over};
-ghost use Rattle.thorin_c.specs.Statuses.{status_text};
+ghost use Rattle.std.specs.Prelude.{length, ◌≡◌};
+ghost use Rattle.thorin_c.specs.{Listing.written_over, Statuses.status_text};
 
 use crate::listing::write_over;
 use crate::status::{

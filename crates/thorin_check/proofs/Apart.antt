@@ -1,18 +1,16 @@
 -- Ranges that don't overlap, unless they are the same, and are read alike.
-use Rattle.thorin_check.proofs.Terms.{Abbrev, AllPairs, AreApart, AreApartIn, AreReadAlike, Bool}
-use Rattle.thorin_check.proofs.Terms.{Contains, Contribution, Err, HasRange, HasRanges, Index}
-use Rattle.thorin_check.proofs.Terms.{IsApart, IsLast, IsPermutation, IsSame, List, None, Ok}
-use Rattle.thorin_check.proofs.Terms.{Option, Ranges, ReadError, Result, SectionKind, Some}
-use Rattle.thorin_check.proofs.Terms.{UnitEntry, arith, below_more, by-bool, column_place}
-use Rattle.thorin_check.proofs.Terms.{contribution, false, get_or, get_or_default, inl, inr, length}
-use Rattle.thorin_check.proofs.Terms.{min, nat_eq, nat_le, nat_lt, nat_tests, not, range_in, refl}
-use Rattle.thorin_check.proofs.Terms.{row_in, same_Some, sym, tables_by, take, true, ℕ, ◌&&◌, ◌+◌}
-use Rattle.thorin_check.proofs.Terms.{◌-◌, ◌<◌, ◌^◌, ◌||◌, ◌∙◌, ◌≡◌, ◌≤◌, ◌⊎◌}
-use Rattle.std.proofs.lemmas.List.Elements.{All-more}
-use Rattle.std.proofs.lemmas.List.Sorted.{Contains-permutation}
-use Rattle.dwp_index.specs.Package.{Package, index_for}
-use Rattle.thorin_check.specs.Overlaps.{overlap, row_range, range_by_index, same_range, slot_range}
-use Rattle.thorin_check.specs.declared.overlaps.Placed.{Placed}
+use Rattle.thorin_check.proofs.Terms.{Abbrev, ℕ, ◌&&◌, ◌+◌, ◌-◌, ◌<◌, ◌^◌, ◌||◌, ◌∙◌, ◌≡◌, ◌≤◌, ◌⊎◌}
+use Rattle.thorin_check.proofs.Terms.{AreReadAlike, Contribution, get_or_default, IsPermutation, Ok}
+use Rattle.thorin_check.proofs.Terms.{AllPairs, AreApartIn, column_place, contribution, SectionKind}
+use Rattle.thorin_check.proofs.Terms.{below_more, HasRanges, Index, nat_tests, ReadError, UnitEntry}
+use Rattle.thorin_check.proofs.Terms.{by-bool, Err, IsApart, IsLast, IsSame, Option, Ranges, Result}
+use Rattle.thorin_check.proofs.Terms.{AreApart, Contains, HasRange, range_in, same_Some, tables_by}
+use Rattle.thorin_check.proofs.Terms.{arith, false, get_or, length, nat_eq, nat_le, nat_lt, row_in}
+use Rattle.thorin_check.proofs.Terms.{Bool, inl, inr, List, min, None, not, refl, Some, take, true}
+use Rattle.thorin_check.{proofs.Terms.sym, specs.declared.overlaps.Placed.Placed}
+use Rattle.std.proofs.{lemmas.List.Elements.All-more, lemmas.List.Sorted.Contains-permutation}
+use Rattle.dwp_index.specs.Package.{index_for, Package}
+use Rattle.thorin_check.specs.Overlaps.{overlap, range_by_index, row_range, same_range, slot_range}
 
 -- two ranges that are the same, or both absent
 pub one_range : (a b : Option Contribution) → same_range a b ≡ true → a ≡ b

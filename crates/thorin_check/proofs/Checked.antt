@@ -1,26 +1,24 @@
 -- What was told of the units that an executable names, and what was checked.
-use Rattle.thorin_check.proofs.Terms.{AreByRow, Bool, Bor, Err, Executables, FailsToRead, Failure}
-use Rattle.thorin_check.proofs.Terms.{FaultValue, Grows, Is, IsFault, IsOfPrinting, List, Listed}
-use Rattle.thorin_check.proofs.Terms.{Named, None, Offer, Ok, OnOk, Option, Outcome, PackageError}
-use Rattle.thorin_check.proofs.Terms.{Prints, Progress, Reading, Result, Some, Tells, TellsOr, Told}
-use Rattle.thorin_check.proofs.Terms.{UnitEntry, append-nil, append_assoc, arith, false}
-use Rattle.thorin_check.proofs.Terms.{fault_count, get_or, has_no_index, inl, inr, length}
-use Rattle.thorin_check.proofs.Terms.{nat_tests, none_grown, of_unit, refl, skeletons_by, subst}
-use Rattle.thorin_check.proofs.Terms.{suc, true, zero, ℕ, [], ◌++◌, ◌+◌, ◌<◌, ◌∷◌, ◌≡◌, ◌≢◌, ◌≤◌}
-use Rattle.dwp_index.specs.Package.{Package, FoundUnit, found, package_of}
-use Rattle.thorin_errors.specs.Answers.{MemoryAside}
-use Rattle.thorin_errors.specs.Errors.{ErrorValue, error_of}
-use Rattle.thorin_errors.specs.declared.error.Error.{Error}
-use Rattle.thorin_errors.specs.declared.error.Error.TheVariants.{Memory}
-use Rattle.thorin_check.specs.Faults.{IsBroken, TellsEnd, TellsListed, TellsNamed, bare_fault}
-use Rattle.thorin_check.specs.Faults.{long_bytes, long_size, longest_path, missing_faults}
-use Rattle.thorin_check.specs.Faults.{missing_text, room_of}
-use Rattle.thorin_check.proofs.Told.{told_as, told_then, stopped_behind, counted_from}
+use Rattle.thorin_check.proofs.Terms.{AreByRow, Bool, Is, [], ℕ, ◌++◌, ◌+◌, ◌<◌, ◌∷◌, ◌≡◌, ◌≢◌, ◌≤◌}
+use Rattle.thorin_check.proofs.Terms.{append_assoc, Grows, has_no_index, IsOfPrinting, PackageError}
+use Rattle.thorin_check.proofs.Terms.{Executables, FailsToRead, fault_count, Progress, skeletons_by}
+use Rattle.thorin_check.proofs.Terms.{append-nil, Bor, FaultValue, nat_tests, none_grown, UnitEntry}
+use Rattle.thorin_check.proofs.Terms.{arith, false, List, None, OnOk, refl, Some, subst, Told, true}
+use Rattle.thorin_check.proofs.Terms.{Failure, IsFault, Listed, of_unit, Outcome, Reading, TellsOr}
+use Rattle.thorin_check.proofs.Terms.{get_or, length, Named, Offer, Option, Prints, Result, Tells}
+use Rattle.thorin_check.proofs.Terms.{Err, inl, inr, Ok, suc, zero}
+use Rattle.thorin_check.specs.Faults.{longest_path, missing_faults, missing_text, TellsListed}
+use Rattle.thorin_check.specs.Faults.{bare_fault, IsBroken, long_bytes, long_size, TellsNamed}
+use Rattle.thorin_check.specs.Faults.{room_of, TellsEnd}
+use Rattle.thorin_check.specs.Checking.{ChecksIndexed, IsOfChecking, TellsExecutable, TellsPackage}
+use Rattle.thorin_check.specs.Checking.{Checks, FailsOne, Finishes, IsOfReading}
+use Rattle.dwp_index.specs.Package.{found, FoundUnit, Package, package_of}
+use Rattle.thorin_errors.specs.{declared.error.Error.Error, declared.error.Error.TheVariants.Memory}
+use Rattle.thorin_errors.specs.{Answers.MemoryAside, Errors.error_of, Errors.ErrorValue}
+use Rattle.thorin_check.proofs.Told.{counted_from, stopped_behind, told_as, told_then}
 use Rattle.std.specs.declared.io.Error.{Error as IoError}
 use Rattle.std.proofs.KnownBytes.{Appends-trans, Keeps-refl}
-use Rattle.thorin_check.specs.Checking.{Checks, ChecksIndexed, FailsOne, Finishes, IsOfChecking}
-use Rattle.thorin_check.specs.Checking.{IsOfReading, TellsExecutable, TellsPackage}
-use Rattle.thorin_check.proofs.Sound.{no_fault_told, no_fault, some_fault}
+use Rattle.thorin_check.proofs.Sound.{no_fault, no_fault_told, some_fault}
 use Rattle.thorin_print.specs.declared.output.Failure.TheVariants as failures
 
 module _ (executable : List ℕ) (named : Named)

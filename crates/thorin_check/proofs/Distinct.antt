@@ -1,24 +1,23 @@
 -- Units that are told of, one of each range of string offsets.
-use Rattle.thorin_check.proofs.Terms.{All, AllPairs, AreApart, Bool, DwarfObject, Err, FaultValue}
-use Rattle.thorin_check.proofs.Terms.{ForEach, Global, IfOk, IsGathered, IsGatheredIn, IsOfUnit}
-use Rattle.thorin_check.proofs.Terms.{IsPermutation, IsSeen, IsTextOf, List, None, Ok, OnOk, Option}
-use Rattle.thorin_check.proofs.Terms.{Outcome, PackageError, Progress, Result, Some, String}
-use Rattle.thorin_check.proofs.Terms.{StringRange, Tells, TellsSeen, TellsText, Told, UnitEntry}
-use Rattle.thorin_check.proofs.Terms.{arith, contribution_kinds, false, get_or, length, nat_eq}
-use Rattle.thorin_check.proofs.Terms.{nat_tests, refl, same-ok, same_Some, sym, take, take_all, ℕ}
-use Rattle.thorin_check.proofs.Terms.{[], ◌&&◌, ◌++◌, ◌+◌, ◌<◌, ◌∙◌, ◌∷◌, ◌≡◌, ◌≤◌}
-use Rattle.std.proofs.lemmas.List.Elements.{All-contains, All-get_or, All-more, All-nil, All-push}
-use Rattle.std.proofs.lemmas.List.Elements.{All-weaker, Contains-append_left, Contains-push}
+use Rattle.thorin_check.proofs.Terms.{All, Bool, [], ℕ, ◌&&◌, ◌++◌, ◌+◌, ◌<◌, ◌∙◌, ◌∷◌, ◌≡◌, ◌≤◌}
+use Rattle.thorin_check.proofs.Terms.{contribution_kinds, IsGatheredIn, IsPermutation, PackageError}
+use Rattle.thorin_check.proofs.Terms.{AllPairs, ForEach, nat_tests, same_Some, TellsText, UnitEntry}
+use Rattle.thorin_check.proofs.Terms.{AreApart, IsOfUnit, IsTextOf, Ok, Outcome, Progress, take_all}
+use Rattle.thorin_check.proofs.Terms.{get_or, Global, IfOk, IsSeen, Option, Result, same-ok, String}
+use Rattle.thorin_check.proofs.Terms.{DwarfObject, FaultValue, IsGathered, StringRange, TellsSeen}
+use Rattle.thorin_check.proofs.Terms.{arith, false, length, List, nat_eq, None, OnOk, Some, Tells}
+use Rattle.thorin_check.proofs.Terms.{Err, refl, sym, take, Told}
+use Rattle.std.proofs.lemmas.List.Elements.{All-get_or, All-more, All-nil, All-push, All-weaker}
+use Rattle.std.proofs.lemmas.List.Elements.{All-contains, Contains-append_left, Contains-push}
 use Rattle.std.proofs.lemmas.List.Quantifiers.{all_pairs_push}
 use Rattle.std.proofs.lemmas.List.Sorted.{Contains-permutation}
-use Rattle.dwp_index.specs.Package.{Package, FoundUnit, found}
-use Rattle.thorin_check.specs.Checking.{TellsStringsOfAll, TellsSlot, TellsSlots, TellsUnits}
-use Rattle.thorin_check.specs.Gathered.{TellsListed, Listed, GoesOn}
-use Rattle.thorin_check.specs.Faults.{TellsStringsOf, TellsUnit}
-use Rattle.thorin_check.specs.Strings.{number_of, IsBehind, HasOffsets, ShareNone, IsRangeOfOne}
-use Rattle.thorin_check.specs.declared.units.Seen.{Seen}
+use Rattle.dwp_index.specs.Package.{found, FoundUnit, Package}
+use Rattle.thorin_check.specs.Checking.{TellsSlot, TellsSlots, TellsStringsOfAll, TellsUnits}
+use Rattle.thorin_check.specs.Gathered.{GoesOn, Listed, TellsListed}
+use Rattle.thorin_check.specs.{declared.units.Seen.Seen, Faults.TellsStringsOf, Faults.TellsUnit}
+use Rattle.thorin_check.specs.Strings.{HasOffsets, IsBehind, IsRangeOfOne, number_of, ShareNone}
 use Rattle.thorin_check.proofs.SharedStrings.{has_strings}
-use Rattle.thorin_check.proofs.Told.{told_as, tells_as, in_turn, for_each_more, told_next}
+use Rattle.thorin_check.proofs.Told.{for_each_more, in_turn, tells_as, told_as, told_next}
 
 among_more : (pack : Package) (objects more : List DwarfObject) (range : StringRange)
     → IsRangeOfOne pack objects range → IsRangeOfOne pack (objects ++ more) range

@@ -1,24 +1,23 @@
 -- The unit that a look-up finds is that of a row, whose ranges lie inside their sections; and the
 -- identifiers that units' own bytes give.
-use Rattle.thorin_check.proofs.Terms.{All, Bool, Contribution, DebugTypeSignature, DwarfObject}
-use Rattle.thorin_check.proofs.Terms.{Endianness, Err, Index, IsAmong, IsTrue, List, None, Ok}
-use Rattle.thorin_check.proofs.Terms.{Option, PlaceRead, Ranges, ReadError, Result, SectionKind}
-use Rattle.thorin_check.proofs.Terms.{Sections, Some, TypeUnit, ap, arith, bind-was, by-bool}
-use Rattle.thorin_check.proofs.Terms.{column_of, column_place, content, contribution_kinds}
-use Rattle.thorin_check.proofs.Terms.{drop-take, false, find, length, nat_eq, nat_tests, own_by}
-use Rattle.thorin_check.proofs.Terms.{own_of, range_in, refl, result_ok, row_in, same-ok, same_Some}
-use Rattle.thorin_check.proofs.Terms.{sym, true, ℕ, [], ◌++◌, ◌+◌, ◌-◌, ◌∙◌, ◌∷◌, ◌≡◌, ◌≤◌}
+use Rattle.thorin_check.proofs.Terms.{All, Bool, Err, Ok, [], ℕ, ◌++◌, ◌+◌, ◌-◌, ◌∙◌, ◌∷◌, ◌≡◌, ◌≤◌}
+use Rattle.thorin_check.proofs.Terms.{Contribution, contribution_kinds, DebugTypeSignature, IsAmong}
+use Rattle.thorin_check.proofs.Terms.{column_place, DwarfObject, Endianness, PlaceRead, SectionKind}
+use Rattle.thorin_check.proofs.Terms.{column_of, drop-take, IsTrue, nat_tests, ReadError, result_ok}
+use Rattle.thorin_check.proofs.Terms.{content, length, nat_eq, Option, Ranges, Result, same-ok, sym}
+use Rattle.thorin_check.proofs.Terms.{arith, false, Index, List, None, own_by, own_of, row_in, Some}
+use Rattle.thorin_check.proofs.Terms.{bind-was, by-bool, range_in, same_Some, Sections, TypeUnit}
+use Rattle.dwp_index.specs.Package.{encoding_in, first_outside, found_counted, lies_inside, Package}
+use Rattle.dwp_index.specs.Package.{as_error, found_by, index_for, kind_of, place_of, row_bytes}
+use Rattle.dwp_index.specs.Package.{all_inside, FoundUnit, is_outside, unit_at_row, unit_found}
+use Rattle.dwp_index.specs.Package.{found, part_of, unit_in}
+use Rattle.thorin_check.specs.Remembered.{bytes_at, is_in_types, IsReadIn, numbers_of, section_by}
+use Rattle.thorin_check.specs.Remembered.{own_at, place_in, said_of}
+use Rattle.thorin_check.proofs.{NamedRows.of_one_kind, Terms.ap, Terms.find, Terms.refl, Terms.true}
 use Rattle.dwp_base.proofs.EveryKind.{each, HoldsAll}
 use Rattle.dwp_index.specs.Finding.{LiesInside, own_bytes, own_place, unit_of}
-use Rattle.dwp_index.specs.Package.{FoundUnit, Package, all_inside, as_error, encoding_in}
-use Rattle.dwp_index.specs.Package.{first_outside, found, found_by, found_counted, index_for}
-use Rattle.dwp_index.specs.Package.{is_outside, kind_of, lies_inside, part_of, place_of, row_bytes}
-use Rattle.dwp_index.specs.Package.{unit_at_row, unit_found, unit_in}
-use Rattle.dwp_table.specs.Objects.{identifier_of}
-use Rattle.dwp_table.specs.Probing.{found_row}
-use Rattle.std.specs.BTreeMap.{insert_entry}
-use Rattle.std.specs.Map.{values_of}
-use Rattle.std.specs.declared.cmp.Ordering.{Ordering}
+use Rattle.dwp_table.specs.{Objects.identifier_of, Probing.found_row}
+use Rattle.std.specs.{BTreeMap.insert_entry, declared.cmp.Ordering.Ordering, Map.values_of}
 use Rattle.std.proofs.lemmas.Map.Views.{All-values-insert_entry}
 use Rattle.dwp_bytes.specs.Input.{section}
 use Rattle.dwp_units.specs.Units.{Unit as Header, units}
@@ -26,11 +25,7 @@ use Rattle.dwp_units.specs.declared.unit.UnitSection.{UnitSection}
 use Rattle.dwp_units.specs.declared.unit.UnitSection.TheVariants.{Info, Types}
 use Rattle.thorin_find.specs.Names.{first_of, header_in}
 use Rattle.thorin_identity.specs.Identity.{identity}
-use Rattle.thorin_check.specs.Faults.{is_of}
-use Rattle.thorin_check.specs.Remembered.{IsReadIn, bytes_at, is_in_types, numbers_of, own_at}
-use Rattle.thorin_check.specs.Remembered.{place_in, said_of, section_by}
-use Rattle.thorin_check.specs.declared.abbreviations.UnitPlace.{UnitPlace}
-use Rattle.thorin_check.proofs.NamedRows.{of_one_kind}
+use Rattle.thorin_check.specs.{declared.abbreviations.UnitPlace.UnitPlace, Faults.is_of}
 use Rattle.dwp_base.specs.declared.section.SectionKind.TheVariants as kinds
 use Rattle.dwp_index.specs.declared.error.PackageError.TheVariants as errors
 use Rattle.thorin_check.specs.contracts.abbreviations.UnitPlacePartialEq.TheImpl as places

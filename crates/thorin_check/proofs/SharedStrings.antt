@@ -1,28 +1,26 @@
 -- Which strings end, as the last zero byte of all tells, and the strings of units, by the string
 -- offsets that they share.
-use Rattle.thorin_check.proofs.Terms.{AllEnd, Contribution, DwarfObject, Endianness, Err, HasEnds}
-use Rattle.thorin_check.proofs.Terms.{IsGathered, IsGatheredIn, IsOfUnit, IsReach, IsTrue, List}
-use Rattle.thorin_check.proofs.Terms.{None, Ok, Option, PackageError, Result, Some, Str, StrOffsets}
-use Rattle.thorin_check.proofs.Terms.{StringRange, ap, arith, content, drop, entry_in, eqb, false}
-use Rattle.thorin_check.proofs.Terms.{get_or-drop, get_or_default, inl, inr, is_inside, length}
-use Rattle.thorin_check.proofs.Terms.{length-drop, list_any, nat_tests, option_map, range_in, refl}
-use Rattle.thorin_check.proofs.Terms.{result_err, same_Some, string_at, string_in, string_of, sym}
-use Rattle.thorin_check.proofs.Terms.{true, ℕ, [], ◌++◌, ◌+◌, ◌-◌, ◌<◌, ◌∙◌, ◌∷◌, ◌≡◌, ◌≤◌}
+use Rattle.thorin_check.proofs.Terms.{AllEnd, Err, [], ℕ, ◌++◌, ◌+◌, ◌-◌, ◌<◌, ◌∙◌, ◌∷◌, ◌≡◌, ◌≤◌}
+use Rattle.thorin_check.proofs.Terms.{Contribution, get_or_default, IsGatheredIn, PackageError, Str}
+use Rattle.thorin_check.proofs.Terms.{DwarfObject, get_or-drop, is_inside, length-drop, StringRange}
+use Rattle.thorin_check.proofs.Terms.{IsTrue, nat_tests, same_Some, string_at, string_in, string_of}
+use Rattle.thorin_check.proofs.Terms.{entry_in, eqb, HasEnds, IsOfUnit, IsReach, list_any, range_in}
+use Rattle.thorin_check.proofs.Terms.{arith, content, false, length, List, None, Ok, Option, Result}
+use Rattle.thorin_check.proofs.Terms.{Endianness, IsGathered, option_map, result_err, StrOffsets}
+use Rattle.thorin_check.proofs.Terms.{ap, drop, inl, inr, refl, Some, sym, true}
 use Rattle.std.specs.Option.{option_eq}
 use Rattle.std.proofs.lemmas.List.Folds.{list_any_at, list_any_none}
-use Rattle.memchr.specs.Find.{IsLastByte, Passes, Nowhere, is_byte}
-use Rattle.dwp_bytes.specs.StringOffsets.{entry_count}
-use Rattle.dwp_bytes.specs.declared.encoding.Encoding.{Encoding}
-use Rattle.dwp_index.specs.Package.{Package, FoundUnit, unit_in, found, row_bytes}
+use Rattle.memchr.specs.Find.{is_byte, IsLastByte, Nowhere, Passes}
+use Rattle.dwp_bytes.specs.{declared.encoding.Encoding.Encoding, StringOffsets.entry_count}
+use Rattle.dwp_index.specs.Package.{found, FoundUnit, Package, row_bytes, unit_in}
 use Rattle.dwp_index.proofs.PackageLookUp.{by_row}
-use Rattle.thorin_check.specs.declared.strings.Ends.{Ends}
+use Rattle.thorin_check.{proofs.Own.row_of_found, specs.declared.strings.Ends.Ends}
 use Rattle.std.proofs.lemmas.List.Elements.{All-nil, All-push, Contains-append_left, Contains-push}
 use Rattle.dwp_bytes.specs.declared.encoding.Format.{Format}
 use Rattle.dwp_bytes.specs.declared.encoding.Format.TheVariants.{Dwarf32, Dwarf64}
 use Rattle.thorin_check.specs.Strings.{HasStringsIn, HasStringsOf, IsRangeOfOne, range_by, range_of}
 use Rattle.thorin_check.specs.Gathered.{Adds, AllEndIn, Gathered, Gathers, Listed, Lists, string_by}
 use Rattle.thorin_check.specs.declared.strings.UnreadStrings.{UnreadStrings}
-use Rattle.thorin_check.proofs.Own.{row_of_found}
 use Rattle.thorin_check.specs.contracts.strings.StringRangePartialEq.TheImpl as ranges
 
 module _ (strings : List ℕ) where

@@ -1,31 +1,29 @@
 -- Where no fault was told, the package is sound.
-use Rattle.thorin_check.proofs.Terms.{All, AllEnd, AreApart, AreApartIn, AreByRow, Bool, Bor}
-use Rattle.thorin_check.proofs.Terms.{Contains, DwarfObject, Err, Executables, FaultValue, ForEach}
-use Rattle.thorin_check.proofs.Terms.{InTurn, Index, Is, List, Listed, Named, None, Offer, Ok}
-use Rattle.thorin_check.proofs.Terms.{Option, PackageError, ReadError, Reading, Result, SectionKind}
-use Rattle.thorin_check.proofs.Terms.{Some, UnitEntry, append-nil, arith, codes, column_faults}
-use Rattle.thorin_check.proofs.Terms.{contribution_kinds, entry_in, false, fault_count, flat_map}
-use Rattle.thorin_check.proofs.Terms.{get_or, inl, inr, lacks_column, length, lit<, map, min}
-use Rattle.thorin_check.proofs.Terms.{mixed_versions, nat_eq, nat_tests, own_of, refl, result_err}
-use Rattle.thorin_check.proofs.Terms.{same_Some, section_faults, skeletons_by, string_count}
-use Rattle.thorin_check.proofs.Terms.{string_in, string_of, subst, sym, true, versions_faults, ℕ}
-use Rattle.thorin_check.proofs.Terms.{[], ◌++◌, ◌-◌, ◌<◌, ◌^◌, ◌∙◌, ◌∷◌, ◌≡◌, ◌≢◌, ◌≤◌, ◌⊎◌}
-use Rattle.std.proofs.lemmas.List.Elements.{All-nil, All-cons, All-weaker, All-contains}
+use Rattle.thorin_check.proofs.Terms.{[], lit<, ◌++◌, ◌-◌, ◌<◌, ◌^◌, ◌∙◌, ◌∷◌, ◌≡◌, ◌≢◌, ◌≤◌, ◌⊎◌}
+use Rattle.thorin_check.proofs.Terms.{All, AllEnd, AreApart, AreApartIn, AreByRow, Bool, Bor, Is, ℕ}
+use Rattle.thorin_check.proofs.Terms.{Contains, contribution_kinds, mixed_versions, versions_faults}
+use Rattle.thorin_check.proofs.Terms.{column_faults, lacks_column, Ok, PackageError, section_faults}
+use Rattle.thorin_check.proofs.Terms.{DwarfObject, Executables, ForEach, skeletons_by, string_count}
+use Rattle.thorin_check.proofs.Terms.{InTurn, nat_tests, ReadError, same_Some, string_in, UnitEntry}
+use Rattle.thorin_check.proofs.Terms.{entry_in, flat_map, Index, Listed, Option, Reading, string_of}
+use Rattle.thorin_check.proofs.Terms.{append-nil, fault_count, FaultValue, result_err, SectionKind}
+use Rattle.thorin_check.proofs.Terms.{arith, get_or, length, Named, nat_eq, Offer, own_of, Result}
+use Rattle.thorin_check.proofs.Terms.{codes, Err, false, inl, List, None, refl, Some, subst, true}
+use Rattle.std.proofs.lemmas.List.Sorted.{All-permutation, Contains-permutation, length_permutation}
+use Rattle.std.proofs.lemmas.List.Sorted.{IsPermutation-sym}
+use Rattle.thorin_check.specs.Checking.{TellsExecutable, TellsExecutables, TellsStringsOfAll}
+use Rattle.thorin_check.specs.Checking.{status_of, TellsPackage, TellsSlot, TellsSlots}
+use Rattle.thorin_check.specs.Faults.{TellsItself, TellsListed, TellsLooked, TellsRowsOf, TellsUnit}
+use Rattle.thorin_check.specs.Faults.{missing_faults, TellsNumbered, TellsStrings, TellsStringsOf}
+use Rattle.thorin_check.specs.Faults.{strings_of, TellsFound, TellsInRow, TellsNamed, TellsString}
+use Rattle.thorin_check.specs.Faults.{is_bare, IsUnread, room_of, row_fault, TellsEnd, TellsOwn}
+use Rattle.thorin_check.proofs.{Own.row_of_found, SharedStrings.all_ends, SharedStrings.range_ends}
+use Rattle.thorin_check.proofs.{Own.own_once, Terms.inr, Terms.map, Terms.min, Terms.sym}
+use Rattle.std.proofs.lemmas.List.Elements.{All-cons, All-contains, All-nil, All-weaker}
 use Rattle.std.proofs.lemmas.List.FromFn.{get_or-map-range_with_len, length-map-range_with_len}
-use Rattle.std.proofs.lemmas.List.Sorted.{All-permutation, Contains-permutation, IsPermutation-sym}
-use Rattle.std.proofs.lemmas.List.Sorted.{length_permutation}
-use Rattle.dwp_index.specs.Package.{Package, FoundUnit, found}
-use Rattle.thorin_check.specs.Checking.{TellsExecutable, TellsExecutables, TellsPackage, TellsSlot}
-use Rattle.thorin_check.specs.Checking.{TellsSlots, TellsStringsOfAll, status_of}
-use Rattle.thorin_check.specs.Sound.{slots, IsSoundUnit, AreNamed, NameOnce, HasUnitsOf, IsSound}
-use Rattle.thorin_check.specs.Faults.{IsUnread, TellsEnd, TellsFound, TellsInRow, TellsItself}
-use Rattle.thorin_check.specs.Faults.{TellsListed, TellsLooked, TellsNamed, TellsNumbered, TellsOwn}
-use Rattle.thorin_check.specs.Faults.{TellsRowsOf, TellsString, TellsStrings, TellsStringsOf}
-use Rattle.thorin_check.specs.Faults.{TellsUnit, is_bare, missing_faults, room_of, row_end}
-use Rattle.thorin_check.specs.Faults.{row_fault, strings_of}
-use Rattle.thorin_check.specs.Strings.{HasStringsOf}
-use Rattle.thorin_check.proofs.SharedStrings.{range_ends, all_ends}
-use Rattle.thorin_check.proofs.Own.{own_once, row_of_found}
+use Rattle.dwp_index.specs.Package.{found, FoundUnit, Package}
+use Rattle.thorin_check.specs.Sound.{AreNamed, HasUnitsOf, IsSound, IsSoundUnit, NameOnce, slots}
+use Rattle.thorin_check.specs.{Faults.row_end, Strings.HasStringsOf}
 use Rattle.dwp_base.specs.declared.section.SectionKind.TheVariants as kinds
 use Rattle.dwp_index.specs.declared.error.PackageError.TheVariants as errors
 

@@ -1,22 +1,21 @@
 -- Faults that were told.
-use Rattle.thorin_check.proofs.Terms.{Bool, DwarfObject, Err, Failure, FaultValue, ForEach, Global}
-use Rattle.thorin_check.proofs.Terms.{Grows, IfOk, InTurn, IsFault, IsOfPrinting, IsSomeText}
-use Rattle.thorin_check.proofs.Terms.{IsTextOf, IsUnreadText, List, None, Ok, Option, Outcome}
-use Rattle.thorin_check.proofs.Terms.{PackageError, Prints, Progress, ReadError, Result, Some}
-use Rattle.thorin_check.proofs.Terms.{String, Tells, TellsOr, TellsText, TellsWhat, Told, UnitEntry}
-use Rattle.thorin_check.proofs.Terms.{append-nil, append_assoc, arith, codes, counted_on, decimal}
-use Rattle.thorin_check.proofs.Terms.{false, fault_text, get_or, grown, inl, length, min}
-use Rattle.thorin_check.proofs.Terms.{of_executable, of_package, of_unit, own_of, refl, result_err}
-use Rattle.thorin_check.proofs.Terms.{rules, string_bytes, sym, take, take_all, take_more, true, ℕ}
-use Rattle.thorin_check.proofs.Terms.{[], ◌++◌, ◌+◌, ◌-◌, ◌<◌, ◌^◌, ◌∙◌, ◌∷◌, ◌≡◌, ◌≢◌, ◌≤◌}
+use Rattle.thorin_check.proofs.Terms.{Err, [], ℕ, ◌++◌, ◌+◌, ◌-◌, ◌<◌, ◌^◌, ◌∙◌, ◌∷◌, ◌≡◌, ◌≢◌, ◌≤◌}
+use Rattle.thorin_check.proofs.Terms.{Bool, IsOfPrinting, IsUnreadText, of_executable, PackageError}
+use Rattle.thorin_check.proofs.Terms.{append_assoc, DwarfObject, FaultValue, IsTextOf, string_bytes}
+use Rattle.thorin_check.proofs.Terms.{Grows, ReadError, result_err, TellsText, TellsWhat, UnitEntry}
+use Rattle.thorin_check.proofs.Terms.{Failure, ForEach, inl, IsFault, Progress, take_all, take_more}
+use Rattle.thorin_check.proofs.Terms.{codes, false, grown, IfOk, List, min, None, rules, Some, Told}
+use Rattle.thorin_check.proofs.Terms.{arith, get_or, length, own_of, Prints, Result, String, Tells}
+use Rattle.thorin_check.proofs.Terms.{append-nil, counted_on, fault_text, IsSomeText, of_package}
+use Rattle.thorin_check.proofs.Terms.{decimal, Global, InTurn, of_unit, Option, Outcome, TellsOr}
+use Rattle.thorin_check.proofs.Terms.{Ok, refl, sym, take, true}
+use Rattle.thorin_check.specs.Faults.{TellsItself, TellsString, TellsStrings, TellsStringsOf}
+use Rattle.thorin_check.specs.Faults.{IsBroken, string_text, TellsFound, TellsOwn, TellsUnit}
 use Rattle.std.proofs.KnownBytes.{Appends-nil, Appends-trans}
 use Rattle.std.proofs.lemmas.Grind.{flat_map-append}
-use Rattle.thorin_print.specs.declared.form.Form.{Form}
-use Rattle.dwp_index.specs.Package.{Package, FoundUnit, found}
-use Rattle.thorin_check.specs.Faults.{IsBroken, TellsFound, TellsItself, TellsOwn, TellsString}
-use Rattle.thorin_check.specs.Faults.{TellsStrings, TellsStringsOf, TellsUnit, is_bare, string_text}
-use Rattle.thorin_check.specs.Overlaps.{IsClash}
-use Rattle.thorin_print.specs.Shown.{shown}
+use Rattle.thorin_print.specs.{declared.form.Form.Form, Shown.shown}
+use Rattle.dwp_index.specs.Package.{found, FoundUnit, Package}
+use Rattle.thorin_check.specs.{Faults.is_bare, Overlaps.IsClash}
 use Rattle.thorin_words.specs.Printed.{printed}
 
 -- ---- how many

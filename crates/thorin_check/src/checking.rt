@@ -1,9 +1,8 @@
 //! `thorin check`.
 
+ghost use Rattle.thorin_check.specs.Checking.{ChecksIndexed, Finishes, IsOfChecking, TellsPackage};
 ghost use Rattle.std.specs.Prelude.{string_bytes};
-ghost use Rattle.thorin_check.specs.Apart.{AreApartOr};
-ghost use Rattle.thorin_check.specs.Checking.{TellsPackage, IsOfChecking, Finishes, ChecksIndexed};
-ghost use Rattle.thorin_check.specs.Checking.{Checks};
+ghost use Rattle.thorin_check.specs.{Apart.AreApartOr, Checking.Checks};
 ghost use Rattle.thorin_find.specs.Listing.{AreByRow};
 ghost use Rattle.thorin_check.specs.Telling.{so_far, TellsOr};
 

@@ -1,15 +1,14 @@
 //! The units that executables name, in `thorin check`.
 
-ghost use Rattle.std.specs.Prelude.{◌≡◌, ◌≢◌, ◌<◌, ◌≤◌, ◌+◌, true, false, length, IfOk, OnOk};
+ghost use Rattle.std.specs.Prelude.{false, IfOk, length, OnOk, true, ◌+◌, ◌<◌, ◌≡◌, ◌≢◌, ◌≤◌};
 ghost use Rattle.std.specs.Prelude.{string_bytes};
+ghost use Rattle.thorin_check.specs.Faults.{longest_path, missing_faults, missing_text, TellsNamed};
 ghost use Rattle.dwp_index.specs.Package.{found};
 ghost use Rattle.thorin_errors.specs.declared.error.Error.TheVariants.{Memory};
 ghost use Rattle.thorin_check.specs.Checking.{IsOfReading, TellsExecutable};
-ghost use Rattle.thorin_check.specs.Faults.{TellsNamed, missing_text, missing_faults, IsBroken};
-ghost use Rattle.thorin_check.specs.Faults.{longest_path, long_size};
-ghost use Rattle.thorin_check.specs.Rendering.{of_executable};
+ghost use Rattle.thorin_check.specs.{Faults.IsBroken, Faults.long_size, Rendering.of_executable};
 ghost use Rattle.thorin_print.specs.Shown.{shown};
-ghost use Rattle.thorin_check.specs.Telling.{so_far, Tells, TellsOr, Is, IsFault};
+ghost use Rattle.thorin_check.specs.Telling.{Is, IsFault, so_far, Tells, TellsOr};
 
 use crate::faults::{Fault, Faults, some, tell, tell_fault};
 use bumpalo::Bump;

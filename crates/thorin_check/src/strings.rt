@@ -1,17 +1,14 @@
 //! The strings of a package's units, in `thorin check`: which of them end.
 
-ghost use Rattle.std.specs.Prelude.{◌≡◌, true, Some, Ok, OnOk};
-ghost use Rattle.std.specs.Result.{result_err};
+ghost use Rattle.std.specs.Prelude.{Ok, OnOk, Some, true, ◌≡◌};
+ghost use Rattle.std.specs.{List.All, Result.result_err};
 ghost use Rattle.dwp_index.specs.Contents.{content};
-ghost use Rattle.dwp_index.specs.Package.{row_bytes, Package, found};
-ghost use Rattle.thorin_check.specs.Ends.{HasEnds, AllEnd};
+ghost use Rattle.dwp_index.specs.Package.{found, Package, row_bytes};
+ghost use Rattle.thorin_check.specs.{Faults.TellsString, Faults.TellsStringsOf, Texts.IsTextOf};
+ghost use Rattle.thorin_check.specs.{Ends.AllEnd, Ends.HasEnds, Telling.so_far, Telling.Tells};
 ghost use Rattle.thorin_find.specs.Finding.{string_of};
-ghost use Rattle.std.specs.List.{All};
-ghost use Rattle.thorin_check.specs.Strings.{range_of, is_wide, IsBehind};
-ghost use Rattle.thorin_check.specs.Gathered.{IsOfUnit, Gathers, Adds, TellsListed};
-ghost use Rattle.thorin_check.specs.Faults.{TellsStringsOf, TellsString};
-ghost use Rattle.thorin_check.specs.Texts.{IsTextOf};
-ghost use Rattle.thorin_check.specs.Telling.{so_far, Tells};
+ghost use Rattle.thorin_check.specs.Strings.{is_wide, IsBehind, range_of};
+ghost use Rattle.thorin_check.specs.Gathered.{Adds, Gathers, IsOfUnit, TellsListed};
 ghost use Rattle.dwp_table.specs.declared.object.DwarfObject.{DwarfObject};
 
 use crate::faults::{Faults, some, tell};

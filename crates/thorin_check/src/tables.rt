@@ -1,14 +1,12 @@
 //! The sections of abbreviations and of strings, the indexes and their rows, in `thorin check`.
 
-ghost use Rattle.std.specs.Prelude.{◌≡◌, option_copied, ◌<◌, ◌≤◌};
-ghost use Rattle.thorin_check.specs.Checking.{TellsTables};
-ghost use Rattle.thorin_check.specs.Faults.{TellsRowsOf, is_next, row_end, row_faults};
-ghost use Rattle.thorin_check.specs.Telling.{so_far, Tells, Is};
+ghost use Rattle.std.specs.Prelude.{option_copied, ◌<◌, ◌≡◌, ◌≤◌};
+ghost use Rattle.thorin_check.specs.Indexes.{mixed_versions, section_faults, versions_faults};
+ghost use Rattle.thorin_check.specs.{Checking.TellsTables, Indexes.lacks_column, Telling.so_far};
+ghost use Rattle.thorin_check.specs.{Indexes.has_column, Telling.Is, Telling.Tells};
+ghost use Rattle.thorin_check.specs.Faults.{is_next, row_end, row_faults, TellsRowsOf};
 ghost use Rattle.thorin_find.specs.Listing.{AreByRow, place_of_line};
-ghost use Rattle.thorin_check.specs.Indexes.{mixed_versions, versions_faults, has_column};
-ghost use Rattle.thorin_check.specs.Indexes.{lacks_column, section_faults};
-ghost use Rattle.std.specs.List.Sorted.{IsSortedByKey};
-ghost use Rattle.std.specs.Ordering.{nat_cmp};
+ghost use Rattle.std.specs.{List.Sorted.IsSortedByKey, Ordering.nat_cmp};
 
 use crate::checking::IndexedPackage;
 use crate::faults::{Faults, tell_of_package};

@@ -1,16 +1,14 @@
 //! The units of a package, in `thorin check`: each by itself, and two whose ranges clash.
 
-ghost use Rattle.std.specs.Prelude.{◌≡◌, if◌then◌else◌, None, Some, Ok, IfOk, OnOk, string_bytes};
+ghost use Rattle.std.specs.Prelude.{IfOk, None, Ok, OnOk, Some, string_bytes, if◌then◌else◌, ◌≡◌};
 ghost use Rattle.std.specs.Prelude.{IfSome};
+ghost use Rattle.thorin_check.specs.Overlaps.{begins_inside, overlap_text, same_range, tables_text};
+ghost use Rattle.thorin_check.specs.Overlaps.{has_units, IsClash, overlap};
 ghost use Rattle.dwp_index.specs.Package.{found};
-ghost use Rattle.thorin_check.specs.Apart.{AreApartOr};
-ghost use Rattle.thorin_check.specs.Checking.{TellsUnits};
-ghost use Rattle.thorin_check.specs.Faults.{TellsUnit, TellsFound, is_bare};
-ghost use Rattle.thorin_check.specs.Texts.{IsUnreadText, IsTextOf};
-ghost use Rattle.thorin_check.specs.Gathered.{IsSeen, GoesOn, Gathered, IsGatheredIn};
-ghost use Rattle.thorin_check.specs.Telling.{so_far, Tells};
-ghost use Rattle.thorin_check.specs.Overlaps.{IsClash, begins_inside, has_units};
-ghost use Rattle.thorin_check.specs.Overlaps.{overlap, overlap_text, same_range, tables_text};
+ghost use Rattle.thorin_check.specs.{Apart.AreApartOr, Checking.TellsUnits, Texts.IsUnreadText};
+ghost use Rattle.thorin_check.specs.{Telling.so_far, Telling.Tells, Texts.IsTextOf};
+ghost use Rattle.thorin_check.specs.Faults.{is_bare, TellsFound, TellsUnit};
+ghost use Rattle.thorin_check.specs.Gathered.{Gathered, GoesOn, IsGatheredIn, IsSeen};
 
 use crate::abbreviations::Remembered;
 use crate::checking::IndexedPackage;

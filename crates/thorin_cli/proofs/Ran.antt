@@ -1,11 +1,9 @@
 -- What the program did of its words.
-use Rattle.std.proofs.Common.{◌≡◌, ℕ, Bool, List, [], ◌∷◌, inl, subst, sym}
+use Rattle.std.proofs.Common.{Bool, inl, List, subst, sym, [], ℕ, ◌∷◌, ◌≡◌}
 use Rattle.std.specs.Prelude.{Ok, Option}
 use Rattle.clap.specs.Walk.{Text}
-use Rattle.thorin_words.specs.Responses.{Stands}
-use Rattle.thorin_words.specs.declared.responses.ResponseError.{ResponseError}
-use Rattle.thorin_arguments.specs.Asked.{Call, IsCallOf, IsStatusOf}
-use Rattle.thorin_arguments.specs.Peers.{is_peer}
+use Rattle.thorin_words.specs.{declared.responses.ResponseError.ResponseError, Responses.Stands}
+use Rattle.thorin_arguments.specs.{Asked.Call, Asked.IsCallOf, Asked.IsStatusOf, Peers.is_peer}
 use Rattle.thorin_cli.specs.Doing.{DoesCall, Runs, State, System}
 use Rattle.thorin_cli.specs.declared.system.ProgramManner.{ProgramManner}
 

@@ -1,18 +1,17 @@
 -- What standard error got stays there when notes follow.
-use Rattle.std.proofs.Common.{◌≡◌, ◌⊎◌, ℕ, List, codes, inl, inr, refl, rules}
+use Rattle.thorin_print.specs.declared.output.Failure.TheVariants as failures
+use Rattle.thorin_words.specs.declared.responses.ResponseError.TheVariants as errors
+use Rattle.std.proofs.Common.{codes, inl, inr, List, refl, rules, ℕ, ◌≡◌, ◌⊎◌}
 use Rattle.std.specs.Prelude.{Err, IfErr, Ok, Option, Result, Some}
 use Rattle.std.specs.Io.KnownBytes.{Appends}
-use Rattle.thorin_print.specs.Answers.{Grows}
-use Rattle.thorin_print.specs.Failures.{Reports, error_line, failure_text}
-use Rattle.thorin_print.specs.declared.output.Failure.{Failure}
-use Rattle.thorin_print.specs.declared.output.Failure.TheVariants as failures
+use Rattle.thorin_print.specs.{Answers.Grows, declared.output.Failure.Failure}
+use Rattle.thorin_print.specs.Failures.{error_line, failure_text, Reports}
 use Rattle.thorin_commands.proofs.Lines.{followed, printed}
-use Rattle.thorin_commands.specs.Cause.{Cause, HasLine, Told, text_of}
+use Rattle.thorin_commands.specs.Cause.{Cause, HasLine, text_of, Told}
 use Rattle.thorin_commands.specs.Failing.{FailsPacking, IsWhy}
 use Rattle.thorin_commands.specs.declared.packing.Packing.{Packing}
 use Rattle.thorin_words.specs.Responses.{CannotBeTold}
 use Rattle.thorin_words.specs.declared.responses.ResponseError.{ResponseError}
-use Rattle.thorin_words.specs.declared.responses.ResponseError.TheVariants as errors
 use Rattle.thorin_cli.specs.Doing.{DoesPacking, HasStatus, HasTold, State, System}
 use Rattle.thorin_cli.specs.Telling.{no_memory, response_text}
 

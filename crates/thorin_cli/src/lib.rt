@@ -1,15 +1,14 @@
 //! The program `thorin`, as a function over its words and two writers.
 #![tactic(auto)]
 
-ghost use Rattle.std.specs.Prelude.{◌≡◌, map, IfOk, IsSome, string_bytes};
-ghost use Rattle.std.specs.IoError.{error_kind};
-ghost use Rattle.std.specs.declared.io.ErrorKind.TheVariants.{OutOfMemory};
-ghost use Rattle.thorin_print.specs.Watching.{LacksLine};
 ghost use Rattle.thorin_print.specs.declared.output.Failure.TheVariants as failures;
+ghost use Rattle.std.specs.Prelude.{IfOk, IsSome, map, string_bytes, ◌≡◌};
+ghost use Rattle.thorin_cli.specs.Telling.{HasTriedOr, inside_text, ReportsFirst, response_text};
+ghost use Rattle.thorin_cli.specs.Telling.{HasTried, no_memory};
+ghost use Rattle.std.specs.{declared.io.ErrorKind.TheVariants.OutOfMemory, IoError.error_kind};
+ghost use Rattle.thorin_print.specs.Watching.{LacksLine};
 ghost use Rattle.thorin_terminal.specs.Watching.{failure_of};
-ghost use Rattle.thorin_cli.specs.Doing.{Runs, is_name_of_peer, line_of};
-ghost use Rattle.thorin_cli.specs.Telling.{HasTried, HasTriedOr, inside_text, no_memory};
-ghost use Rattle.thorin_cli.specs.Telling.{ReportsFirst, response_text};
+ghost use Rattle.thorin_cli.specs.Doing.{is_name_of_peer, line_of, Runs};
 
 mod notes;
 mod program;

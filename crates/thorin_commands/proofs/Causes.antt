@@ -9,19 +9,16 @@ use Terms.{refusal_text, Refuses, Result, Some, split_contents, StandsFor, State
 use Terms.{StopsIn, sym, take, take_more, Tells, Took, TookEach, TookInputs, true, Unfinished}
 use Terms.{Unread, [], ℕ, ◌++◌, ◌+◌, ◌<◌, ◌∙◌, ◌∷◌, ◌≡◌, ◌⊎◌}
 use Rattle.std.proofs.Common.{◌≢◌}
-use Rattle.std.proofs.lemmas.List.{take-append-drop}
-use Rattle.std.specs.List.{slice_get}
+use Rattle.thorin_commands.specs.Cause.{AreRefused, IsCauseFor, IsMalformed, IsTakenNot, StopsAmong}
+use Rattle.thorin_commands.specs.Cause.{Finishing, IsCauseOf, IsRefused, IsUntaken, Told, told_text}
+use Rattle.std.{proofs.lemmas.List.take-append-drop, specs.List.slice_get}
 use Rattle.thorin_errors.specs.Errors.{error_of}
-use Rattle.dwp_archive.specs.Entries.{Member}
-use Rattle.dwp_archive.specs.Members.{members_of}
+use Rattle.dwp_archive.specs.{Entries.Member, Members.members_of}
 use Rattle.dwp_archive.specs.declared.error.ArchiveError.{ArchiveError}
 use Rattle.thorin_join.specs.Builder.{start}
 use Rattle.thorin_builder.specs.Reading.{IsRead, OnDeclined, unread}
 use Rattle.thorin.specs.Run.{DeclinesInput}
-use Rattle.thorin_commands.specs.Cause.{AreRefused, Finishing, IsCauseFor, IsCauseOf, IsMalformed}
-use Rattle.thorin_commands.specs.Cause.{IsRefused, IsTakenNot, IsUnfit, IsUntaken, StopsAmong}
-use Rattle.thorin_commands.specs.Cause.{Taking, Told, told_text, Untaken}
-use Rattle.thorin_commands.specs.Opened.{Fills}
+use Rattle.thorin_commands.specs.{Cause.IsUnfit, Cause.Taking, Cause.Untaken, Opened.Fills}
 use Rattle.thorin_commands.proofs.Opened.{each_append, each_none}
 use Rattle.dwp_archive.specs.View as view
 use Rattle.dwp_archive.specs.declared.member.Member as declared

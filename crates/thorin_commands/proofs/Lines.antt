@@ -1,9 +1,8 @@
 -- Lines that stand among a writer's bytes.
-use Rattle.thorin_commands.proofs.Terms.{append-nil, append_assoc, Appends, List, None, Option}
-use Rattle.thorin_commands.proofs.Terms.{refl, rules, Some, Tells, [], ℕ, ◌++◌, ◌≡◌}
+use Rattle.thorin_commands.proofs.Terms.{append-nil, append_assoc, Appends, List, [], ℕ, ◌++◌, ◌≡◌}
+use Rattle.thorin_commands.proofs.Terms.{None, Option, refl, rules, Some, Tells}
 use Rattle.std.specs.Prelude.{IfSome, IsSome, option_map}
-use Rattle.thorin_print.specs.Answers.{Grows}
-use Rattle.thorin_print.specs.Failures.{error_line}
+use Rattle.thorin_print.specs.{Answers.Grows, Failures.error_line}
 use Rattle.thorin_commands.specs.Cause.{HasLine}
 use Rattle.thorin_words.specs.Printed as words
 

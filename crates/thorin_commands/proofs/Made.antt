@@ -9,8 +9,7 @@ use Terms.{TellsTaken, true, Unfinished, Unread, ℕ, ◌++◌, ◌∙◌, ◌�
 use Rattle.std.specs.Prelude.{IfOk}
 use Rattle.thorin_errors.specs.Errors.{NoOutputObjectCreated as NoneBegun}
 use Rattle.thorin_join.specs.Builder.{finish_test}
-use Rattle.thorin_output.specs.Warnings.{IsWarning}
-use Rattle.thorin_output.specs.declared.warnings.Warned.{Warned}
+use Rattle.thorin_output.specs.{declared.warnings.Warned.Warned, Warnings.IsWarning}
 use Rattle.thorin_commands.specs.Made.{IsMade, IsMadeFor, IsReady}
 use Rattle.thorin_commands.specs.Warned.{names, others, PacksTelling, TellsUnsplitRun}
 use Rattle.thorin_commands.proofs.Warned.{printed_as, printed_then}

@@ -6,8 +6,7 @@ use Terms.{Path, path_bytes, refl, Result, StandsFor, State, sym, Took, TookAll,
 use Terms.{TookInputs, TookNone, true, unit_count, units_in, [], ℕ, ◌++◌, ◌-◌, ◌∷◌, ◌≡◌}
 use Rattle.thorin_join.specs.Join.{JoinAll}
 use Rattle.thorin_builder.specs.Taking.{Outcome}
-use Rattle.thorin.specs.Run.{Ran}
-use Rattle.thorin.proofs.Running.{join-append}
+use Rattle.thorin.{proofs.Running.join-append, specs.Run.Ran}
 use Rattle.thorin_commands.specs.Archives.{AreTakenFor}
 use Rattle.thorin_commands.specs.Opened.{accepted_in, AreAllAccepted, TookMembers, TookNext}
 use Rattle.thorin.specs.declared.packing.Input.TheVariants as inputs

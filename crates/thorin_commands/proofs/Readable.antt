@@ -1,15 +1,11 @@
 -- A written file is read back where its numbers fit, and no two contents are of one kind.
-use Rattle.std.proofs.Common.{◌≡◌, ◌^◌, ◌<◌, length, arith}
+use Rattle.std.proofs.Common.{arith, length, ◌<◌, ◌^◌, ◌≡◌}
 use Rattle.std.specs.Prelude.{Ok}
-use Rattle.dwp_elf_read.specs.Layout.{word_size}
-use Rattle.dwp_elf_read.specs.Elf.{elf_of}
-use Rattle.dwp_elf.specs.FileText.{Object, headers_place, file_text}
-use Rattle.dwp_elf.specs.Contents.{KindsDiffer}
-use Rattle.dwp_elf.specs.Numbers.{Fits}
-use Rattle.dwp_elf.specs.Written.{written_elf}
+use Rattle.dwp_elf_read.specs.{Elf.elf_of, Layout.word_size}
+use Rattle.dwp_elf.specs.FileText.{file_text, headers_place, Object}
+use Rattle.dwp_elf.specs.{Contents.KindsDiffer, Numbers.Fits, Written.written_elf}
 use Rattle.dwp_elf.proofs.KindCounts.{length-KindsDiffer}
-use Rattle.thorin_join.specs.Join.{IsPackageOf, IsPackageOnceWritten}
-use Rattle.thorin_join.specs.Meaning.{Members}
+use Rattle.thorin_join.specs.{Join.IsPackageOf, Join.IsPackageOnceWritten, Meaning.Members}
 use Rattle.thorin_join.proofs.Files.Contents.{fitting}
 
 -- by the law of written files, what is written is read back

@@ -1,10 +1,9 @@
 -- Where a path is read.
-use Rattle.thorin_commands.proofs.Terms.{Bor, Err, Growth, inl, InputError, inr, IoError, List}
-use Rattle.thorin_commands.proofs.Terms.{NotTaken, Offer, Ok, Result, [], ℕ, ◌∷◌, ◌≡◌, ◌⊎◌}
+use Rattle.thorin_commands.proofs.Terms.{Bor, Err, Growth, inl, InputError, [], ℕ, ◌∷◌, ◌≡◌, ◌⊎◌}
+use Rattle.thorin_commands.proofs.Terms.{inr, IoError, List, NotTaken, Offer, Ok, Result}
 use Rattle.thorin_builder.specs.declared.reader.NotTaken.TheVariants.{Declined, Failed}
 use Rattle.thorin_inputs.specs.Prefixes.{mapped}
-use Rattle.thorin_commands.specs.Packing.{IsAmong, through}
-use Rattle.thorin_commands.specs.Taken.{IsReadInto}
+use Rattle.thorin_commands.specs.{Packing.IsAmong, Packing.through, Taken.IsReadInto}
 use Rattle.thorin_errors.specs.declared.error.InputError.TheVariants as input
 use Rattle.thorin_inputs.specs.declared.growth.Growth.TheVariants as growth
 

@@ -7,14 +7,13 @@ use Terms.{take_all, take_more, TellLeft, TellNamed, TellsMacros, TellsTaken, Te
 use Terms.{TookAll, TookNone, TookTelling, true, Types, unit_count, unsplit_line, [], ℕ, ◌++◌, ◌+◌}
 use Terms.{◌-◌, ◌<◌, ◌∙◌, ◌∷◌, ◌≡◌, ◌⊎◌}
 use Rattle.std.proofs.Common.{◌≤◌}
+use Rattle.thorin_commands.specs.Warned.{InTurn, IsLeftLine, TellsTaking, TellsUnsplit, TellUnsplit}
+use Rattle.thorin_commands.specs.Warned.{left_line, named_line, TellsAdded, TellsLeft, TellsNamed}
+use Rattle.thorin_commands.specs.Warned.{AreLacks}
 use Rattle.std.proofs.KnownBytes.{Appends-nil, Appends-trans}
 use Rattle.dwp_table.specs.declared.object.DwarfObject.{DwarfObject}
-use Rattle.thorin_print.specs.Answers.{Outcome, Prints}
-use Rattle.thorin_print.specs.Told.{taken_line}
+use Rattle.thorin_print.specs.{Answers.Outcome, Answers.Prints, Told.taken_line}
 use Rattle.thorin_inputs.specs.declared.notes.Lack.{Lack}
-use Rattle.thorin_commands.specs.Warned.{AreLacks, InTurn, IsLeftLine, left_line, named_line}
-use Rattle.thorin_commands.specs.Warned.{TellsAdded, TellsLeft, TellsNamed, TellsTaking}
-use Rattle.thorin_commands.specs.Warned.{TellsUnsplit, TellUnsplit}
 use Rattle.thorin_commands.proofs.Opened.{added_more, took_more}
 
 -- ---- one text after the other

@@ -1,10 +1,8 @@
 -- Why packing failed.
-use Rattle.thorin_commands.proofs.Terms.{FailsBy, Failure, File, file_text, inl, inr, IoError, List}
-use Rattle.thorin_commands.proofs.Terms.{out_of, Packing, Result, Some, Stops, ℕ, ◌≡◌, ◌⊎◌}
-use Rattle.thorin_output.specs.Files.{IsOfWriting, IsWhyUnwritten}
-use Rattle.thorin_output.specs.Reads.{Identity}
-use Rattle.thorin_commands.specs.Failing.{IsWhy}
-use Rattle.thorin_commands.specs.Naming.{IsNameless, IsUncounted}
+use Rattle.thorin_commands.proofs.Terms.{FailsBy, Failure, File, file_text, inl, inr, ℕ, ◌≡◌, ◌⊎◌}
+use Rattle.thorin_commands.proofs.Terms.{IoError, List, out_of, Packing, Result, Some, Stops}
+use Rattle.thorin_output.specs.{Files.IsOfWriting, Files.IsWhyUnwritten, Reads.Identity}
+use Rattle.thorin_commands.specs.{Failing.IsWhy, Naming.IsNameless, Naming.IsUncounted}
 use Rattle.thorin_commands.specs.Packing.{Fails, IsPackageFor, Packs}
 use Rattle.thorin_print.specs.declared.output.Failure.TheVariants as failures
 

@@ -1,22 +1,19 @@
 //! The object of a package, made of the inputs: these are taken in order. One that is accepted is
 //! noted, and told where that is asked for; of one that is refused it is told why.
 
-ghost use Rattle.std.specs.Prelude.{◌≡◌, ◌-◌, map, Ok, Err, OnOk, IfOk, IfErr, string_bytes};
-ghost use Rattle.dwp_elf.specs.FileText.{file_text};
-ghost use Rattle.dwp_elf.specs.Numbers.{Fits};
 ghost use Rattle.dwp_elf_read.specs.declared.error.WriteError.TheVariants as writer;
+ghost use Rattle.std.specs.Prelude.{Err, IfErr, IfOk, map, Ok, OnOk, string_bytes, ◌-◌, ◌≡◌};
+ghost use Rattle.thorin_commands.specs.Cause.{IsCauseOf, IsNotTaken, IsUnfinished, IsUntaken};
+ghost use Rattle.thorin_commands.specs.Cause.{Refuses, StopsAt};
+ghost use Rattle.dwp_elf.specs.{FileText.file_text, Numbers.Fits};
 ghost use Rattle.thorin_errors.specs.declared.error.Error.TheVariants.{ObjectWrite};
-ghost use Rattle.thorin_join.specs.Builder.{IsFinishedState, differing_in, finish_test};
+ghost use Rattle.thorin_join.specs.Builder.{differing_in, finish_test, IsFinishedState};
 ghost use Rattle.thorin_join.specs.Join.{IsPackageOf, IsPackageOnceWritten};
-ghost use Rattle.thorin_join.specs.Meaning.{Members};
-ghost use Rattle.thorin_join.specs.Represents.{units_in};
-ghost use Rattle.thorin_commands.specs.Cause.{IsCauseOf, IsNotTaken, IsUnfinished};
-ghost use Rattle.thorin_commands.specs.Cause.{IsUntaken, Refuses, StopsAt};
-ghost use Rattle.thorin_commands.specs.Made.{FillsTelling, IsMade};
-ghost use Rattle.thorin_commands.specs.Opened.{TookAll, unit_count};
+ghost use Rattle.thorin_join.specs.{Meaning.Members, Represents.units_in};
+ghost use Rattle.thorin_commands.specs.{declared.packing.NoPackage.TheVariants.Empty, Made.IsMade};
+ghost use Rattle.thorin_commands.specs.{Made.FillsTelling, Opened.TookAll, Opened.unit_count};
 ghost use Rattle.thorin_commands.specs.Packing.{declines, manner_of, reads};
-ghost use Rattle.thorin_commands.specs.Warned.{TellsAdded, TellsUnsplitRun, path_of};
-ghost use Rattle.thorin_commands.specs.declared.packing.NoPackage.TheVariants.{Empty};
+ghost use Rattle.thorin_commands.specs.Warned.{path_of, TellsAdded, TellsUnsplitRun};
 ghost use Rattle.thorin_output.specs.Warnings.{IsPrinted};
 
 use crate::archives::take_opened;

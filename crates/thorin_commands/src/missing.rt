@@ -1,11 +1,10 @@
 //! Objects that executables name and that aren't there: what `pack --partial` leaves out, and what
 //! `pack --missing` lists.
 
-ghost use Rattle.std.specs.Prelude.{◌≡◌, ◌≤◌, OnOk, IfOk, IfErr};
+ghost use Rattle.std.specs.Prelude.{IfErr, IfOk, OnOk, ◌≡◌, ◌≤◌};
 ghost use Rattle.thorin_output.specs.Warnings.{IsPrinted};
 ghost use Rattle.thorin_print.specs.Answers.{FailsBy};
-ghost use Rattle.thorin_commands.specs.Opened.{left};
-ghost use Rattle.thorin_commands.specs.Warned.{TellsLeft};
+ghost use Rattle.thorin_commands.specs.{Opened.left, Warned.TellsLeft};
 
 use crate::notes::Notes;
 use crate::packing::{Packing, paths_in};

@@ -1,10 +1,9 @@
 //! What is kept of the inputs for what is told of them: which input brought a unit of the package,
 //! type units that differ from the ones kept, and objects that aren't there.
 
-ghost use Rattle.std.specs.Prelude.{◌≡◌, IfOk, string_bytes};
+ghost use Rattle.std.specs.Prelude.{IfOk, string_bytes, ◌≡◌};
 ghost use Rattle.thorin_join.specs.Builder.{differing_in};
-ghost use Rattle.thorin_commands.specs.Opened.{unit_count};
-ghost use Rattle.thorin_commands.specs.Warned.{TellsNamed};
+ghost use Rattle.thorin_commands.specs.{Opened.unit_count, Warned.TellsNamed};
 
 use crate::packing::{Packing, path_of};
 use crate::telling::{ReportOptions, unit_line};

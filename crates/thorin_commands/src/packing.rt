@@ -1,20 +1,17 @@
 //! `thorin pack`: what it is asked for, and the inputs and the package of that.
 
-ghost use Rattle.std.specs.Prelude.{◌≡◌, ◌⊎◌, ◌≤◌, Ok, Some, IfOk, IfErr, map, string_bytes};
-ghost use Rattle.std.specs.Prelude.{true, false, IsTrue, option_map};
-ghost use Rattle.std.specs.Path.{path_bytes};
-ghost use Rattle.thorin_output.specs.Files.{Put, Begins};
+ghost use Rattle.std.specs.Prelude.{IfErr, IfOk, map, Ok, Some, string_bytes, true, ◌≡◌, ◌≤◌, ◌⊎◌};
+ghost use Rattle.thorin_commands.specs.Packing.{AllApart, declines, IsNoInput, out_of, paths_in};
+ghost use Rattle.thorin_commands.specs.Packing.{asked, asks, Fails, Packs, reads};
+ghost use Rattle.std.specs.{Path.path_bytes, Prelude.false, Prelude.IsTrue, Prelude.option_map};
+ghost use Rattle.thorin_output.specs.Files.{Begins, Put};
 ghost use Rattle.thorin_commands.specs.Cause.{IsCauseFor, Refuses, Told, Unfinished};
-ghost use Rattle.thorin_commands.specs.Failing.{FailsPacking, LeadTo};
+ghost use Rattle.thorin_commands.specs.{Failing.FailsPacking, Failing.LeadTo, Naming.IsNameless};
 ghost use Rattle.thorin_errors.specs.declared.error.Error.TheVariants.{NoOutputObjectCreated};
-ghost use Rattle.thorin_commands.specs.Naming.{IsNameless};
 ghost use Rattle.thorin_commands.specs.Made.{IsMadeFor, IsReady};
-ghost use Rattle.thorin_commands.specs.Packing.{out_of, Packs};
-ghost use Rattle.thorin_commands.specs.Packing.{AllApart, Fails, IsNoInput, asked, asks};
 ghost use Rattle.thorin_commands.specs.declared.packing.NoPackage.TheVariants.{Command};
 ghost use Rattle.thorin_print.specs.declared.output.Failure.TheVariants.{Memory};
-ghost use Rattle.thorin_commands.specs.Packing.{declines, paths_in, reads};
-ghost use Rattle.thorin_commands.specs.Warned.{PacksTelling, TellsTaken, names, others, path_of};
+ghost use Rattle.thorin_commands.specs.Warned.{names, others, PacksTelling, path_of, TellsTaken};
 
 use crate::making::packed_inputs;
 use crate::reading::InputFiles;

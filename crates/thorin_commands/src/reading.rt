@@ -1,17 +1,15 @@
 //! The reader of the inputs of `pack`: files are read, decompressed, left with the macros that are
 //! kept, and tested for strings and sections that overlap.
 
-ghost use Rattle.std.specs.Prelude.{◌≡◌, ◌⊎◌, IsTrue, Ok, Err, OnOk, IfOk, IfErr, string_bytes};
+ghost use Rattle.thorin_inputs.specs.Plain as spec;
+ghost use Rattle.std.specs.Prelude.{Err, IfErr, IfOk, IsTrue, Ok, OnOk, string_bytes, ◌≡◌, ◌⊎◌};
+ghost use Rattle.thorin_commands.specs.Packing.{declines, manner_of, paths_in, read_through, reads};
+ghost use Rattle.thorin_commands.specs.Taken.{DeclinesBytes, IsPlainFor, IsReadInto, IsTakenFor};
 ghost use Rattle.std.specs.Path.{path_bytes};
 ghost use Rattle.thorin_builder.specs.Reading.{IsRead, OnDeclined, OnFailed};
 ghost use Rattle.thorin_sessions.specs.Sessions.{IsNoWantOfMemory};
 ghost use Rattle.thorin_errors.specs.declared.error.InputError.TheVariants.{Memory};
-ghost use Rattle.thorin_inputs.specs.Plain as spec;
-ghost use Rattle.thorin_commands.specs.Naming.{IsUncounted};
-ghost use Rattle.thorin_commands.specs.Packing.{IsAmong, declines, manner_of, paths_in};
-ghost use Rattle.thorin_commands.specs.Packing.{read_through, reads};
-ghost use Rattle.thorin_commands.specs.Taken.{DeclinesBytes, IsPlainFor};
-ghost use Rattle.thorin_commands.specs.Taken.{IsReadInto, IsTakenFor, MayRepeat};
+ghost use Rattle.thorin_commands.specs.{Naming.IsUncounted, Packing.IsAmong, Taken.MayRepeat};
 ghost use Rattle.thorin_commands.specs.Warned.{TellsMacros};
 
 use crate::notes::{Holding, Notes};

@@ -1,15 +1,13 @@
 //! What `pack` tells of its inputs: with `--verbose`, and where one is refused.
 
-ghost use Rattle.std.specs.Prelude.{◌≡◌, ◌⊎◌, ◌-◌, OnOk, IfOk, IfErr, length};
-ghost use Rattle.std.specs.Prelude.{string_bytes};
+ghost use Rattle.std.specs.Prelude.{IfErr, IfOk, length, OnOk, string_bytes, ◌-◌, ◌≡◌, ◌⊎◌};
+ghost use Rattle.thorin_commands.specs.Warned.{TellsAdded, TellsUnsplit, TellUnsplitBy, unit_line};
 ghost use Rattle.thorin_errors.specs.Errors.{error_of};
 ghost use Rattle.thorin_inputs.specs.declared.notes.Lack.TheVariants.{Types};
 ghost use Rattle.thorin_output.specs.Warnings.{IsPrinted};
 ghost use Rattle.thorin_print.specs.Answers.{FailsBy, Grows};
-ghost use Rattle.thorin_commands.specs.Cause.{HasLine, Tells, refusal_text, told_text};
-ghost use Rattle.thorin_commands.specs.Opened.{unit_count};
-ghost use Rattle.thorin_commands.specs.Warned.{TellUnsplitBy, TellsAdded, TellsUnsplit};
-ghost use Rattle.thorin_commands.specs.Warned.{path_of, unit_line};
+ghost use Rattle.thorin_commands.specs.Cause.{HasLine, refusal_text, Tells, told_text};
+ghost use Rattle.thorin_commands.specs.{Opened.unit_count, Warned.path_of};
 
 use crate::making::Attempt;
 use crate::notes::{Notes, unit_count};

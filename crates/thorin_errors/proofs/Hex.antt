@@ -1,8 +1,7 @@
 -- What `{:08x}` writes.
-use Rattle.std.proofs.Common.{◌≡◌, ℕ, ◌-◌, ◌^◌, [], false}
-use Rattle.std.proofs.Math.Nat.{sub-zero}
-use Rattle.std.proofs.lemmas.List.{append-nil}
-use Rattle.std.specs.Fmt.{padded_integral, format_spec, char_count, digits}
+use Rattle.std.proofs.Common.{false, [], ℕ, ◌-◌, ◌^◌, ◌≡◌}
+use Rattle.std.proofs.{lemmas.List.append-nil, Math.Nat.sub-zero}
+use Rattle.std.specs.Fmt.{char_count, digits, format_spec, padded_integral}
 use Rattle.thorin_errors.specs.Text.{hex8}
 
 -- zeros in front, up to eight digits

@@ -1,8 +1,7 @@
 -- Each error has a text.
-use Rattle.std.proofs.Common.{◌≡◌, false, refl, IsSome}
-use Rattle.thorin_errors.specs.Errors.{ErrorValue, Io, ObjectRead, ObjectWrite, GimliRead}
-use Rattle.thorin_errors.specs.Errors.{GimliWrite}
-use Rattle.thorin_errors.specs.Text.{error_text, is_passed_on}
+use Rattle.std.proofs.Common.{false, IsSome, refl, ◌≡◌}
+use Rattle.thorin_errors.specs.Errors.{ErrorValue, GimliRead, GimliWrite, ObjectRead, ObjectWrite}
+use Rattle.thorin_errors.specs.{Errors.Io, Text.error_text, Text.is_passed_on}
 
 pub has_text : (error : ErrorValue) → is_passed_on error ≡ false → IsSome (error_text error)
 has_text (Io a) h = absurd cc

@@ -1,15 +1,11 @@
 -- A list of split units, one unit after the other.
-use Rattle.std.proofs.Common.{◌≡◌, List, ◌∷◌, ◌++◌, Option, Result, Ok, Err, refl, length, map}
-use Rattle.std.proofs.Common.{take, take_all, arith}
-use Rattle.std.proofs.lemmas.List.{length-map}
+use Rattle.std.proofs.Common.{Err, length, List, map, Ok, Option, refl, Result, ◌++◌, ◌∷◌, ◌≡◌}
+use Rattle.thorin_executable.specs.Skeletons.{Listed, skeleton_read, skeletons_from, with_first}
+use Rattle.std.proofs.{Common.arith, Common.take, Common.take_all, lemmas.List.length-map}
 use Rattle.dwp_bytes.specs.declared.error.ReadError.{ReadError}
 use Rattle.dwp_units.specs.Units.{Unit as UnitMeaning}
-use Rattle.thorin_errors.specs.Errors.{ErrorValue}
-use Rattle.thorin_errors.specs.declared.error.Error.{Error}
-use Rattle.thorin_executable.specs.Sections.{DebugData}
-use Rattle.thorin_executable.specs.Skeletons.{Named, Listed, with_first, skeleton_read}
-use Rattle.thorin_executable.specs.Skeletons.{skeletons_from}
-use Rattle.thorin_executable.specs.View.{named, IsPushed}
+use Rattle.thorin_errors.specs.{declared.error.Error.Error, Errors.ErrorValue}
+use Rattle.thorin_executable.specs.{Sections.DebugData, Skeletons.Named, View.IsPushed, View.named}
 use Rattle.thorin_executable.specs.declared.listing.NamelessUnits.{NamelessUnits}
 use Rattle.thorin_executable.specs.declared.listing.Skeleton.{Skeleton}
 

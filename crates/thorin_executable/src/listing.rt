@@ -1,15 +1,13 @@
 //! The split units of an executable, up to the first error.
 
-ghost use Rattle.std.specs.Prelude.{◌≡◌, [], None, Some, option_map, IfOk, OnErr, string_bytes};
-ghost use Rattle.dwp_dwarf.specs.Sections.{strings_of};
-ghost use Rattle.dwp_dwarf.specs.Split.{attributes_of};
+ghost use Rattle.thorin_executable.specs.Skeletons as spec;
+ghost use Rattle.std.specs.Prelude.{IfOk, None, OnErr, option_map, Some, string_bytes, [], ◌≡◌};
+ghost use Rattle.thorin_executable.specs.View.{IsNextNamed, IsOpenedNamed, named_at, UnlessMemory};
+ghost use Rattle.thorin_executable.specs.View.{data_of, IsFront, IsOpened, IsPathAfter, IsPushed};
+ghost use Rattle.dwp_dwarf.specs.{Sections.strings_of, Split.attributes_of};
 ghost use Rattle.dwp_units.specs.Units.{unit_of, unit_seen, units_left};
 ghost use Rattle.thorin_errors.specs.Answers.{Gives};
-ghost use Rattle.thorin_executable.specs.Skeletons as spec;
-ghost use Rattle.thorin_executable.specs.Paths.{IsKept};
-ghost use Rattle.thorin_executable.specs.View.{data_of, listed, IsFront, UnlessMemory, named_at};
-ghost use Rattle.thorin_executable.specs.View.{IsOpened, IsNext, IsOpenedNamed, IsNextNamed};
-ghost use Rattle.thorin_executable.specs.View.{IsPathAfter, IsPushed};
+ghost use Rattle.thorin_executable.specs.{Paths.IsKept, View.IsNext, View.listed};
 
 use crate::loading::{DebugData, SectionReader};
 use crate::paths::LastPath;

@@ -1,11 +1,10 @@
 //! The sections of an executable that are read.
 
-ghost use Rattle.std.specs.Prelude.{◌≡◌, find, option_map, IfSome, IsTrue};
-ghost use Rattle.dwp_bytes.specs.Input.{section};
-ghost use Rattle.dwp_bytes.specs.Relocation.{ascends, relocated_input};
+ghost use Rattle.thorin_executable.specs.Sections as spec;
+ghost use Rattle.std.specs.Prelude.{find, IfSome, IsTrue, option_map, ◌≡◌};
+ghost use Rattle.dwp_bytes.specs.{Input.section, Relocation.ascends, Relocation.relocated_input};
 ghost use Rattle.dwp_elf_read.specs.View.{elf, file as file_of, section as meaning};
 ghost use Rattle.thorin_errors.specs.Answers.{Gives};
-ghost use Rattle.thorin_executable.specs.Sections as spec;
 ghost use Rattle.thorin_executable.specs.View.{data_of};
 
 use crate::relocations::add_relocations;

@@ -1,13 +1,12 @@
 //! The paths of split objects. The path that came last is kept with where its strings stand: many
 //! units may name one path.
 
-ghost use Rattle.std.specs.Prelude.{◌≡◌, string_bytes, IsTrue, IfOk, IfSome, OnErr};
-ghost use Rattle.dwp_dwarf.specs.Attributes.{attribute_of};
-ghost use Rattle.dwp_dwarf.specs.Sections.{strings_of};
+ghost use Rattle.thorin_executable.specs.Paths as spec;
+ghost use Rattle.std.specs.Prelude.{IfOk, IfSome, IsTrue, OnErr, string_bytes, ◌≡◌};
+ghost use Rattle.dwp_dwarf.specs.{Attributes.attribute_of, Sections.strings_of};
 ghost use Rattle.dwp_dwarf.specs.Split.{attributes_of};
 ghost use Rattle.thorin_errors.specs.Answers.{Gives};
-ghost use Rattle.thorin_executable.specs.Paths as spec;
-ghost use Rattle.thorin_executable.specs.Paths.{IsStringAt, IsPathAt, IsKept};
+ghost use Rattle.thorin_executable.specs.Paths.{IsKept, IsPathAt, IsStringAt};
 
 use dwp_dwarf::{
     Attribute, Format, GNU_STR_INDEX, LINE_STRP, ReadError, Reader, STRP, STRX, STRX1, STRX2, STRX3,

@@ -1,15 +1,14 @@
 //! The relocations of an executable's section (ELF gABI, "Relocation").
 
-ghost use Rattle.std.specs.Prelude.{◌≡◌, [], map, IfOk, IsTrue, MatchResult, None, Some};
+ghost use Rattle.std.specs.Prelude.{IfOk, IsTrue, map, MatchResult, None, Some, [], ◌≡◌};
 ghost use Rattle.std.specs.Prelude.{string_bytes};
+ghost use Rattle.thorin_executable.specs.Relocations.{pair_of, with_relocation, with_relocations};
+ghost use Rattle.thorin_executable.specs.Relocations.{is_absolute};
 ghost use Rattle.dwp_elf_read.specs.declared.error.ReadError.TheVariants.{NameRange};
-ghost use Rattle.dwp_elf_read.specs.Relocation.{relocations_of};
-ghost use Rattle.dwp_elf_read.specs.View.{elf, file, section};
+ghost use Rattle.dwp_elf_read.specs.{Relocation.relocations_of, View.elf, View.file, View.section};
 ghost use Rattle.dwp_bytes.specs.Relocation.{ascends};
 ghost use Rattle.thorin_errors.specs.Answers.{Gives, MemoryAside};
 ghost use Rattle.thorin_errors.specs.Errors.{error_of, NamelessSection};
-ghost use Rattle.thorin_executable.specs.Relocations.{is_absolute, pair_of, with_relocation};
-ghost use Rattle.thorin_executable.specs.Relocations.{with_relocations};
 
 use dwp_bytes::{Relocation, RelocationEntry};
 use dwp_elf_read::{ElfFile, RawRelocation, Section};

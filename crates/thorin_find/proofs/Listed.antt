@@ -1,21 +1,18 @@
 -- The lines of a list, slot by slot: some are printed, the others wait. And what was listed.
-use Rattle.std.proofs.Common.{◌≡◌, ◌∙◌, ℕ, Bool, true, false, List, [], ◌∷◌, ◌++◌, Option, Result}
-use Rattle.std.proofs.Common.{Ok, Err, refl, sym, ap, arith, inl, inr, append-nil, append_assoc}
-use Rattle.std.proofs.Common.{true≢false, length, take, drop, take-append-drop}
-use Rattle.std.specs.Io.KnownBytes.{Appends}
+use Rattle.std.proofs.Common.{Bool, false, List, Ok, true, [], true≢false, ℕ, ◌++◌, ◌∙◌, ◌∷◌, ◌≡◌}
+use Rattle.std.proofs.Common.{append-nil, append_assoc, length, Option, Result, take-append-drop}
+use Rattle.std.proofs.Common.{ap, arith, drop, Err, inl, inr, refl, sym, take}
+use Rattle.thorin_find.specs.Listing.{AddsLine, behind_line, ListsPackage, PrintsFront, PrintsLines}
+use Rattle.thorin_find.specs.Listing.{answer_of, AreByRow, Begins, IsListedIn, slot_line, UnitLines}
+use Rattle.thorin_find.specs.Listing.{lines_of, Lists, ListView, view_of}
+use Rattle.std.{proofs.Math.Seq.take-append_seam, specs.Io.KnownBytes.Appends}
 use Rattle.std.proofs.KnownBytes.{Appends-nil, Appends-trans, Keeps-refl}
-use Rattle.std.proofs.Math.Seq.{take-append_seam}
-use Rattle.dwp_index.specs.Package.{Package, FoundUnit, found, package_of}
+use Rattle.dwp_index.specs.Package.{found, FoundUnit, Package, package_of}
 use Rattle.dwp_index.specs.declared.error.PackageError.{PackageError}
 use Rattle.dwp_index.specs.declared.units.UnitEntry.{UnitEntry}
-use Rattle.thorin_find.specs.Files.{Offer, FailsToRead}
-use Rattle.thorin_find.specs.Listing.{AddsLine, AreByRow, Begins, IsListedIn, ListView, Lists}
-use Rattle.thorin_find.specs.Listing.{ListsPackage, PrintsFront, PrintsLines, UnitLines, answer_of}
-use Rattle.thorin_find.specs.Listing.{behind_line, lines_of, slot_line, view_of}
-use Rattle.thorin_find.specs.declared.listing.ListForm.{ListForm}
-use Rattle.thorin_print.proofs.Printed.{nothing}
+use Rattle.thorin_find.specs.{declared.listing.ListForm.ListForm, Files.FailsToRead, Files.Offer}
+use Rattle.thorin_print.{proofs.Printed.nothing, specs.declared.output.Failure.Failure}
 use Rattle.thorin_print.specs.Answers.{Answer, Comes, HasBeginning, IsOfPrinting}
-use Rattle.thorin_print.specs.declared.output.Failure.{Failure}
 use Rattle.thorin_print.specs.declared.output.Failure.TheVariants as failures
 
 -- ---- a text that waits

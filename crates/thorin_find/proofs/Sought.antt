@@ -1,17 +1,14 @@
 -- What words ask for, and what came of a command that reads a file.
-use Rattle.std.proofs.Common.{◌≡◌, ◌≢◌, ℕ, List, codes, get_or, Option, None, Result, Ok, Err}
-use Rattle.std.proofs.Common.{MatchResult, refl, inl, inr, arith}
+use Rattle.std.proofs.Common.{codes, Err, get_or, List, None, Ok, Option, refl, Result, ℕ, ◌≡◌, ◌≢◌}
+use Rattle.std.proofs.Common.{arith, inl, inr, MatchResult}
+use Rattle.thorin_find.specs.Finding.{AsksFor, find_answer, Finds, FindsAsked, HasDigits, IsNumber}
 use Rattle.std.specs.Str.Parse.{digits_value, ParsesUnsigned}
 use Rattle.std.specs.Str.Pattern.{FindsTextPrefix, StripsPrefix}
-use Rattle.std.proofs.KnownBytes.{Keeps-refl}
-use Rattle.std.proofs.lemmas.Str.Parse.{without_leading_plus_none}
+use Rattle.std.proofs.{KnownBytes.Keeps-refl, lemmas.Str.Parse.without_leading_plus_none}
 use Rattle.dwp_table.specs.declared.object.DwarfObject.{DwarfObject}
-use Rattle.thorin_print.specs.Answers.{Comes}
-use Rattle.thorin_print.specs.declared.output.Failure.{Failure}
-use Rattle.thorin_find.specs.Files.{Offer, Reads, FailsToRead}
-use Rattle.thorin_find.specs.Finding.{HasDigits, IsNumber, Asks, AsksFor, FindsAsked, Finds, Words}
-use Rattle.thorin_find.specs.Finding.{find_answer}
-use Rattle.thorin_find.specs.declared.finding.Wanted.{Wanted}
+use Rattle.thorin_print.specs.{Answers.Comes, declared.output.Failure.Failure}
+use Rattle.thorin_find.specs.Files.{FailsToRead, Offer, Reads}
+use Rattle.thorin_find.specs.{declared.finding.Wanted.Wanted, Finding.Asks, Finding.Words}
 
 -- the digits behind `0x`
 pub digits_behind : (text digits : List ℕ) → StripsPrefix (FindsTextPrefix (codes "0x")) text digits

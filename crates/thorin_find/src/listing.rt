@@ -1,12 +1,11 @@
 //! `thorin list`.
 
-ghost use Rattle.std.specs.Prelude.{◌≡◌, [], ◌++◌, IfOk, IfErr, OnOk, string_bytes};
-ghost use Rattle.dwp_index.specs.Entries.{entries_from};
-ghost use Rattle.dwp_index.specs.Package.{found};
-ghost use Rattle.thorin_find.specs.Listing.{place_by, AreByRow, range_size, range_sizes, front_of};
-ghost use Rattle.thorin_find.specs.Listing.{unit_names, view_of, unit_line, AddsLine, lines_of};
-ghost use Rattle.thorin_find.specs.Listing.{IsListedIn, PrintsFront, PrintsLines};
-ghost use Rattle.thorin_find.specs.Listing.{Begins, ListsPackage, Lists};
+ghost use Rattle.std.specs.Prelude.{IfErr, IfOk, OnOk, string_bytes, [], ◌++◌, ◌≡◌};
+ghost use Rattle.thorin_find.specs.Listing.{IsListedIn, range_size, unit_line, unit_names, view_of};
+ghost use Rattle.thorin_find.specs.Listing.{ListsPackage, PrintsFront, PrintsLines, range_sizes};
+ghost use Rattle.thorin_find.specs.Listing.{AddsLine, AreByRow, front_of, lines_of, place_by};
+ghost use Rattle.thorin_find.specs.Listing.{Begins, Lists};
+ghost use Rattle.dwp_index.specs.{Entries.entries_from, Package.found};
 
 use crate::files::{FileReader, read_named};
 use crate::finding::{put_json_unit, put_object};

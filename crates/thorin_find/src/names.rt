@@ -1,15 +1,14 @@
 //! The names that a unit's own bytes give: of its source, and of its object.
 
-ghost use Rattle.std.specs.Prelude.{◌≡◌, option_map};
-ghost use Rattle.std.specs.Option.{option_copied, option_and_then};
-ghost use Rattle.std.specs.Result.{result_ok};
+ghost use Rattle.thorin_find.specs.Names as spec;
+ghost use Rattle.std.specs.Prelude.{option_map, ◌≡◌};
+ghost use Rattle.thorin_find.specs.Names.{object_name, short_string_at, source_name, string_number};
+ghost use Rattle.thorin_find.specs.Names.{die_of, header_in, named, object_in, string_of};
+ghost use Rattle.std.specs.{Option.option_and_then, Option.option_copied, Result.result_ok};
 ghost use Rattle.dwp_bytes.specs.Input.{front};
 ghost use Rattle.dwp_index.specs.Contents.{content};
 ghost use Rattle.dwp_dwarf.specs.Attributes.{attribute_of, attributes_left, entry_of, root_of};
 ghost use Rattle.dwp_units.specs.Units.{unit_of};
-ghost use Rattle.thorin_find.specs.Names as spec;
-ghost use Rattle.thorin_find.specs.Names.{header_in, die_of, named, string_of, object_in};
-ghost use Rattle.thorin_find.specs.Names.{short_string_at, string_number, source_name, object_name};
 
 use dwp_base::{Endianness, SectionKind};
 use dwp_bytes::{ReadError, Reader, SliceReader, StringOffsets, string_at};

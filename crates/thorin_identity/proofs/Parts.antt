@@ -1,32 +1,26 @@
 -- The identity by a part of a section: tables of the same bytes give the same, and so does the
 -- section's table where it says the same of the root entry's code.
-use Rattle.std.proofs.Common.{◌≡◌, ℕ, ◌+◌, ◌<◌, ◌≤◌, min, length, take, drop, Option, Some, Result}
-use Rattle.std.proofs.Common.{Ok, refl, ap, sym, ◌∙◌, arith, inl, inr, ◌-◌, List, [], ◌∷◌}
-use Rattle.std.proofs.Common.{option_map, drop-drop, length-drop, length-take-le, take-take}
-use Rattle.std.proofs.lemmas.Bool.{cases_lt}
-use Rattle.std.proofs.lemmas.List.{take_min}
-use Rattle.std.proofs.lemmas.Slice.{between_is}
-use Rattle.std.specs.Option.{ok_or}
+use Rattle.std.proofs.Common.{drop, length, min, Ok, take, [], ℕ, ◌+◌, ◌-◌, ◌<◌, ◌∙◌, ◌∷◌, ◌≡◌, ◌≤◌}
+use Rattle.std.proofs.Common.{drop-drop, length-drop, length-take-le, Option, option_map, take-take}
+use Rattle.std.proofs.Common.{ap, arith, inl, inr, List, refl, Result, Some, sym}
 use Rattle.dwp_base.specs.Reading.{◌>>=◌}
+use Rattle.thorin_identity.specs.Identity.{entry_identity, part_between, root_identity, with_offset}
+use Rattle.thorin_identity.specs.Identity.{DW_AT_GNU_dwo_id, first_identifier, numbered_identity}
+use Rattle.thorin_identity.specs.Identity.{compilation}
+use Rattle.std.proofs.{lemmas.Bool.cases_lt, lemmas.List.take_min, lemmas.Slice.between_is}
+use Rattle.std.specs.Option.{ok_or}
 use Rattle.dwp_bytes.specs.declared.error.ReadError.TheVariants.{UnknownCode}
-use Rattle.dwp_bytes.specs.Input.{Input, after, front, section}
-use Rattle.dwp_dwarf.proofs.Offsets.{from_within, past_end}
+use Rattle.dwp_bytes.specs.Input.{after, front, Input, section}
+use Rattle.dwp_dwarf.proofs.{Offsets.from_within, Offsets.past_end, Tables.declared_anywhere}
 use Rattle.dwp_units.proofs.Readings.{bind_alike}
-use Rattle.dwp_dwarf.proofs.Tables.{declared_anywhere}
-use Rattle.dwp_dwarf.specs.Abbreviations.{declaration, Declaration}
-use Rattle.dwp_dwarf.specs.Entries.{entry, DebugAttribute, DebugEntry}
-use Rattle.dwp_units.specs.AbbreviationCodes.{root_code_at}
-use Rattle.dwp_dwarf.specs.Offsets.{from_at}
-use Rattle.dwp_units.specs.Units.{Unit}
+use Rattle.dwp_dwarf.specs.{Abbreviations.declaration, Abbreviations.Declaration, Offsets.from_at}
+use Rattle.dwp_dwarf.specs.Entries.{DebugAttribute, DebugEntry, entry}
+use Rattle.dwp_units.specs.{AbbreviationCodes.root_code_at, Units.Unit}
 use Rattle.dwp_table.specs.declared.object.DwarfObject.{DwarfObject}
-use Rattle.thorin_errors.specs.Errors.{ErrorValue, NoDie, GimliRead, ParseUnitAbbreviations}
+use Rattle.thorin_errors.specs.Errors.{ErrorValue, GimliRead, NoDie, ParseUnitAbbreviations}
 use Rattle.thorin_errors.specs.Answers.{as_error}
-use Rattle.thorin_identity.specs.Identity.{entry_identity, root_identity, part_between, with_offset}
-use Rattle.thorin_identity.specs.Identity.{compilation, DW_AT_GNU_dwo_id, first_identifier}
-use Rattle.thorin_identity.specs.Identity.{numbered_identity}
 use Rattle.dwp_base.specs.declared.endian.Endianness.{Endianness}
-use Rattle.dwp_bytes.specs.declared.encoding.Encoding.{Encoding}
-use Rattle.dwp_bytes.specs.declared.error.ReadError.{ReadError}
+use Rattle.dwp_bytes.specs.{declared.encoding.Encoding.Encoding, declared.error.ReadError.ReadError}
 use Rattle.dwp_dwarf.specs.Numbers.{first_number, numbered, numbered_at}
 
 -- by the code of the root entry

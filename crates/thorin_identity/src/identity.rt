@@ -1,13 +1,12 @@
 //! Which unit a unit of a split object is.
 
-ghost use Rattle.std.specs.Prelude.{◌≡◌, ◌≢◌, Ok, IfErr, IfSome, drop, take};
+ghost use Rattle.std.specs.Prelude.{drop, IfErr, IfSome, Ok, take, ◌≡◌, ◌≢◌};
+ghost use Rattle.thorin_identity.specs.Identity.{entry_identity, numbered_identity, root_identity};
+ghost use Rattle.thorin_identity.specs.Identity.{identity, identity_by, part_between, with_offset};
 ghost use Rattle.dwp_bytes.specs.Input.{Input};
 ghost use Rattle.thorin_errors.specs.Answers.{Gives};
 ghost use Rattle.dwp_units.specs.Units.{Unit, unit_of};
-ghost use Rattle.dwp_dwarf.specs.Attributes.{entry_of};
-ghost use Rattle.dwp_dwarf.specs.Numbers.{numbered_of};
-ghost use Rattle.thorin_identity.specs.Identity.{root_identity, entry_identity, numbered_identity};
-ghost use Rattle.thorin_identity.specs.Identity.{identity, identity_by, part_between, with_offset};
+ghost use Rattle.dwp_dwarf.specs.{Attributes.entry_of, Numbers.numbered_of};
 
 use dwp_dwarf::{
     AbbreviationCache, Abbreviations, EntryNumber, ReadError, Reader, RootEntry, UnitHeader,

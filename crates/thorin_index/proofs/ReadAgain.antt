@@ -1,15 +1,5 @@
 -- What was written is read again: numbers, items that are written alike, one after the other, the
 -- columns of an index, the whole of one whose entries passed the tests, and its rows.
-use Rattle.std.proofs.Common.{append-nil, append_assoc, le-ltb}
-use Rattle.std.proofs.lemmas.Bool.{false_from_ne_true, lt-ltb}
-use Rattle.std.proofs.lemmas.Iterator.Adapters.{position_from-zero}
-use Rattle.std.proofs.lemmas.List.Folds.{flat_map-map, list_any-append, list_any_at}
-use Rattle.std.proofs.lemmas.List.Quantifiers.{position-Some}
-use Rattle.std.proofs.lemmas.List.Sums.{count_by-le-length, length-filter}
-use Rattle.std.proofs.lemmas.Nat.{from_be_bytes-to_be_bytes_4, from_be_bytes-to_be_bytes_8}
-use Rattle.std.proofs.lemmas.Nat.{from_le_bytes-to_le_bytes_4, from_le_bytes-to_le_bytes_8}
-use Rattle.std.proofs.lemmas.Option.{get_or_from_slice_get, slice_get_within}
-use Rattle.std.specs.List.{list_any, position_from, range_with_len}
 use Rattle.thorin_index.proofs.Terms
 use Terms.{All, AreDistinct, Big, Bool, Contribution, Encoding, Endianness, IndexEntry, IsHashTable}
 use Terms.{IsIndexText, List, Little, None, Ok, Option, SectionKind, Some, [], ap, arith, by-bool}
@@ -20,20 +10,25 @@ use Terms.{length, length-append, length-map, ltb, ltb-true, map, map-id, mul-su
 use Terms.{number_bytes, numbers_bytes, offset_or_0, option_and_then, refl, row_numbers, rows_bytes}
 use Terms.{signature_of, signatures_bytes, size_or_0, slice_get, subst, suc, sym, true, unwrap_or}
 use Terms.{used_sections, zero, ℕ, ◌&&◌, ◌*◌, ◌++◌, ◌+◌, ◌-◌, ◌<◌, ◌^◌, ◌∙◌, ◌∷◌, ◌≡◌, ◌≤◌}
-use Rattle.dwp_base.specs.Sections.{rank_of}
-use Rattle.dwp_base.specs.declared.section.SectionKind.TheVariants.{Info}
-use Rattle.dwp_index.proofs.Columns.{kind_of_number}
-use Rattle.dwp_index.proofs.NumberLists.{is_some-position}
-use Rattle.dwp_index.specs.Index.{Index, Ranges, column_place, contribution, range_in, row_in}
-use Rattle.dwp_index.specs.IndexBytes.{after, columns_at, counts_of, index_of, is_slot_count}
-use Rattle.dwp_index.specs.IndexBytes.{new_column, number_rows, numbers, version_of}
-use Rattle.dwp_table.specs.Columns.{gnu_column, kind_of_column, standard_column}
-use Rattle.thorin_index.specs.EntryTests.{tests_under}
-use Rattle.thorin_index.specs.IndexText.{index_bytes, version_bytes}
-use Rattle.thorin_index.specs.ReadBack.{index_with}
-use Rattle.thorin_index.specs.ReadRows.{HasEntries, non_empty}
-use Rattle.thorin_index.proofs.Each.{HavePassed, by_contribution, has_number, have_passed}
+use Rattle.std.proofs.lemmas.Nat.{from_be_bytes-to_be_bytes_4, from_be_bytes-to_be_bytes_8}
+use Rattle.std.proofs.lemmas.Nat.{from_le_bytes-to_le_bytes_4, from_le_bytes-to_le_bytes_8}
+use Rattle.dwp_index.specs.IndexBytes.{columns_at, index_of, is_slot_count, new_column, number_rows}
+use Rattle.dwp_index.specs.IndexBytes.{after, counts_of, numbers, version_of}
+use Rattle.thorin_index.proofs.Each.{by_contribution, has_number, have_passed, HavePassed}
 use Rattle.thorin_index.proofs.Each.{number_of, used_known}
+use Rattle.std.proofs.Common.{append-nil, append_assoc, le-ltb}
+use Rattle.std.proofs.{lemmas.Bool.false_from_ne_true, lemmas.Iterator.Adapters.position_from-zero}
+use Rattle.std.proofs.{lemmas.Bool.lt-ltb, lemmas.List.Quantifiers.position-Some}
+use Rattle.std.proofs.lemmas.List.Folds.{flat_map-map, list_any-append, list_any_at}
+use Rattle.std.proofs.lemmas.List.Sums.{count_by-le-length, length-filter}
+use Rattle.std.proofs.lemmas.Option.{get_or_from_slice_get, slice_get_within}
+use Rattle.std.specs.List.{list_any, position_from, range_with_len}
+use Rattle.dwp_base.specs.{declared.section.SectionKind.TheVariants.Info, Sections.rank_of}
+use Rattle.dwp_index.proofs.{Columns.kind_of_number, NumberLists.is_some-position}
+use Rattle.dwp_index.specs.Index.{column_place, contribution, Index, range_in, Ranges, row_in}
+use Rattle.dwp_table.specs.Columns.{gnu_column, kind_of_column, standard_column}
+use Rattle.thorin_index.specs.{EntryTests.tests_under, IndexText.version_bytes, ReadBack.index_with}
+use Rattle.thorin_index.specs.{IndexText.index_bytes, ReadRows.HasEntries, ReadRows.non_empty}
 
 -- items are put in so many bytes each, in which those that fit are read again as what they are
 pub record IsPut {X Y : Type 0} (put : X → List ℕ) (read : List ℕ → Y) (is : X → Y)

@@ -1,8 +1,5 @@
 -- The rows of an index as they are held: what they stand for where more is shared. One more row in
 -- its hash table, and bytes that a loop adds.
-use Rattle.std.proofs.lemmas.Bool.{cases_lt}
-use Rattle.std.proofs.lemmas.Bool.Decides.{nat_tests}
-use Rattle.std.proofs.lemmas.Option.{get_or_from_slice_get, slice_get_within}
 use Rattle.thorin_index.proofs.Terms
 use Terms.{All, All-push, Encoding, Endianness, Err, ErrorValue, IndexEntry, IsHashTable, IsLooked}
 use Terms.{IsPlacedAfter, List, Ok, OnErr, Result, SectionKind, Some, [], ap, arith, below_more}
@@ -11,13 +8,12 @@ use Terms.{get_or, get_or-take, get_or_append_left, get_or_default, get_or_push,
 use Terms.{index_version_of, inl, inr, length, length-map, length-take, length_push, map, map_more}
 use Terms.{map_push, refl, row_of, slice_get, suc, sym, take, take_more, used_sections, with_own, ℕ}
 use Terms.{◌++◌, ◌+◌, ◌-◌, ◌<◌, ◌∙◌, ◌∷◌, ◌≡◌, ◌≤◌}
-use Rattle.dwp_table.specs.Table.{HasSlots}
-use Rattle.dwp_table.specs.declared.object.DwarfObject.{DwarfObject}
+use Rattle.std.proofs.{lemmas.Bool.cases_lt, lemmas.Bool.Decides.nat_tests}
+use Rattle.std.proofs.lemmas.Option.{get_or_from_slice_get, slice_get_within}
+use Rattle.dwp_table.specs.{declared.object.DwarfObject.DwarfObject, Table.HasSlots}
 use Rattle.thorin_index.specs.EntryTests.{count_test, index_tests, tests_under}
-use Rattle.thorin_index.specs.IndexText.{IsIndexOf, index_bytes}
-use Rattle.thorin_index.specs.declared.rows.Own.{Own}
-use Rattle.thorin_index.specs.declared.rows.Row.{Row}
-use Rattle.thorin_index.proofs.Each.{by_contribution}
+use Rattle.thorin_index.specs.{declared.rows.Own.Own, IndexText.index_bytes, IndexText.IsIndexOf}
+use Rattle.thorin_index.{proofs.Each.by_contribution, specs.declared.rows.Row.Row}
 
 -- a list that begins with another isn't shorter
 pub at_least : {A : Type 0} (front all : List A) → take (length front) all ≡ front

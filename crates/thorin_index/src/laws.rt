@@ -1,14 +1,12 @@
 //! What is read of written indexes, as laws.
 
-ghost use Rattle.std.specs.Prelude.{◌≡◌, ℕ, List, Ok};
+ghost use Rattle.std.specs.Prelude.{List, Ok, ℕ, ◌≡◌};
 ghost use Rattle.dwp_base.specs.declared.endian.Endianness.{Endianness};
-ghost use Rattle.dwp_bytes.specs.declared.encoding.Encoding.{Encoding};
-ghost use Rattle.dwp_bytes.specs.Encoding.{index_version_of};
+ghost use Rattle.dwp_bytes.specs.{declared.encoding.Encoding.Encoding, Encoding.index_version_of};
 ghost use Rattle.dwp_table.specs.Table.{AreDistinct};
 ghost use Rattle.dwp_index.specs.IndexBytes.{index_of};
-ghost use Rattle.thorin_index.specs.declared.entry.IndexEntry.{IndexEntry};
-ghost use Rattle.thorin_index.specs.EntryTests.{tests_under};
-ghost use Rattle.thorin_index.specs.IndexText.{IsIndexText, entry_ids, used_sections};
+ghost use Rattle.thorin_index.specs.{declared.entry.IndexEntry.IndexEntry, EntryTests.tests_under};
+ghost use Rattle.thorin_index.specs.IndexText.{entry_ids, IsIndexText, used_sections};
 ghost use Rattle.thorin_index.specs.ReadBack.{HaveShortIds, index_with};
 ghost use Rattle.thorin_index.specs.ReadRows.{IsReadAsEntries};
 

@@ -1,13 +1,11 @@
 //! The rows of an index, each held in few bytes: what neighbouring rows share is held once.
 
-ghost use Rattle.std.specs.Prelude.{◌≡◌, ◌<◌, ◌≤◌, ◌+◌, ◌++◌, [], ◌∷◌, Some, get_or, length, take};
-ghost use Rattle.std.specs.Prelude.{slice_get, IfOk, OnOk, OnErr, IsTrue};
+ghost use Rattle.std.specs.Prelude.{get_or, length, Some, take, [], ◌++◌, ◌+◌, ◌<◌, ◌∷◌, ◌≡◌, ◌≤◌};
+ghost use Rattle.std.specs.Prelude.{IfOk, IsTrue, OnErr, OnOk, slice_get};
 ghost use Rattle.dwp_table.specs.Table.{HasSlots, IsHashTable};
 ghost use Rattle.thorin_errors.specs.Answers.{Gives};
-ghost use Rattle.thorin_index.specs.Entries.{contribution_to};
-ghost use Rattle.thorin_index.specs.EntryTests.{count_test};
-ghost use Rattle.thorin_index.specs.IndexText.{entry_ids};
-ghost use Rattle.thorin_index.specs.Rows.{blank, with_own};
+ghost use Rattle.thorin_index.specs.{Entries.contribution_to, EntryTests.count_test, Rows.with_own};
+ghost use Rattle.thorin_index.specs.{IndexText.entry_ids, Rows.blank};
 
 use crate::entry::IndexEntry;
 use crate::index_writer::bucket;

@@ -1,9 +1,8 @@
 -- A part of a section is what is left behind its start of the bytes up to its end.
-use Rattle.std.proofs.Common.{◌≡◌, ℕ, ◌+◌, ◌-◌, false, List, take, drop, Some, refl, arith}
-use Rattle.std.proofs.lemmas.List.{drop-take}
-use Rattle.std.proofs.lemmas.Bool.{not-false}
+use Rattle.std.proofs.Common.{arith, drop, false, List, refl, Some, take, ℕ, ◌+◌, ◌-◌, ◌≡◌}
+use Rattle.std.proofs.{lemmas.Bool.not-false, lemmas.List.drop-take}
 use Rattle.dwp_base.specs.declared.section.Contribution.{Contribution}
-use Rattle.dwp_index.specs.Package.{part_of, is_outside, lies_inside}
+use Rattle.dwp_index.specs.Package.{is_outside, lies_inside, part_of}
 
 -- of a range that lies inside
 pub part_of_range : (bytes : List ℕ) (range : Contribution) → is_outside bytes (Some range) ≡ false

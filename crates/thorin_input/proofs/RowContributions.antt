@@ -1,29 +1,21 @@
 -- The rows that units get, put together of the contributions that are read for each kind of
 -- section.
-use Rattle.dwp_dwarf.proofs.Terms.{ap, by-bool, cond, Encoding, Err, None, Ok, Option, refl, Result}
-use Rattle.dwp_dwarf.proofs.Terms.{slice_get, Some, sym, ◌∙◌, ◌≡◌}
-use Rattle.std.proofs.Common.{map-id}
-use Rattle.std.proofs.lemmas.Option.{get_or_from_slice_get}
+use Rattle.dwp_dwarf.proofs.Terms.{ap, by-bool, cond, Encoding, Err, None, Ok, Option, ◌∙◌, ◌≡◌}
+use Rattle.dwp_dwarf.proofs.Terms.{refl, Result, slice_get, Some, sym}
+use Rattle.std.proofs.{Common.map-id, lemmas.Option.get_or_from_slice_get}
 use Rattle.dwp_base.specs.ByKind.{ReadsEach, value_of, values_of}
-use Rattle.dwp_base.specs.Reading.{Answers}
-use Rattle.dwp_base.specs.Sections.{all_kinds, rank_of}
-use Rattle.dwp_base.specs.declared.by_kind.ByKind.{ByKind}
-use Rattle.dwp_base.specs.declared.section.Contribution.{Contribution}
-use Rattle.dwp_base.specs.declared.section.SectionKind.{SectionKind}
-use Rattle.dwp_base.proofs.EveryKind.{same-each}
-use Rattle.dwp_base.proofs.KindsRead.{answers-each}
-use Rattle.dwp_base.proofs.Steps.{bind-err, bind-ok, each-read}
+use Rattle.dwp_base.specs.{declared.by_kind.ByKind.ByKind, declared.section.SectionKind.SectionKind}
+use Rattle.dwp_base.specs.{Reading.Answers, Sections.all_kinds, Sections.rank_of}
+use Rattle.dwp_base.{proofs.EveryKind.same-each, specs.declared.section.Contribution.Contribution}
+use Rattle.dwp_base.proofs.{KindsRead.answers-each, Steps.bind-err, Steps.bind-ok, Steps.each-read}
 use Rattle.dwp_table.specs.declared.object.DwarfObject.{DwarfObject}
 use Rattle.dwp_table.specs.declared.object.DwarfObject.TheVariants.{Compilation}
-use Rattle.thorin_errors.specs.Errors.{error_of, ErrorValue}
-use Rattle.thorin_errors.specs.declared.error.Error.{Error}
+use Rattle.thorin_errors.specs.{declared.error.Error.Error, Errors.error_of, Errors.ErrorValue}
 use Rattle.thorin_index.specs.Entries.{contribution_to, entry_by}
 use Rattle.thorin_index.specs.declared.entry.IndexEntry.{IndexEntry}
 use Rattle.thorin_input.specs.Adjusting.{adjusted, GivesExactly}
-use Rattle.thorin_input.specs.Format.{is_shared}
+use Rattle.thorin_input.specs.{Format.is_shared, Indexes.Indexes, Parts.joined_parts}
 use Rattle.dwp_elf.specs.Growing.{Contents, contribution_put}
-use Rattle.thorin_input.specs.Parts.{joined_parts}
-use Rattle.thorin_input.specs.Indexes.{Indexes}
 use Rattle.thorin_input.specs.Rows.{EndFits, EndsFit, unit_contribution, unit_row, whole_row}
 
 -- ---- where whole sections come to lie

@@ -1,23 +1,21 @@
 -- One walk over the sections of an input: what is known of those so far, with those that are left.
-use Rattle.std.proofs.Common.{◌≡◌, ◌∙◌, ℕ, Bool, true, false, not, eqb, ◌||◌, ◌&&◌, List, [], ◌∷◌}
-use Rattle.std.proofs.Common.{map, Option, Some, None, Result, Ok, Err, refl, sym, ap, find}
-use Rattle.std.proofs.Common.{arith, is_some, option_and_then}
-use Rattle.std.specs.Result.{result_err}
-use Rattle.std.specs.List.{list_any}
-use Rattle.std.proofs.Math.Bool.{or_assoc, or-false}
-use Rattle.std.proofs.lemmas.Bool.{false≢true}
-use Rattle.dwp_base.specs.declared.endian.Endianness.{Endianness}
 use Rattle.dwp_base.specs.declared.section.SectionKind.TheVariants as kinds
-use Rattle.dwp_base.specs.Sections.{name_of, kind_named, all_kinds}
-use Rattle.dwp_elf_read.specs.Elf.{Elf, SectionMeaning, SHT_NOBITS, has_name, is_named}
+use Rattle.thorin_input.specs.View as view
+use Rattle.std.proofs.Common.{Bool, eqb, false, List, not, true, [], ℕ, ◌&&◌, ◌||◌, ◌∙◌, ◌∷◌, ◌≡◌}
+use Rattle.std.proofs.Common.{arith, is_some, None, Ok, Option, option_and_then, refl, Result, Some}
+use Rattle.std.proofs.Common.{ap, Err, find, map, sym}
+use Rattle.std.proofs.lemmas.Bool.{false≢true}
+use Rattle.std.specs.{List.list_any, Result.result_err}
+use Rattle.std.proofs.Math.Bool.{or-false, or_assoc}
+use Rattle.dwp_base.specs.declared.endian.Endianness.{Endianness}
+use Rattle.dwp_base.specs.Sections.{all_kinds, kind_named, name_of}
+use Rattle.dwp_elf_read.specs.Elf.{Elf, has_name, is_named, SectionMeaning, SHT_NOBITS}
 use Rattle.dwp_elf_read.specs.View.{Placed, placed_sections}
 use Rattle.dwp_index.specs.Contents.{is_of_kind}
-use Rattle.thorin_errors.specs.Errors.{ErrorValue, error_of}
+use Rattle.thorin_errors.specs.{declared.error.Error.Error, Errors.error_of, Errors.ErrorValue}
 use Rattle.thorin_errors.specs.Answers.{Gives, MemoryAside}
-use Rattle.thorin_errors.specs.declared.error.Error.{Error}
 use Rattle.thorin_input.specs.Encodings.{is_index, is_plain}
-use Rattle.thorin_input.specs.Used.{Used, used_kind, has_kind, with_used, used_from, input_file_of}
-use Rattle.thorin_input.specs.View as view
+use Rattle.thorin_input.specs.Used.{has_kind, input_file_of, Used, used_from, used_kind, with_used}
 use Rattle.thorin_input.specs.declared.object.InputObject.{InputObject}
 use Rattle.thorin_input.specs.declared.object.UsedSection.{UsedSection}
 use Rattle.thorin_input.specs.declared.walk.UsedSections.{UsedSections}

@@ -1,10 +1,9 @@
 //! Which sections of an input are used, what they hold, and the encoding of its units.
 
-ghost use Rattle.std.specs.Prelude.{◌≡◌, ◌&&◌, ◌||◌, not, find, option_map, Some, None};
-ghost use Rattle.std.specs.Prelude.{if◌then◌else◌};
-ghost use Rattle.std.specs.List.{list_any};
-ghost use Rattle.dwp_base.specs.Sections.{same_kind};
 ghost use Rattle.dwp_base.specs.declared.section.SectionKind.TheVariants as kinds;
+ghost use Rattle.std.specs.Prelude.{find, not, option_map, Some, if◌then◌else◌, ◌&&◌, ◌||◌, ◌≡◌};
+ghost use Rattle.std.specs.{List.list_any, Prelude.None};
+ghost use Rattle.dwp_base.specs.Sections.{same_kind};
 ghost use Rattle.dwp_elf_read.specs.View.{elf};
 ghost use Rattle.thorin_errors.specs.Answers.{Gives};
 ghost use Rattle.thorin_input.specs.Encodings as encodings;

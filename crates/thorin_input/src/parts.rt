@@ -1,17 +1,15 @@
 //! What an input adds to the sections of a package beside its units: contents that are copied, and
 //! string offsets that are rewritten.
 
-ghost use Rattle.std.specs.Prelude.{◌≡◌, length, take, map, OnOk, IfErr};
-ghost use Rattle.dwp_base.specs.declared.section.SectionKind.TheVariants.{Str};
-ghost use Rattle.dwp_elf.specs.FileText.{Object};
-ghost use Rattle.dwp_elf.specs.Growing.{IsGrown, with_bytes};
-ghost use Rattle.thorin_errors.specs.Answers.{Gives};
-ghost use Rattle.thorin_strings.specs.Known.{AreKnown};
 ghost use Rattle.thorin_input.specs.Format as formats;
 ghost use Rattle.thorin_input.specs.InputStrings as input_strings;
 ghost use Rattle.thorin_input.specs.Parts as spec;
-ghost use Rattle.thorin_input.specs.Parts.{with_parts};
-ghost use Rattle.thorin_input.specs.Used.{first};
+ghost use Rattle.std.specs.Prelude.{IfErr, length, map, OnOk, take, ◌≡◌};
+ghost use Rattle.dwp_base.specs.declared.section.SectionKind.TheVariants.{Str};
+ghost use Rattle.dwp_elf.specs.{FileText.Object, Growing.IsGrown, Growing.with_bytes};
+ghost use Rattle.thorin_errors.specs.Answers.{Gives};
+ghost use Rattle.thorin_strings.specs.Known.{AreKnown};
+ghost use Rattle.thorin_input.specs.{Parts.with_parts, Used.first};
 ghost use Rattle.thorin_input.specs.View as view;
 
 use crate::object::UsedSection;

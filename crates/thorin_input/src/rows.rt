@@ -1,20 +1,17 @@
 //! The rows that units get: each unit's contribution to each section of its input, tested, and put
 //! where the section comes to lie in the package.
 
-ghost use Rattle.std.specs.Prelude.{◌≡◌, take, drop, map, None, IfOk, IfErr, if◌then◌else◌};
+ghost use Rattle.thorin_input.specs.Rows as spec;
+ghost use Rattle.std.specs.Prelude.{drop, IfErr, IfOk, map, None, take, if◌then◌else◌, ◌≡◌};
 ghost use Rattle.dwp_base.specs.declared.section.SectionKind.TheVariants.{Abbrev};
 ghost use Rattle.dwp_units.specs.Units.{unit_of};
 ghost use Rattle.dwp_elf.specs.Growing.{contribution_put};
 ghost use Rattle.dwp_table.specs.Objects.{identifier_of};
 ghost use Rattle.thorin_errors.specs.Answers.{Gives};
-ghost use Rattle.thorin_input.specs.Adjusting.{GivesExactly};
+ghost use Rattle.thorin_input.specs.{Adjusting.GivesExactly, Indexes.index_for, Parts.joined_parts};
+ghost use Rattle.thorin_input.specs.{Format.is_shared, Indexes.looked_up, Used.first};
 ghost use Rattle.thorin_index.specs.Entries.{contribution_to};
-ghost use Rattle.thorin_input.specs.Format.{is_shared};
-ghost use Rattle.thorin_input.specs.Indexes.{index_for, looked_up};
-ghost use Rattle.thorin_input.specs.Parts.{joined_parts};
-ghost use Rattle.thorin_input.specs.Rows as spec;
 ghost use Rattle.thorin_input.specs.Rows.{EndFits, EndsFit};
-ghost use Rattle.thorin_input.specs.Used.{first};
 ghost use Rattle.thorin_input.specs.View as view;
 
 use crate::parts::{Part, is_shared};

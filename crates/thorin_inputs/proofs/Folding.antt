@@ -1,16 +1,14 @@
 -- The longest of some prefixes is the longest beginning of the path that is one.
-use Rattle.std.proofs.Common.{◌≡◌, ◌∙◌, ℕ, ◌+◌, ◌<◌, ◌≤◌, true, List, [], ◌∷◌}
-use Rattle.std.proofs.Common.{refl, arith, take, drop, length, sym, ap, ◌⊎◌, inl, inr, ⊎_elim}
-use Rattle.std.proofs.Common.{take-append-drop, length-take-le, length-drop}
-use Rattle.std.specs.Prelude.{Option, Some, None, fold, nat_le, ◌==◌}
-use Rattle.std.specs.Borrow.{Bor}
-use Rattle.std.specs.Str.{bytes_eq}
-use Rattle.std.proofs.lemmas.Slice.Eq.{bytes_eq-Decides}
-use Rattle.std.proofs.lemmas.Bool.{cases_order, eqb-true, leb-true, leb-false}
+use Rattle.std.proofs.Common.{List, refl, true, [], ℕ, ⊎_elim, ◌+◌, ◌<◌, ◌∙◌, ◌∷◌, ◌≡◌, ◌≤◌, ◌⊎◌}
+use Rattle.std.proofs.Common.{arith, length, length-drop, length-take-le, take, take-append-drop}
+use Rattle.std.proofs.Common.{ap, drop, inl, inr, sym}
+use Rattle.std.specs.Prelude.{fold, nat_le, None, Option, Some, ◌==◌}
+use Rattle.thorin_inputs.specs.Prefixes.{from_of, has_equals, longest, Replaced, replaced, with_to}
+use Rattle.thorin_inputs.specs.Prefixes.{behind, longer, to_of}
+use Rattle.std.{proofs.lemmas.Slice.Eq.bytes_eq-Decides, specs.Borrow.Bor, specs.Str.bytes_eq}
+use Rattle.std.proofs.lemmas.Bool.{cases_order, eqb-true, leb-false, leb-true}
 use Rattle.dwp_base.proofs.Bools.{by-bool}
-use Rattle.thorin_inputs.specs.Prefixes.{has_equals, from_of, to_of, behind, Replaced, replaced}
-use Rattle.thorin_inputs.specs.Prefixes.{longer, longest, with_to}
-use Rattle.thorin_inputs.specs.Mapped.{later, last_word, Counts}
+use Rattle.thorin_inputs.specs.Mapped.{Counts, last_word, later}
 use Rattle.thorin_inputs.proofs.Prefixing.{behind-prefix}
 
 -- a prefix is a beginning, and what is behind it is the rest

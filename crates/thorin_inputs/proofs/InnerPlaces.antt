@@ -1,23 +1,19 @@
 -- Places of strings that are counted one after another, and what their strings have together.
-use Rattle.std.proofs.Common.{◌≡◌, ℕ, zero, suc, ◌+◌, ◌-◌, ◌<◌, ◌≤◌, Bool, true, false, ◌&&◌, ◌||◌}
-use Rattle.std.proofs.Common.{cond, eqb, List, [], ◌∷◌, length, drop, sum_by, refl, sym, subst, ◌∙◌}
-use Rattle.std.proofs.Common.{arith, nat_lt, ltb, slice_get, Some, Ok, Err}
-use Rattle.std.proofs.Common.{length-drop, length-take}
-use Rattle.std.specs.List.{list_any, range_with_len, position_or_len}
-use Rattle.std.specs.BTreeMap.{is_at}
-use Rattle.std.specs.BTreeSet.{BTreeSet, contains, Updates}
-use Rattle.std.specs.Ordering.{nat_cmp}
+use Rattle.std.proofs.Common.{Bool, suc, zero, [], ℕ, ◌&&◌, ◌+◌, ◌-◌, ◌<◌, ◌||◌, ◌∙◌, ◌∷◌, ◌≡◌, ◌≤◌}
+use Rattle.std.proofs.Common.{arith, cond, drop, eqb, Err, List, ltb, refl, Some, subst, sym, true}
+use Rattle.std.proofs.Common.{false, length, length-drop, length-take, nat_lt, slice_get, sum_by}
+use Rattle.std.proofs.{Common.Ok, lemmas.Bool.Decides.nat_tests, lemmas.Bool.eqb-true}
+use Rattle.std.specs.{BTreeMap.is_at, BTreeSet.BTreeSet, List.position_or_len, List.range_with_len}
+use Rattle.std.specs.{BTreeSet.contains, BTreeSet.Updates, List.list_any, Ordering.nat_cmp}
 use Rattle.std.proofs.lemmas.List.Sums.{sum_by-cons, sum_by-le-sum_by}
-use Rattle.std.proofs.lemmas.Bool.{eqb-true}
-use Rattle.std.proofs.lemmas.Bool.Decides.{nat_tests}
 use Rattle.dwp_base.proofs.Bools.{both, by-bool, neither}
 use Rattle.dwp_bytes.specs.StringOffsets.{string_at, string_from}
 use Rattle.dwp_bytes.specs.declared.error.ReadError.{ReadError}
 use Rattle.dwp_decompress.proofs.Sections.{drop_step}
-use Rattle.dwp_elf_read.specs.Elf.{SectionMeaning, holds}
+use Rattle.dwp_elf_read.specs.Elf.{holds, SectionMeaning}
 use Rattle.dwp_base.specs.declared.endian.Endianness.{Endianness}
 use Rattle.dwp_base.specs.declared.section.SectionKind.TheVariants.{StrOffsets}
-use Rattle.thorin_inputs.specs.InnerStrings.{sizes_at, string_size, names, has_word, plain_content}
+use Rattle.thorin_inputs.specs.InnerStrings.{has_word, names, plain_content, sizes_at, string_size}
 
 -- ---- sizes
 

@@ -1,22 +1,16 @@
 -- The words so far, looked up by their FROM.
-use Rattle.std.proofs.Common.{◌≡◌, ◌∙◌, ℕ, ◌+◌, true, false, List, [], ◌∷◌, ◌++◌, refl, arith}
-use Rattle.std.proofs.Common.{take, sym, ap, eqb}
-use Rattle.std.specs.Prelude.{Option, Some, None, option_map}
-use Rattle.std.specs.Borrow.{Bor}
-use Rattle.std.specs.Option.{option_or}
 use Rattle.std.specs.BTreeMap as tree
-use Rattle.std.specs.BTreeMap.{BTreeMap}
-use Rattle.std.specs.Cmp.Lexicographic.{slice_cmp}
-use Rattle.std.specs.Ordering.{nat_cmp}
-use Rattle.std.specs.Str.{bytes_eq}
-use Rattle.std.proofs.lemmas.Bool.{eqb-false, eqb-true}
-use Rattle.std.proofs.lemmas.List.Sums.{fold-append}
-use Rattle.std.proofs.lemmas.Map.Text.{btree_map_updates_str}
-use Rattle.std.proofs.lemmas.Slice.Eq.{bytes_eq-Decides}
+use Rattle.std.proofs.Common.{arith, false, List, refl, take, true, [], ℕ, ◌++◌, ◌+◌, ◌∙◌, ◌∷◌, ◌≡◌}
+use Rattle.std.proofs.Common.{ap, eqb, sym}
+use Rattle.std.specs.Prelude.{None, Option, option_map, Some}
+use Rattle.std.specs.{Borrow.Bor, BTreeMap.BTreeMap, Cmp.Lexicographic.slice_cmp, Option.option_or}
+use Rattle.std.specs.{Ordering.nat_cmp, Str.bytes_eq}
+use Rattle.std.proofs.{lemmas.Map.Text.btree_map_updates_str, lemmas.Slice.Eq.bytes_eq-Decides}
+use Rattle.std.proofs.{lemmas.Bool.eqb-false, lemmas.Bool.eqb-true, lemmas.List.Sums.fold-append}
 use Rattle.dwp_base.proofs.Bools.{by-bool}
-use Rattle.thorin_inputs.specs.Prefixes.{has_equals, from_of}
-use Rattle.thorin_inputs.specs.Mapped.{Entries, AreOf, Counts, later, last_word, word_at}
-use Rattle.thorin_inputs.proofs.Folding.{later-miss, later-hit}
+use Rattle.thorin_inputs.specs.Prefixes.{from_of, has_equals}
+use Rattle.thorin_inputs.specs.Mapped.{AreOf, Counts, Entries, last_word, later, word_at}
+use Rattle.thorin_inputs.proofs.Folding.{later-hit, later-miss}
 
 abbrev pub Words : Type 0
 Words = List (Bor (List ℕ))

@@ -1,27 +1,19 @@
 -- The FROMs that begin as a path does: fewer are left with each byte of it.
-use Rattle.std.proofs.Common.{◌≡◌, ◌∙◌, ℕ, zero, suc, ◌+◌, ◌<◌, ◌≤◌, Bool, true, false, List, []}
-use Rattle.std.proofs.Common.{◌∷◌, length-take-le, take_all, Ordering}
-use Rattle.std.proofs.Common.{◌-◌, ◌&&◌, refl, sym, ap, arith, length, take, drop, add-one}
-use Rattle.std.specs.Prelude.{◌==◌, Option, Some, None, option_map, slice_index_or}
-use Rattle.std.specs.Borrow.{Bor}
-use Rattle.std.specs.BTreeMap.{is_at}
-use Rattle.std.specs.Cmp.Lexicographic.{slice_cmp}
-use Rattle.std.specs.List.{filter, slice_get, AllWithin, AllByRecursion}
-use Rattle.std.specs.List.Sorted.{IsStrictlySortedBy, IsNonDecreasingBy, IsPartitionPoint}
-use Rattle.std.specs.Map.{keys_of}
-use Rattle.std.specs.Ordering.{nat_cmp, ordering_then}
-use Rattle.std.specs.declared.cmp.Ordering.TheVariants.{Less}
-use Rattle.std.proofs.lemmas.Bool.{eq-eqb, eqb-true}
-use Rattle.std.proofs.lemmas.Bool.Decides.{nat_tests}
-use Rattle.std.proofs.lemmas.List.Kept.{IsStrictlySortedBy-filter}
-use Rattle.std.proofs.lemmas.Map.Entries.{lookup-filter-keys}
-use Rattle.std.proofs.lemmas.Map.Text.{is_eq-slice_cmp}
-use Rattle.std.proofs.lemmas.Option.{slice_get_past, slice_get-get_or}
-use Rattle.std.proofs.lemmas.Slice.Eq.{bytes_eq-Decides}
-use Rattle.dwp_base.proofs.Bools.{by-bool, both}
-use Rattle.dwp_base.proofs.Finds.{slice_get_none}
-use Rattle.thorin_inputs.specs.Mapped.{Entries, AreOf, IsOrdered, begins, beginning, key_at}
-use Rattle.thorin_inputs.specs.Mapped.{word_at, last_word}
+use Rattle.std.proofs.Common.{Bool, suc, true, zero, [], ℕ, ◌&&◌, ◌+◌, ◌-◌, ◌<◌, ◌∙◌, ◌∷◌, ◌≡◌, ◌≤◌}
+use Rattle.std.proofs.Common.{add-one, ap, arith, false, length, length-take-le, Ordering, take_all}
+use Rattle.std.proofs.Common.{drop, List, refl, sym, take}
+use Rattle.std.specs.Prelude.{None, Option, option_map, slice_index_or, Some, ◌==◌}
+use Rattle.thorin_inputs.specs.Mapped.{beginning, begins, Entries, IsOrdered, last_word, word_at}
+use Rattle.thorin_inputs.specs.Mapped.{AreOf, key_at}
+use Rattle.std.specs.{Cmp.Lexicographic.slice_cmp, declared.cmp.Ordering.TheVariants.Less}
+use Rattle.std.specs.{BTreeMap.is_at, List.AllByRecursion, Ordering.nat_cmp, Ordering.ordering_then}
+use Rattle.std.specs.{Borrow.Bor, List.AllWithin, List.filter, List.slice_get, Map.keys_of}
+use Rattle.std.specs.List.Sorted.{IsNonDecreasingBy, IsPartitionPoint, IsStrictlySortedBy}
+use Rattle.std.proofs.{lemmas.List.Kept.IsStrictlySortedBy-filter, lemmas.Slice.Eq.bytes_eq-Decides}
+use Rattle.std.proofs.{lemmas.Map.Entries.lookup-filter-keys, lemmas.Map.Text.is_eq-slice_cmp}
+use Rattle.std.proofs.{lemmas.Bool.Decides.nat_tests, lemmas.Bool.eq-eqb, lemmas.Bool.eqb-true}
+use Rattle.std.proofs.lemmas.Option.{slice_get-get_or, slice_get_past}
+use Rattle.dwp_base.proofs.{Bools.both, Bools.by-bool, Finds.slice_get_none}
 
 -- ---- one byte more
 

@@ -1,11 +1,9 @@
 -- Files, looked up among those that were read.
-use Rattle.std.proofs.Common.{◌≡◌, ◌∙◌, ℕ, List, [], ◌∷◌, Some, eqb, ◌&&◌, cond, refl, sym, arith}
-use Rattle.std.specs.BTreeMap.{BTreeMap, is_at, Updates}
-use Rattle.std.specs.Map.{lookup}
+use Rattle.std.proofs.Common.{arith, cond, eqb, List, refl, Some, sym, [], ℕ, ◌&&◌, ◌∙◌, ◌∷◌, ◌≡◌}
+use Rattle.std.specs.{BTreeMap.BTreeMap, BTreeMap.is_at, BTreeMap.Updates, Map.lookup}
 use Rattle.std.specs.Ordering.{is_eq, nat_cmp, ordering_then}
 use Rattle.std.proofs.lemmas.Bool.Decides.{nat_tests}
-use Rattle.thorin_inputs.specs.Repetitions.{File, is_file}
-use Rattle.thorin_inputs.specs.RepetitionFields.{file_cmp}
+use Rattle.thorin_inputs.specs.{RepetitionFields.file_cmp, Repetitions.File, Repetitions.is_file}
 
 same : (a b c d e f : ℕ)
     → is_eq (ordering_then (ordering_then (nat_cmp a b) (nat_cmp c d)) (nat_cmp e f))

@@ -1,8 +1,7 @@
 -- Sizes of sections that are added up.
-use Rattle.std.proofs.Common.{◌≡◌, ℕ, ◌+◌, ◌-◌, ◌^◌, ◌≤◌, List, length, drop, min, sum_by, Some}
-use Rattle.std.proofs.Common.{slice_get, ap, ◌∙◌, arith}
-use Rattle.std.proofs.lemmas.List.{drop_all}
-use Rattle.std.proofs.lemmas.List.Sums.{sum_by-cons}
+use Rattle.std.proofs.Common.{ap, drop, length, List, min, sum_by, ℕ, ◌+◌, ◌-◌, ◌^◌, ◌∙◌, ◌≡◌, ◌≤◌}
+use Rattle.std.proofs.Common.{arith, slice_get, Some}
+use Rattle.std.proofs.{lemmas.List.drop_all, lemmas.List.Sums.sum_by-cons}
 use Rattle.dwp_elf_read.specs.Elf.{SectionMeaning}
 use Rattle.dwp_decompress.proofs.Sections.{drop_step}
 use Rattle.thorin_inputs.specs.Overlaps.{each_size}

@@ -1,20 +1,18 @@
 -- The sections that strings are named by, met one after another.
-use Rattle.std.proofs.Common.{◌≡◌, ℕ, ◌+◌, ◌≤◌, Bool, true, false, ◌&&◌, ◌||◌, cond, List, [], ◌∷◌}
-use Rattle.std.proofs.Common.{take, drop, Option, Some, None, slice_get, refl, sym, ap}
-use Rattle.std.proofs.Common.{◌∙◌, option_map, arith, eqb, ◌-◌}
-use Rattle.std.specs.List.{list_any}
-use Rattle.std.specs.Option.{option_or}
+use Rattle.std.proofs.Common.{Bool, false, true, [], ℕ, ◌&&◌, ◌+◌, ◌-◌, ◌||◌, ◌∙◌, ◌∷◌, ◌≡◌, ◌≤◌}
+use Rattle.std.proofs.Common.{arith, cond, drop, List, Option, option_map, slice_get, Some, take}
+use Rattle.std.proofs.Common.{ap, eqb, None, refl, sym}
 use Rattle.std.proofs.lemmas.Bool.{eqb-true, false≢true}
+use Rattle.std.specs.{List.list_any, Option.option_or}
 use Rattle.std.proofs.lemmas.List.{drop-drop, take-append-drop}
 use Rattle.std.proofs.lemmas.List.Folds.{list_any-append, list_any_more}
 use Rattle.std.proofs.lemmas.Option.{get_or_from_slice_get, slice_get_within}
-use Rattle.dwp_base.proofs.Bools.{both, by-bool, neither}
-use Rattle.dwp_base.proofs.Finds.{find_at}
+use Rattle.dwp_base.proofs.{Bools.both, Bools.by-bool, Bools.neither, Finds.find_at}
 use Rattle.dwp_base.specs.declared.section.SectionKind.{SectionKind}
 use Rattle.dwp_base.specs.declared.section.SectionKind.TheVariants.{StrOffsets}
 use Rattle.dwp_decompress.proofs.Sections.{drop_step}
-use Rattle.dwp_elf_read.specs.Elf.{SectionMeaning, holds}
-use Rattle.thorin_inputs.specs.InnerStrings.{plain_content, first_content}
+use Rattle.dwp_elf_read.specs.Elf.{holds, SectionMeaning}
+use Rattle.thorin_inputs.specs.InnerStrings.{first_content, plain_content}
 use Rattle.thorin_inputs.specs.UsedSections.{met}
 
 -- what was met, with what is left, is the first of all

@@ -1,11 +1,10 @@
 //! Small files that could ask for a package of any size.
 
-ghost use Rattle.std.specs.Prelude.{◌≡◌, None, IfOk, OnOk, OnErr};
+ghost use Rattle.std.specs.Prelude.{IfOk, None, OnErr, OnOk, ◌≡◌};
+ghost use Rattle.thorin_inputs.specs.Repetitions.{bytes_more, is_admitted, none_read, with_added};
+ghost use Rattle.thorin_inputs.specs.Repetitions.{is_added_within, object_counted, own_counted};
+ghost use Rattle.thorin_inputs.specs.Repetitions.{begun, File, last, last_of, noted, plus};
 ghost use Rattle.thorin_inputs.specs.Growth.{growth_text};
-ghost use Rattle.thorin_inputs.specs.Repetitions.{File, none_read, plus, begun, with_added};
-ghost use Rattle.thorin_inputs.specs.Repetitions.{bytes_more, is_added_within, own_counted};
-ghost use Rattle.thorin_inputs.specs.Repetitions.{object_counted, is_admitted, last, last_of};
-ghost use Rattle.thorin_inputs.specs.Repetitions.{noted};
 
 use std::alloc::{AllocError, Global};
 use std::collections::BTreeMap;

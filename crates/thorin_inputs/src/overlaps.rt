@@ -1,27 +1,23 @@
 //! Files whose sections overlap (ELF gABI, "Sections"), or strings: of these a few bytes of string
 //! offsets could ask for as many copies of one long string.
 
-ghost use Rattle.std.specs.Prelude.{◌≡◌, ◌≤◌, ◌<◌, ◌+◌, ◌-◌, ◌*◌, ◌^◌, ℕ, ◌||◌, ◌&&◌, ◌==◌, nat_lt};
-ghost use Rattle.std.specs.Prelude.{IfOk, OnOk, if◌then◌else◌, false, length, take, drop, min, find};
-ghost use Rattle.std.specs.Prelude.{sum_by, option_map};
-ghost use Rattle.std.specs.List.{list_any};
-ghost use Rattle.std.specs.Option.{option_copied};
-ghost use Rattle.dwp_base.specs.declared.section.SectionKind.TheVariants.{CuIndex, Info, Str};
-ghost use Rattle.dwp_base.specs.declared.section.SectionKind.TheVariants.{StrOffsets, TuIndex};
 ghost use Rattle.dwp_decompress.specs.Sizes as decompressing;
-ghost use Rattle.dwp_decompress.specs.declared.asked.Asked.TheVariants.{OfUnits};
-ghost use Rattle.dwp_elf_read.specs.Elf.{elf_of, is_of, holds};
 ghost use Rattle.dwp_elf_read.specs.View as view;
-ghost use Rattle.dwp_elf_read.specs.View.{elf};
-ghost use Rattle.dwp_index.specs.Index.{row_in};
-ghost use Rattle.dwp_index.specs.IndexBytes.{index_of};
-ghost use Rattle.thorin_inputs.specs.InnerPlaces.{Counts, IsSummed, IsWithin, is_counted};
-ghost use Rattle.thorin_inputs.specs.InnerStrings.{begins_inside, first_content, has_inner_strings};
-ghost use Rattle.thorin_inputs.specs.InnerStrings.{has_row_between, has_word, is_inner};
-ghost use Rattle.thorin_inputs.specs.InnerStrings.{is_row_between, most_inner, or_nothing};
-ghost use Rattle.thorin_inputs.specs.InnerStrings.{plain_content, sizes_at, step_by, string_size};
-ghost use Rattle.thorin_inputs.specs.InnerStrings.{word_count};
-ghost use Rattle.thorin_inputs.specs.Overlaps.{each_size, first_size, used_size, overlaps};
+ghost use Rattle.std.specs.Prelude.{if◌then◌else◌, ◌&&◌, ◌*◌, ◌+◌, ◌-◌, ◌<◌, ◌==◌, ◌||◌, ◌≡◌, ◌≤◌};
+ghost use Rattle.std.specs.Prelude.{drop, false, IfOk, length, min, nat_lt, OnOk, take, ℕ, ◌^◌};
+ghost use Rattle.std.specs.Prelude.{find, option_map, sum_by};
+ghost use Rattle.dwp_base.specs.declared.section.SectionKind.TheVariants.{CuIndex, Str, StrOffsets};
+ghost use Rattle.dwp_base.specs.declared.section.SectionKind.TheVariants.{Info, TuIndex};
+ghost use Rattle.thorin_inputs.specs.InnerStrings.{has_inner_strings, has_row_between, string_size};
+ghost use Rattle.thorin_inputs.specs.InnerStrings.{has_word, most_inner, or_nothing, plain_content};
+ghost use Rattle.thorin_inputs.specs.InnerStrings.{begins_inside, first_content, is_row_between};
+ghost use Rattle.thorin_inputs.specs.InnerStrings.{is_inner, sizes_at, step_by, word_count};
+ghost use Rattle.std.specs.{List.list_any, Option.option_copied};
+ghost use Rattle.dwp_decompress.specs.declared.asked.Asked.TheVariants.{OfUnits};
+ghost use Rattle.dwp_elf_read.specs.{Elf.elf_of, Elf.holds, Elf.is_of, View.elf};
+ghost use Rattle.dwp_index.specs.{Index.row_in, IndexBytes.index_of};
+ghost use Rattle.thorin_inputs.specs.InnerPlaces.{Counts, is_counted, IsSummed, IsWithin};
+ghost use Rattle.thorin_inputs.specs.Overlaps.{each_size, first_size, overlaps, used_size};
 ghost use Rattle.thorin_inputs.specs.UsedSections.{met};
 
 use crate::growth::LEAST_ROOM;

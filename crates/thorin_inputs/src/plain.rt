@@ -1,11 +1,9 @@
 //! Files with plain sections in place of compressed ones, and what is left compressed of them.
 
-ghost use Rattle.std.specs.Prelude.{◌≡◌, Err, IfOk, IfErr, OnOk, false, true};
+ghost use Rattle.std.specs.Prelude.{Err, false, IfErr, IfOk, OnOk, true, ◌≡◌};
 ghost use Rattle.dwp_elf_read.specs.Elf.{elf_of};
-ghost use Rattle.dwp_decompress.specs.Compressed.{HasCompressed};
-ghost use Rattle.dwp_decompress.specs.Result.{decompressed_of};
-ghost use Rattle.dwp_decompress.specs.Sizes.{overlaps};
-ghost use Rattle.dwp_decompress.specs.declared.asked.Asked.TheVariants.{OfUnits};
+ghost use Rattle.dwp_decompress.specs.{declared.asked.Asked.TheVariants.OfUnits, Sizes.overlaps};
+ghost use Rattle.dwp_decompress.specs.{Compressed.HasCompressed, Result.decompressed_of};
 ghost use Rattle.thorin_inputs.specs.Plain.{IsPlain, IsPlainOf, LeavesUnread, or_content};
 ghost use Rattle.thorin_inputs.specs.declared.plain.PlainError.TheVariants.{TooLarge};
 

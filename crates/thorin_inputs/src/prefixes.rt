@@ -1,14 +1,13 @@
 //! Prefixes of paths that others take the place of, and the paths of the command line, whose
 //! prefixes stay.
 
-ghost use Rattle.std.specs.Prelude.{◌≡◌, true, false, ◌+◌, ◌<◌, ◌≤◌, IfOk, MatchOption, option_map};
-ghost use Rattle.std.specs.Prelude.{length, take, string_bytes, IfSome};
-ghost use Rattle.std.specs.List.Sorted.{IsNonDecreasingBy, IsPartitionPoint};
-ghost use Rattle.std.specs.List.Sorted.{IsStrictlySortedBy-prop};
-ghost use Rattle.thorin_inputs.specs.Given.{StandsAt};
 ghost use Rattle.thorin_inputs.specs.Prefixes as spec;
-ghost use Rattle.thorin_inputs.specs.Mapped.{AreOf, IsOrdered, Counts, last_word};
-ghost use Rattle.thorin_inputs.specs.Mapped.{beginning, key_at};
+ghost use Rattle.std.specs.Prelude.{false, IfOk, MatchOption, option_map, true, ◌+◌, ◌<◌, ◌≡◌, ◌≤◌};
+ghost use Rattle.std.specs.Prelude.{IfSome, length, string_bytes, take};
+ghost use Rattle.std.specs.List.Sorted.{IsNonDecreasingBy, IsStrictlySortedBy-prop};
+ghost use Rattle.std.specs.List.Sorted.{IsPartitionPoint};
+ghost use Rattle.thorin_inputs.specs.Mapped.{beginning, Counts, IsOrdered, key_at, last_word};
+ghost use Rattle.thorin_inputs.specs.{Given.StandsAt, Mapped.AreOf};
 
 use std::alloc::{AllocError, Global};
 use std::collections::BTreeMap;

@@ -9,19 +9,17 @@ use Terms.{offsets_used, Ok, opened, Option, order_test, package_or_new, parts_o
 use Terms.{Some, Source, source_units, Str, subst, sum_by, sym, true, units_begun}
 use Terms.{units_of, with_input, with_new_units, with_parts, with_source, [], ℕ, ◌++◌, ◌∙◌, ◌∷◌}
 use Terms.{map-map, ◌≡◌, ◌⊎◌}
+use Rattle.thorin_join.proofs.Units.ReadInTurn.{added-keys, AreAdded, each-joining, units-joined}
+use Rattle.thorin_join.proofs.Units.ReadInTurn.{News, Reads}
+use Rattle.thorin_join.proofs.Rows.AllAdded.{AllCanBeAdded, joined-new, laid-lies, units-added}
+use Rattle.thorin_join.proofs.Parts.Added.{Brings, content-with_parts, parts-follow, units-strings}
+use Rattle.thorin_join.proofs.Parts.Added.{each-brings, parts-none}
 use Rattle.thorin_join.specs.State.{held_units, with_all}
 use Rattle.thorin_join.specs.Meaning.{input_meaning, meant, object_meaning, source_meaning}
-use Rattle.thorin_join.proofs.Units.InRows.{apart-none, joined_distinct, keys-units}
-use Rattle.thorin_join.proofs.Units.InRows.{units-are}
-use Rattle.thorin_join.proofs.Units.ReadInTurn.{added-keys, AreAdded, each-joining, News, Reads}
-use Rattle.thorin_join.proofs.Units.ReadInTurn.{units-joined}
+use Rattle.thorin_join.proofs.Units.InRows.{apart-none, joined_distinct, keys-units, units-are}
 use Rattle.thorin_join.proofs.Rows.OneAdded.{Grows, keep-rows, not-shared}
-use Rattle.thorin_join.proofs.Rows.AllAdded.{AllCanBeAdded, can-lie, joined-new, laid-lies}
-use Rattle.thorin_join.proofs.Rows.AllAdded.{units-added}
-use Rattle.thorin_join.proofs.Parts.Added.{Brings, content-with_parts, each-brings, parts-follow}
-use Rattle.thorin_join.proofs.Parts.Added.{parts-none, units-strings}
+use Rattle.thorin_join.proofs.{Rows.AllAdded.can-lie, Units.Whole.Goes, Units.Whole.units-go}
 use Rattle.thorin_join.proofs.Rows.OfUnits.{is-unit_row, row-shares}
-use Rattle.thorin_join.proofs.Units.Whole.{Goes, units-go}
 use Rattle.thorin_input.specs.Encodings.{encoding_of}
 use Rattle.thorin_join.specs.Builder.{order_of, source_for, with_source_or_new, with_units}
 use Rattle.thorin_join.specs.FirstUse.{named_in, named_in_file, strings_begun, used_by, UsesStrings}

@@ -5,23 +5,21 @@ use Terms.{first_identifier, Format, Header, identity, Input, is_some, length}
 use Terms.{length-append, List, nat_tests, number_front, offset_size, Ok, ReadError, refl, Result}
 use Terms.{root_identity, suc, sym, take-append-drop, take-append-le, true, type_signature}
 use Terms.{unit_takes, UnitSection, zero, [], ℕ, ◌++◌, ◌+◌, ◌-◌, ◌>>=◌, ◌∙◌, ◌∷◌, ◌≡◌, ◌⊎◌}
+use Rattle.dwp_units.proofs.Readings.{bind-bind, bind_alike, reads_byte, reads_sleb, reads_uleb}
+use Rattle.dwp_units.proofs.Readings.{Answer, by-result, more, Reads}
+use Rattle.dwp_dwarf.specs.Forms.{block_length_at, named_form_at, named_within, past_value, text_at}
+use Rattle.dwp_units.specs.Units.{address_size_at, initial_length_at, older_type_at, unit_code_at}
+use Rattle.dwp_units.specs.Units.{header_at, newer_at, older_at, type_at, unit_at, unit_type_at}
+use Rattle.std.proofs.Common.{add_assoc, length-take-le, ℤ}
 use Rattle.dwp_bytes.specs.Input.{byte_at, number_at, offset_at, relocated_at, skip_at, split_at}
 use Rattle.dwp_bytes.specs.Leb.{sleb_at, uleb_at}
-use Rattle.dwp_units.proofs.Readings.{Answer, bind-bind, bind_alike, by-result, more, Reads}
-use Rattle.dwp_units.proofs.Readings.{reads_byte, reads_sleb, reads_uleb}
 use Rattle.dwp_bytes.specs.declared.error.ReadError.TheVariants.{UnknownForm}
-use Rattle.dwp_dwarf.specs.Abbreviations.{Specification}
+use Rattle.dwp_dwarf.specs.{Abbreviations.Specification, Forms.layout_of, Forms.value_at}
 use Rattle.dwp_dwarf.specs.Entries.{attribute_at, attributes, DebugAttribute, number_of}
 use Rattle.dwp_units.specs.AbbreviationCodes.{code_at, root_code_at}
-use Rattle.dwp_dwarf.specs.Forms.{block_length_at, layout_of, named_form_at, named_within}
-use Rattle.dwp_dwarf.specs.Forms.{past_value, text_at, value_at}
-use Rattle.std.specs.Prelude.{is_ok}
+use Rattle.std.specs.{Option.ok_or, Prelude.is_ok}
 use Rattle.dwp_bytes.specs.declared.encoding.Format.TheVariants.{Dwarf32, Dwarf64}
-use Rattle.dwp_units.specs.Units.{address_size_at, header_at, initial_length_at, newer_at, older_at}
-use Rattle.dwp_units.specs.Units.{older_type_at, type_at, unit_at, unit_code_at, unit_type_at}
 use Rattle.dwp_units.specs.declared.unit.UnitSection.TheVariants.{Types}
-use Rattle.std.proofs.Common.{add_assoc, length-take-le, ℤ}
-use Rattle.std.specs.Option.{ok_or}
 use Rattle.dwp_units.specs.declared.unit.UnitType.{UnitType}
 pub use Rattle.dwp_index.proofs.TwoPlaces.{plain}
 

@@ -1,8 +1,26 @@
 -- The names that proofs of this crate cite most, passed on from one place. Declares nothing.
+use Rattle.std.proofs.Common
+pub use Common.{All, AllPairs, ap, append-nil, append_assoc, arith, Bool, codes, cond, drop, eqb}
+pub use Common.{Err, false, filter, if◌then◌else◌, inl, inr, is_none, is_some, le-leb, leb-true}
+pub use Common.{length, length-append, length-drop, length-take, List, map, MatchOption, nat_eq}
+pub use Common.{nat_le, ne_eqb, None, not, Ok, Option, refl, Result, slice_get, slice_index}
+pub use Common.{slice_range, Some, subst, suc, sym, take, take-append-drop, true, zero, [], ℕ, ◌&&◌}
+pub use Common.{◌*◌, ◌++◌, ◌+◌, ◌-◌, ◌<◌, ◌^◌, ◌||◌, ◌∙◌, ◌∷◌, ◌≡◌, ◌≤◌, ◌⊎◌}
+pub use Rattle.dwp_base.specs.Reading.{read_each, ◌>>=◌}
+pub use Rattle.std.proofs.lemmas.List.{drop-append-le, get_or-map as get_or-at, nil_from_length}
+pub use Rattle.std.proofs.lemmas.List.{length-map, map-append, take-append-le}
+pub use Rattle.std.specs.List.{AllByRecursion as Each, list_all, list_any, position_or_len, sum_by}
+pub use Rattle.thorin_input.specs.NewUnits.{Adding, kept_bytes, NewUnit, place_for, unit_section}
+pub use Rattle.thorin_join.specs.Meaning.{can_join, joined_content, joined_offsets, whole_entries}
+pub use Rattle.thorin_join.specs.Meaning.{joining, keys, Meaning, Members, source_units, UnitRead}
+pub use Rattle.thorin_join.specs.Represents.{AreApart, AreRowsOf, LieInside, units_in, units_of}
+pub use Rattle.thorin_join.specs.Represents.{IsSoundBegun, meaning_at, Represents, units_begun}
+pub use Rattle.thorin_join.specs.Represents.{IsRowOf, IsSound, Owns, Shares}
+pub use Rattle.thorin_package_input.proofs.OffsetsJoined.{joined_read, number_front, strings_again}
+pub use Rattle.thorin_package_input.proofs.OffsetsJoined.{no_header}
 pub use Rattle.dwp_base.proofs.Bools.{by-bool}
 pub use Rattle.dwp_base.proofs.EveryKind.{every, is-same, same-each, same-self}
 pub use Rattle.dwp_base.proofs.Steps.{bind-ok, bind-was, same-ok}
-pub use Rattle.dwp_base.specs.Reading.{read_each, ◌>>=◌}
 pub use Rattle.dwp_base.specs.Sections.{all_kinds, name_of, same_kind}
 pub use Rattle.dwp_base.specs.declared.endian.Endianness.{Endianness}
 pub use Rattle.dwp_base.specs.declared.section.Contribution.{Contribution}
@@ -11,10 +29,8 @@ pub use Rattle.dwp_base.specs.declared.section.SectionKind.TheVariants.{Str, Str
 pub use Rattle.dwp_bytes.specs.Encoding.{index_version_of, offset_size}
 pub use Rattle.dwp_bytes.specs.Input.{after, Input, is_address_size, section}
 pub use Rattle.dwp_bytes.specs.StringOffsets.{entry_count, header_size, string_for}
-unfoldable pub use Rattle.dwp_bytes.specs.StringOffsets.{entry_in, string_at, string_in}
 pub use Rattle.dwp_bytes.specs.declared.encoding.Encoding.{Encoding}
-pub use Rattle.dwp_bytes.specs.declared.encoding.Format.{Format}
-pub use Rattle.dwp_bytes.specs.declared.error.ReadError.{ReadError}
+pub use Rattle.dwp_bytes.specs.{declared.encoding.Format.Format, declared.error.ReadError.ReadError}
 pub use Rattle.dwp_elf.proofs.KindCounts.{length-KindsDiffer}
 pub use Rattle.dwp_elf.specs.Contents.{appended, content_of, count_of, KindsDiffer}
 pub use Rattle.dwp_elf.specs.FileText.{file_text, Object as File}
@@ -23,76 +39,48 @@ pub use Rattle.dwp_elf_read.specs.Elf.{Elf, elf_of}
 pub use Rattle.dwp_index.proofs.HeldContents.{another_kind, held_content}
 pub use Rattle.dwp_index.specs.Holding.{HasContent, sections_of}
 pub use Rattle.dwp_index.specs.Index.{column_place, Index, Ranges}
-unfoldable pub use Rattle.dwp_index.specs.Index.{range_in, row_in}
 pub use Rattle.dwp_index.specs.Package.{index_for, is_outside, kind_of, Package, part_of, place_of}
-unfoldable pub use Rattle.dwp_index.specs.Package.{encoding_in, row_bytes}
 pub use Rattle.dwp_strings.specs.Strings.{data_of, IsTable, IsZeroFree, with_string}
 pub use Rattle.dwp_table.specs.Objects.{identifier_of}
-pub use Rattle.dwp_table.specs.Table.{AreDistinct}
-pub use Rattle.dwp_table.specs.declared.object.DwarfObject.{DwarfObject}
+pub use Rattle.dwp_table.specs.{declared.object.DwarfObject.DwarfObject, Table.AreDistinct}
 pub use Rattle.dwp_table.specs.declared.object.DwarfObject.TheVariants.{Compilation, TypeUnit}
 pub use Rattle.dwp_units.proofs.Units.{unit_taken, unit_takes, units_whole}
 pub use Rattle.dwp_units.specs.Units.{Unit as Header, unit_bytes as bytes_of_unit}
 pub use Rattle.dwp_units.specs.declared.unit.UnitSection.{UnitSection}
 pub use Rattle.std.proofs.ByRecursion.{All-append, All-weaker}
-use Rattle.std.proofs.Common
-pub use Common.{All, AllPairs, ap, append-nil, append_assoc, arith, Bool, codes, cond, drop, eqb}
-pub use Common.{Err, false, filter, if◌then◌else◌, inl, inr, is_none, is_some, le-leb, leb-true}
-pub use Common.{length, length-append, length-drop, length-take, List, map, MatchOption, nat_eq}
-pub use Common.{nat_le, ne_eqb, None, not, Ok, Option, refl, Result, slice_get, slice_index}
-pub use Common.{slice_range, Some, subst, suc, sym, take, take-append-drop, true, zero, [], ℕ, ◌&&◌}
-pub use Common.{◌*◌, ◌++◌, ◌+◌, ◌-◌, ◌<◌, ◌^◌, ◌||◌, ◌∙◌, ◌∷◌, ◌≡◌, ◌≤◌, ◌⊎◌}
-pub use Rattle.std.proofs.Math.Seq.{take-length}
-pub use Rattle.std.proofs.lemmas.Bool.Decides.{nat_tests}
-pub use Rattle.std.proofs.lemmas.List.{drop-append-le, get_or-map as get_or-at, length-map}
-pub use Rattle.std.proofs.lemmas.List.{map-append, nil_from_length, take-append-le}
+pub use Rattle.std.proofs.{lemmas.Bool.Decides.nat_tests, lemmas.Simd.map-map, Math.Seq.take-length}
 pub use Rattle.std.proofs.lemmas.List.Elements.{filter-append, filter_passes}
 pub use Rattle.std.proofs.lemmas.List.Folds.{flat_map-map, list_any-append, list_any_at}
 pub use Rattle.std.proofs.lemmas.Option.{none-some, same_Some}
-pub use Rattle.std.proofs.lemmas.Simd.{map-map}
-pub use Rattle.std.specs.List.{AllByRecursion as Each, find, list_all, list_any, position_or_len}
-pub use Rattle.std.specs.List.{sum_by}
-pub use Rattle.std.specs.Map.{lookup}
-pub use Rattle.std.specs.Result.{result_unwrap_or}
-pub use Rattle.thorin_errors.specs.Answers.{as_error}
-pub use Rattle.thorin_errors.specs.Errors.{ErrorValue, ParseUnitHeader}
+pub use Rattle.std.specs.{List.find, Map.lookup, Result.result_unwrap_or}
+pub use Rattle.thorin_errors.specs.{Answers.as_error, Errors.ErrorValue, Errors.ParseUnitHeader}
 pub use Rattle.thorin_identity.specs.Identity.{first_identifier}
-unfoldable pub use Rattle.thorin_identity.specs.Identity.{entry_identity, identity, root_identity}
 pub use Rattle.thorin_index.specs.Entries.{contribution_to, entry_by}
-pub use Rattle.thorin_index.specs.EntryTests.{index_tests}
+pub use Rattle.thorin_index.specs.{declared.entry.IndexEntry.IndexEntry, EntryTests.index_tests}
 pub use Rattle.thorin_index.specs.IndexText.{entry_ids, IsIndexOf}
-pub use Rattle.thorin_index.specs.declared.entry.IndexEntry.{IndexEntry}
 pub use Rattle.thorin_input.specs.Format.{is_copied, is_in_format, is_shared}
-pub use Rattle.thorin_input.specs.Held.{unit_bytes}
+pub use Rattle.thorin_input.specs.{Held.unit_bytes, NewUnits.New}
 pub use Rattle.thorin_input.specs.Indexes.{Indexes, indexes_of, is_package, Source}
-unfoldable pub use Rattle.thorin_input.specs.InputStrings.{rewritten}
 pub use Rattle.thorin_input.specs.Names.{is_compilation, same_name}
-pub use Rattle.thorin_input.specs.NewUnits.{Adding, kept_bytes, New, NewUnit, place_for}
-pub use Rattle.thorin_input.specs.NewUnits.{unit_section}
-unfoldable pub use Rattle.thorin_input.specs.NewUnits.{name_for, new_units, with_unit}
 pub use Rattle.thorin_input.specs.Parts.{has_part, joined_parts, Parts, parts_of, stands_once}
-unfoldable pub use Rattle.thorin_input.specs.Parts.{with_each_part, with_offsets, with_part}
-unfoldable pub use Rattle.thorin_input.specs.Parts.{with_parts}
 pub use Rattle.thorin_input.specs.Used.{first, has_info, InputFile, opened, Used}
-unfoldable pub use Rattle.thorin_input.specs.Used.{input_file_of}
 pub use Rattle.thorin_join.proofs.Chosen.{is_chosen, rows_of}
 pub use Rattle.thorin_join.specs.Builder.{begun_by, IdentifiersFit, IsFinished, package_or_new}
-unfoldable pub use Rattle.thorin_join.specs.Builder.{order_test, with_input}
-pub use Rattle.thorin_join.specs.Join.{GivesNone, Joins}
+pub use Rattle.thorin_join.specs.{Join.GivesNone, Join.Joins, Strings.strings_of}
 pub use Rattle.thorin_join.specs.Laid.{IsWhole, name_signature, type_signature}
-pub use Rattle.thorin_join.specs.Meaning.{can_join, joined_content, joined_offsets, joining, keys}
-pub use Rattle.thorin_join.specs.Meaning.{Meaning, Members, source_units, UnitRead, whole_entries}
-pub use Rattle.thorin_join.specs.Represents.{AreApart, AreRowsOf, IsRowOf, IsSound, IsSoundBegun}
-pub use Rattle.thorin_join.specs.Represents.{LieInside, meaning_at, Owns, Represents, Shares}
-pub use Rattle.thorin_join.specs.Represents.{units_begun, units_in, units_of}
 pub use Rattle.thorin_join.specs.Sizes.{bytes_of_contents, bytes_of_strings, offsets_used}
 pub use Rattle.thorin_join.specs.State.{adding, InProgress, names_of, row_at, with_unit_added}
-unfoldable pub use Rattle.thorin_join.specs.State.{with_new_unit, with_new_units, with_source}
-pub use Rattle.thorin_join.specs.Strings.{strings_of}
-pub use Rattle.thorin_package_input.proofs.OffsetsJoined.{joined_read, no_header, number_front}
-pub use Rattle.thorin_package_input.proofs.OffsetsJoined.{strings_again}
-unfoldable pub use Rattle.thorin_package_input.specs.PackagedOffsets.{packaged_offsets}
 pub use Rattle.thorin_package_input.specs.ReadStrings.{ReadsAlike}
-pub use Rattle.thorin_strings.proofs.NamedEntries.{range_named}
-pub use Rattle.thorin_strings.proofs.RemapLemmas.{kept_more}
+pub use Rattle.thorin_strings.proofs.{NamedEntries.range_named, RemapLemmas.kept_more}
+unfoldable pub use Rattle.thorin_input.specs.Parts.{with_each_part, with_offsets, with_parts}
+unfoldable pub use Rattle.dwp_bytes.specs.StringOffsets.{entry_in, string_at, string_in}
+unfoldable pub use Rattle.dwp_index.specs.Index.{range_in, row_in}
+unfoldable pub use Rattle.dwp_index.specs.Package.{encoding_in, row_bytes}
+unfoldable pub use Rattle.thorin_identity.specs.Identity.{entry_identity, identity, root_identity}
+unfoldable pub use Rattle.thorin_input.specs.{InputStrings.rewritten, Parts.with_part}
+unfoldable pub use Rattle.thorin_input.specs.NewUnits.{name_for, new_units, with_unit}
+unfoldable pub use Rattle.thorin_input.specs.Used.{input_file_of}
+unfoldable pub use Rattle.thorin_join.specs.Builder.{order_test, with_input}
+unfoldable pub use Rattle.thorin_join.specs.State.{with_new_unit, with_new_units, with_source}
+unfoldable pub use Rattle.thorin_package_input.specs.PackagedOffsets.{packaged_offsets}
 unfoldable pub use Rattle.thorin_strings.specs.StringOffsets.{fitting_offset, named_at, remapped}

@@ -1,25 +1,20 @@
 //! What packing means, what inputs add to a package, where their ranges lie, and which strings they
 //! bring, as laws.
 
-ghost use Rattle.std.specs.Prelude.{◌≡◌, ℕ, ◌+◌, ◌*◌, ◌^◌, ◌<◌, ◌≤◌, List, length, Option, Some};
-ghost use Rattle.std.specs.Prelude.{Ok, All};
-ghost use Rattle.std.specs.List.{sum_by};
+ghost use Rattle.std.specs.Prelude.{length, List, Option, Some, ℕ, ◌*◌, ◌+◌, ◌<◌, ◌^◌, ◌≡◌, ◌≤◌};
+ghost use Rattle.thorin_join.specs.Builder.{finish_test, IsFinished, IsFinishedState, with_input};
+ghost use Rattle.thorin_join.specs.Sizes.{carried_size, container_most, offsets_size, strings_size};
+ghost use Rattle.thorin_join.specs.Sizes.{bytes_of_contents, bytes_of_strings, IsSizeFinished};
+ghost use Rattle.thorin_join.specs.Sizes.{bytes_begun, used_size, with_inputs};
+ghost use Rattle.std.specs.{List.sum_by, Prelude.All, Prelude.Ok};
 ghost use Rattle.dwp_base.specs.declared.section.SectionKind.TheVariants.{CuIndex, TuIndex};
-ghost use Rattle.dwp_elf.specs.FileText.{Object, file_text};
-ghost use Rattle.dwp_elf.specs.Contents.{KindsDiffer};
-ghost use Rattle.dwp_elf.specs.Numbers.{Fits};
-ghost use Rattle.dwp_index.specs.Index.{Index};
-ghost use Rattle.dwp_index.specs.Package.{package_of};
-ghost use Rattle.thorin_join.specs.Builder.{State, finish_test, IsFinished, IsFinishedState};
-ghost use Rattle.thorin_join.specs.Builder.{with_input};
+ghost use Rattle.dwp_elf.specs.FileText.{file_text, Object};
+ghost use Rattle.dwp_elf.specs.{Contents.KindsDiffer, Numbers.Fits};
+ghost use Rattle.dwp_index.specs.{Index.Index, Package.package_of};
+ghost use Rattle.thorin_join.specs.{Builder.State, StandApart.StandApart, State.InProgress};
 ghost use Rattle.thorin_join.specs.FirstUse.{strings_begun, UsesStrings};
 ghost use Rattle.thorin_join.specs.Join.{IsPackageOnceWritten, Joins};
 ghost use Rattle.thorin_join.specs.Represents.{IsSoundBegun, units_begun, units_in};
-ghost use Rattle.thorin_join.specs.Sizes.{bytes_of_contents, bytes_begun, carried_size, used_size};
-ghost use Rattle.thorin_join.specs.Sizes.{bytes_of_strings, offsets_size, strings_size};
-ghost use Rattle.thorin_join.specs.Sizes.{with_inputs, IsSizeFinished, container_most};
-ghost use Rattle.thorin_join.specs.StandApart.{StandApart};
-ghost use Rattle.thorin_join.specs.State.{InProgress};
 ghost use Rattle.thorin_join.specs.WrittenPackage.{IsIndexIn, package_with};
 
 /// The law of accepted inputs: a package whose units can be found and read has, once an input was

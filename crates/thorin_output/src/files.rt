@@ -1,11 +1,10 @@
 //! The files that `pack` reads, and the one that it writes, as a trait.
 
-ghost use Rattle.std.specs.Prelude.{ℕ, List, Result, Option, Some, None, OnOk, OnErr, IfErr};
-ghost use Rattle.std.specs.Path.{path_bytes};
-ghost use Rattle.std.specs.declared.io.Error.{Error as IoError};
+ghost use Rattle.std.specs.Prelude.{IfErr, List, None, OnErr, OnOk, Option, Result, Some, ℕ};
+ghost use Rattle.std.specs.{declared.io.Error.Error as IoError, Path.path_bytes};
 ghost use Rattle.dwp_elf.specs.FileText.{file_text};
 ghost use Rattle.thorin_sessions.specs.Sessions.{IsNoWantOfMemory};
-ghost use Rattle.thorin_output.specs.Files.{Begun, Adds, IsOfFile};
+ghost use Rattle.thorin_output.specs.Files.{Adds, Begun, IsOfFile};
 ghost use Rattle.thorin_output.specs.Reads.{Identity, IsReadOver};
 
 use dwp_elf::WritableObject;

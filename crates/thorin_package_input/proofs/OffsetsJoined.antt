@@ -1,18 +1,16 @@
 -- String offsets without a header, joined, are read in turn.
-use Rattle.thorin_package_input.proofs.Terms.{data_of, Encoding, Endianness, header_size, IsTable}
-use Rattle.thorin_package_input.proofs.Terms.{NamesTheSame, nat_tests, offset_size, ReadsAlike}
-use Rattle.std.proofs.Common.{◌≡◌, ℕ, ◌+◌, ◌-◌, ◌*◌, ◌/◌, ◌<◌, ◌≤◌, cond, ltb, List, ◌++◌, length}
-use Rattle.std.proofs.Common.{drop, ap, refl, ⊎_elim, arith, length-append, take, Some, None, Ok}
-use Rattle.std.proofs.Common.{sym, ◌∙◌, drop_at, drop-drop, length-drop, lt-ltb, add-mul}
-use Rattle.std.proofs.lemmas.List.{get_or_append_left, drop-append-le}
-use Rattle.std.proofs.lemmas.Bool.{cases_lt, lt-leb}
-use Rattle.std.proofs.lemmas.Nat.{row_fits}
-use Rattle.dwp_base.specs.Numbers.{number}
+use Rattle.thorin_package_input.proofs.Terms.{Endianness, header_size, NamesTheSame, offset_size}
+use Rattle.thorin_package_input.proofs.Terms.{data_of, Encoding, IsTable, nat_tests, ReadsAlike}
+use Rattle.std.proofs.Common.{cond, ltb, ℕ, ⊎_elim, ◌*◌, ◌++◌, ◌+◌, ◌-◌, ◌/◌, ◌<◌, ◌∙◌, ◌≡◌, ◌≤◌}
+use Rattle.std.proofs.Common.{add-mul, drop-drop, drop_at, length, length-append, length-drop, List}
+use Rattle.std.proofs.Common.{ap, arith, drop, lt-ltb, None, Ok, refl, Some, sym, take}
+use Rattle.std.proofs.lemmas.List.{drop-append-le, get_or_append_left}
+use Rattle.std.proofs.{lemmas.Bool.cases_lt, lemmas.Bool.lt-leb, lemmas.Nat.row_fits}
+use Rattle.dwp_base.{proofs.Steps.bind-was, proofs.Steps.guard-ok, specs.Numbers.number}
 use Rattle.dwp_bytes.specs.declared.encoding.Format.{Format}
 use Rattle.dwp_bytes.specs.declared.encoding.Format.TheVariants.{Dwarf32, Dwarf64}
 use Rattle.dwp_bytes.specs.StringOffsets.{entry_count, entry_in, string_at, string_in}
-use Rattle.thorin_strings.specs.StringOffsets.{offset_at, named_at}
-use Rattle.dwp_base.proofs.Steps.{bind-was, guard-ok}
+use Rattle.thorin_strings.specs.StringOffsets.{named_at, offset_at}
 use Rattle.thorin_strings.proofs.NamedEntries.{as_error_ok}
 
 -- a number in front doesn't depend on what follows it

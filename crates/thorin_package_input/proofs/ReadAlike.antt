@@ -1,21 +1,20 @@
 -- A package's string offsets, rewritten, read as they read before.
-use Rattle.thorin_package_input.proofs.Terms.{cases_eq, Contribution, data_of, Encoding, Endianness}
-use Rattle.thorin_package_input.proofs.Terms.{header_size, Index, IsTable, kept_more, NamesTheSame}
-use Rattle.thorin_package_input.proofs.Terms.{offset_ranges, offset_size, ranges_test, ReadsAlike}
-use Rattle.thorin_package_input.proofs.Terms.{remapped, rewritten_from}
-use Rattle.std.proofs.Common.{◌≡◌, ℕ, ◌+◌, ◌-◌, ◌≤◌, List, [], ◌∷◌, ◌++◌, length, take, drop}
-use Rattle.std.proofs.Common.{slice_range, Option, Ok, ap, sym, subst, refl, ◌∙◌, ⊎_elim}
-use Rattle.std.proofs.Common.{append_assoc, length-append, length-drop, arith}
+use Rattle.thorin_package_input.proofs.Terms.{cases_eq, Contribution, offset_ranges, rewritten_from}
+use Rattle.thorin_package_input.proofs.Terms.{Encoding, Endianness, kept_more, ReadsAlike, remapped}
+use Rattle.thorin_package_input.proofs.Terms.{header_size, NamesTheSame, offset_size, ranges_test}
+use Rattle.thorin_package_input.proofs.Terms.{data_of, Index, IsTable}
+use Rattle.std.proofs.Common.{length, List, take, [], ℕ, ⊎_elim, ◌++◌, ◌+◌, ◌-◌, ◌∙◌, ◌∷◌, ◌≡◌, ◌≤◌}
+use Rattle.std.proofs.Common.{append_assoc, length-append, length-drop, Option, slice_range, subst}
+use Rattle.std.proofs.Common.{ap, arith, drop, Ok, refl, sym}
+use Rattle.thorin_package_input.specs.PackagedReading.{PackageReadsAlike, RangeReadsAlike}
 use Rattle.std.proofs.Math.Nat.{div-add-mod}
-use Rattle.std.proofs.lemmas.List.{drop_at, take_at, take_all, length-take-le}
+use Rattle.std.proofs.lemmas.List.{drop_at, length-take-le, take_all, take_at}
 use Rattle.dwp_base.proofs.Steps.{bind-was, same-ok}
 use Rattle.thorin_strings.proofs.NamedEntries.{range_named}
 use Rattle.thorin_package_input.specs.PackagedOffsets.{packaged_offsets}
-use Rattle.thorin_package_input.specs.PackagedReading.{PackageReadsAlike, RangeReadsAlike}
-use Rattle.thorin_package_input.specs.PackagedReading.{range_bytes}
-use Rattle.thorin_package_input.proofs.OffsetsJoined.{strings_again}
-use Rattle.thorin_package_input.proofs.RewriteSteps.{IsNext, next_passed}
-use Rattle.thorin_package_input.proofs.RowRanges.{IsIn, compilation_there, type_there}
+use Rattle.thorin_package_input.{proofs.OffsetsJoined.strings_again, proofs.RewriteSteps.IsNext}
+use Rattle.thorin_package_input.{proofs.RewriteSteps.next_passed, specs.PackagedReading.range_bytes}
+use Rattle.thorin_package_input.proofs.RowRanges.{compilation_there, IsIn, type_there}
 
 -- ---- parts of lists
 slice_front : (front range rest : List ℕ) (a b : ℕ) → length front ≡ a → length range ≡ b - a

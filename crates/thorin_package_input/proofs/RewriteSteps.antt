@@ -1,14 +1,13 @@
 -- Rewriting one range after another.
-use Rattle.thorin_package_input.proofs.Terms.{Contribution, Encoding, Endianness, header_size}
-use Rattle.thorin_package_input.proofs.Terms.{kept_more}
-use Rattle.thorin_package_input.proofs.Terms.{nat_tests, offset_size, ranges_test, remapped}
-use Rattle.thorin_package_input.proofs.Terms.{rewritten_from}
-use Rattle.std.proofs.Common.{◌≡◌, ℕ, ◌+◌, ◌-◌, ◌%◌, ◌<◌, ◌≤◌, eqb, ltb, leb, ◌&&◌, cond, not, List}
-use Rattle.std.proofs.Common.{◌∷◌, ◌++◌, length, get_or, take, drop, slice_range, Ok, Err, Result}
-use Rattle.std.proofs.Common.{ap, sym, refl, ◌∙◌, append_assoc, arith}
-use Rattle.std.proofs.lemmas.List.{at_drop_more, at_drop_all}
+use Rattle.thorin_package_input.proofs.Terms.{Contribution, Endianness, header_size, rewritten_from}
+use Rattle.thorin_package_input.proofs.Terms.{kept_more, nat_tests, offset_size, ranges_test}
+use Rattle.thorin_package_input.proofs.Terms.{Encoding, remapped}
+use Rattle.std.proofs.Common.{eqb, leb, ltb, ℕ, ◌%◌, ◌&&◌, ◌++◌, ◌+◌, ◌-◌, ◌<◌, ◌∙◌, ◌∷◌, ◌≡◌, ◌≤◌}
+use Rattle.std.proofs.Common.{append_assoc, arith, cond, get_or, length, List, Result, slice_range}
+use Rattle.std.proofs.Common.{ap, drop, Err, not, Ok, refl, sym, take}
 use Rattle.dwp_base.specs.Reading.{◌>>=◌}
-use Rattle.thorin_errors.specs.Errors.{ErrorValue, BadStringOffsets, OverlappingStringOffsets}
+use Rattle.std.proofs.lemmas.List.{at_drop_all, at_drop_more}
+use Rattle.thorin_errors.specs.Errors.{BadStringOffsets, ErrorValue, OverlappingStringOffsets}
 
 -- ---- what the tests say of the next range
 pub record IsNext (encoding : Encoding) (size last : ℕ) (r : Contribution)

@@ -1,14 +1,12 @@
 -- The range of each row is among the ranges.
-use Rattle.thorin_package_input.proofs.Terms.{Contribution, Index, insert_key, offset_ranges}
-use Rattle.thorin_package_input.proofs.Terms.{place_cmp}
-use Rattle.thorin_package_input.proofs.Terms.{range_in, range_of_row, Ranges, ranges_of, row_in}
-use Rattle.thorin_package_input.proofs.Terms.{StrOffsets, with_ranges, with_rows}
-use Rattle.std.proofs.Common.{◌≡◌, ℕ, zero, suc, ◌-◌, List, [], ◌∷◌, length, get_or, Some, None}
-use Rattle.std.proofs.Common.{Option, Ok, ap, sym, refl, ◌∙◌, ◌⊎◌, inl, arith, is_eq, Equal}
-use Rattle.std.proofs.lemmas.Option.{same_Some}
-use Rattle.std.proofs.lemmas.List.FromFn.{get_or-map-range_with_len}
+use Rattle.thorin_package_input.proofs.Terms.{Contribution, insert_key, offset_ranges, range_of_row}
+use Rattle.thorin_package_input.proofs.Terms.{place_cmp, Ranges, ranges_of, StrOffsets, with_ranges}
+use Rattle.thorin_package_input.proofs.Terms.{Index, range_in, row_in, with_rows}
+use Rattle.std.proofs.Common.{get_or, length, List, Some, suc, zero, [], ℕ, ◌-◌, ◌∙◌, ◌∷◌, ◌≡◌, ◌⊎◌}
+use Rattle.std.proofs.Common.{ap, arith, Equal, inl, is_eq, None, Ok, Option, refl, sym}
+use Rattle.std.proofs.{lemmas.List.FromFn.get_or-map-range_with_len, lemmas.Option.same_Some}
 use Rattle.thorin_package_input.proofs.RowSteps.{key_test}
-use Rattle.thorin_package_input.proofs.FirstRow.{range_is, range_of_found, numbered}
+use Rattle.thorin_package_input.proofs.FirstRow.{numbered, range_is, range_of_found}
 
 -- a range is one of these
 abbrev pub IsIn : Contribution → List Contribution → Type 0

@@ -1,17 +1,16 @@
 //! What is read of rewritten string offsets, and what rows by place and rewritten offsets of
 //! packages are, as laws.
 
-ghost use Rattle.std.specs.Prelude.{◌≡◌, ◌≢◌, ℕ, ◌-◌, ◌*◌, ◌<◌, List, ◌++◌, Option, Some, None, Ok};
-ghost use Rattle.std.specs.Prelude.{length, take, nat_lt, if◌then◌else◌};
+ghost use Rattle.std.specs.Prelude.{List, Option, if◌then◌else◌, ℕ, ◌*◌, ◌++◌, ◌-◌, ◌<◌, ◌≡◌, ◌≢◌};
+ghost use Rattle.std.specs.Prelude.{length, nat_lt, None, Ok, Some, take};
 ghost use Rattle.dwp_base.specs.declared.endian.Endianness.{Endianness};
 ghost use Rattle.dwp_base.specs.declared.section.SectionKind.{SectionKind};
 ghost use Rattle.dwp_base.specs.declared.section.Contribution.{Contribution};
-ghost use Rattle.dwp_bytes.specs.declared.encoding.Encoding.{Encoding};
-ghost use Rattle.dwp_bytes.specs.Encoding.{offset_size};
+ghost use Rattle.dwp_bytes.specs.{declared.encoding.Encoding.Encoding, Encoding.offset_size};
 ghost use Rattle.dwp_bytes.specs.StringOffsets.{string_in};
-ghost use Rattle.dwp_index.specs.Index.{Index, Ranges, range_in, row_in};
+ghost use Rattle.dwp_index.specs.Index.{Index, range_in, Ranges, row_in};
 ghost use Rattle.thorin_strings.specs.StringOffsets.{remapped};
-ghost use Rattle.dwp_strings.specs.Strings.{IsTable, data_of};
+ghost use Rattle.dwp_strings.specs.Strings.{data_of, IsTable};
 ghost use Rattle.thorin_package_input.specs.PackagedOffsets.{packaged_offsets};
 ghost use Rattle.thorin_package_input.specs.PackagedReading.{PackageReadsAlike};
 ghost use Rattle.thorin_package_input.specs.ReadStrings.{ReadsAlike};

@@ -1,13 +1,12 @@
 //! The string offsets of a finished package, rewritten into a table of strings: the ranges that its
 //! rows have, one after another.
 
-ghost use Rattle.std.specs.Prelude.{◌≡◌, ◌≢◌, length, map, take, OnOk, IfErr};
+ghost use Rattle.std.specs.Prelude.{IfErr, length, map, OnOk, take, ◌≡◌, ◌≢◌};
+ghost use Rattle.thorin_package_input.specs.PackagedOffsets.{is_whole_range, packaged_offsets};
+ghost use Rattle.thorin_package_input.specs.PackagedOffsets.{ranges_test, rewritten_from};
 ghost use Rattle.std.specs.Option.{option_copied};
 ghost use Rattle.thorin_errors.specs.Answers.{Gives};
-ghost use Rattle.thorin_package_input.specs.PackagedOffsets.{is_whole_range};
-ghost use Rattle.thorin_package_input.specs.PackagedOffsets.{packaged_offsets, ranges_test};
-ghost use Rattle.thorin_package_input.specs.PackagedOffsets.{rewritten_from, with_rows};
-ghost use Rattle.thorin_package_input.specs.RangeKeys.{range_at};
+ghost use Rattle.thorin_package_input.specs.{PackagedOffsets.with_rows, RangeKeys.range_at};
 
 use crate::row_places::range_of_row;
 use dwp_base::{Contribution, ContributionOffset, SectionKind};

@@ -1,8 +1,7 @@
 -- Names that are cut.
-use Rattle.std.proofs.Common.{◌≡◌, ℕ, zero, suc, ◌+◌, ◌*◌, ◌-◌, ◌<◌, ◌≤◌, List, ◌++◌, codes, length}
-use Rattle.std.proofs.Common.{drop, slice_range, IsCharBoundary, arith}
-use Rattle.std.proofs.lemmas.Bool.Decides.{nat_tests}
-use Rattle.std.proofs.Math.Nat.{sub-zero}
+use Rattle.std.proofs.Common.{codes, length, List, suc, zero, ℕ, ◌*◌, ◌++◌, ◌+◌, ◌-◌, ◌<◌, ◌≡◌, ◌≤◌}
+use Rattle.std.proofs.Common.{arith, drop, IsCharBoundary, slice_range}
+use Rattle.std.proofs.{lemmas.Bool.Decides.nat_tests, Math.Nat.sub-zero}
 use Rattle.std.specs.Fmt.Cut.{floor_char_boundary}
 use Rattle.thorin_print.specs.Shown.{cut}
 

@@ -1,12 +1,11 @@
 //! What the lines of a command are printed to, and what `pack` tells of its inputs.
 
-ghost use Rattle.std.specs.Prelude.{◌≡◌, ℕ, List, Option, IfErr, IfOk, IfSome, IsTrue, OnOk, false};
-ghost use Rattle.std.specs.Prelude.{string_bytes, ⊤};
+ghost use Rattle.std.specs.Prelude.{IfErr, IfOk, IfSome, IsTrue, List, OnOk, Option, ℕ, ⊤, ◌≡◌};
+ghost use Rattle.std.specs.Prelude.{false, string_bytes};
 ghost use Rattle.std.specs.Io.KnownBytes.{Appends, Keeps};
-ghost use Rattle.thorin_print.specs.Answers.{FailsBy, Prints};
-ghost use Rattle.thorin_print.specs.Failures.{Reports, error_line};
-ghost use Rattle.thorin_print.specs.Told.{taken_line, units, passed_over};
-ghost use Rattle.thorin_print.specs.Watching.{LacksLine};
+ghost use Rattle.thorin_print.specs.{Answers.FailsBy, Answers.Prints, Watching.LacksLine};
+ghost use Rattle.thorin_print.specs.Failures.{error_line, Reports};
+ghost use Rattle.thorin_print.specs.Told.{passed_over, taken_line, units};
 
 use crate::output::{Failure, flush, print};
 use std::alloc::{AllocError, Global};

@@ -1,10 +1,9 @@
 //! What the program prints of failures, and how it prints a text.
 
-ghost use Rattle.std.specs.Prelude.{◌≡◌, IfErr, OnOk, Some};
+ghost use Rattle.std.specs.Prelude.{IfErr, OnOk, Some, ◌≡◌};
+ghost use Rattle.thorin_print.specs.Answers.{exit_status, HasBeginning, IsOfPrinting, Prints};
 ghost use Rattle.std.specs.Io.KnownBytes.{Appends, Keeps};
-ghost use Rattle.thorin_print.specs.Answers.{HasBeginning, Comes, exit_status};
-ghost use Rattle.thorin_print.specs.Answers.{IsOfPrinting, Prints};
-ghost use Rattle.thorin_print.specs.Failures.{failure_text};
+ghost use Rattle.thorin_print.specs.{Answers.Comes, Failures.failure_text};
 ghost use Rattle.thorin_print.specs.declared.output.Failure.TheVariants.{Line, Memory};
 
 use dwp_base::SectionKind;

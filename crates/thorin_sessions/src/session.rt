@@ -1,10 +1,9 @@
 //! What sessions do.
 
-ghost use Rattle.std.specs.Prelude.{◌≡◌, ℕ, List, Result, IfOk, IfErr, IsOk};
-ghost use Rattle.std.specs.Path.{path_bytes};
-ghost use Rattle.std.specs.declared.io.Error.{Error as IoError};
+ghost use Rattle.std.specs.Prelude.{IfErr, IfOk, IsOk, List, Result, ℕ, ◌≡◌};
+ghost use Rattle.std.specs.{declared.io.Error.Error as IoError, Path.path_bytes};
 ghost use Rattle.std.specs.Cow.{cow_slice_items};
-ghost use Rattle.thorin_sessions.specs.Sessions.{IsOffered, IsNoWantOfMemory, OnBorrowed};
+ghost use Rattle.thorin_sessions.specs.Sessions.{IsNoWantOfMemory, IsOffered, OnBorrowed};
 
 use std::alloc::AllocError;
 use std::borrow::CowSlice;

@@ -1,20 +1,17 @@
 -- The header of a range of string offsets, and the bytes of its entries, as they are read; what
 -- rewritten entries name, and a range of them.
-use Rattle.std.proofs.Common.{Result, drop-drop, drop_at, eqb-true, ltb, ltb-false, suc-mul, true}
-use Rattle.std.proofs.Common.{zero-mul, ⊎_elim}
-use Rattle.std.proofs.lemmas.Bool.Decides.{nat_tests}
-use Rattle.std.proofs.lemmas.List.{get_or_append_left, get_or_push}
-use Rattle.std.proofs.lemmas.Nat.{from_be_bytes-to_be_bytes_4, from_be_bytes-to_be_bytes_8}
-use Rattle.std.proofs.lemmas.Nat.{from_le_bytes-to_le_bytes_4, from_le_bytes-to_le_bytes_8}
-use Rattle.std.proofs.lemmas.Nat.{row_fits}
 use Rattle.thorin_strings.proofs.Terms
 use Terms.{Big, Encoding, Endianness, ErrorValue, IsZeroFree, List, Little, Ok, [], arith, bind-was}
 use Terms.{cases_eq, drop, entry_at, entry_bytes, entry_count, eqb, eqb-false, fitting_offset}
 use Terms.{get_or, header_of, header_size, length, length-append, named_at, number, number_bytes}
 use Terms.{offset_at, offset_limit, offset_size, refl, remapped, remapped_entries, remapped_entry}
 use Terms.{suc, sym, take, take_all, there_later, zero, ℕ, ◌*◌, ◌++◌, ◌+◌, ◌<◌, ◌∙◌, ◌∷◌, ◌≡◌, ◌≤◌}
-use Rattle.dwp_base.proofs.Bools.{by-bool}
-use Rattle.dwp_base.proofs.Steps.{by-choice, guard-ok, same-ok}
+use Rattle.std.proofs.Common.{drop-drop, drop_at, eqb-true, ltb, ltb-false, Result, suc-mul, ⊎_elim}
+use Rattle.std.proofs.lemmas.Nat.{from_be_bytes-to_be_bytes_4, from_be_bytes-to_be_bytes_8}
+use Rattle.std.proofs.lemmas.Nat.{from_le_bytes-to_le_bytes_4, from_le_bytes-to_le_bytes_8}
+use Rattle.std.proofs.{Common.true, lemmas.Bool.Decides.nat_tests, lemmas.List.get_or_append_left}
+use Rattle.std.proofs.{Common.zero-mul, lemmas.List.get_or_push, lemmas.Nat.row_fits}
+use Rattle.dwp_base.proofs.{Bools.by-bool, Steps.by-choice, Steps.guard-ok, Steps.same-ok}
 use Rattle.dwp_bytes.specs.declared.encoding.Format.{Format}
 use Rattle.dwp_bytes.specs.declared.encoding.Format.TheVariants.{Dwarf32, Dwarf64}
 use Rattle.dwp_strings.proofs.Named.{has, has_Decides, read_free, read_later, string_was, used}

@@ -11,8 +11,7 @@ use Terms.{remapped_entry, string_at, string_read, suc, take, take-take, take_re
 use Terms.{there_once_used, zero, ℕ, ◌*◌, ◌++◌, ◌+◌, ◌-◌, ◌<◌, ◌∙◌, ◌∷◌, ◌≡◌, ◌≤◌}
 use Rattle.std.proofs.Common.{ltb, not, ◌/◌}
 use Rattle.std.proofs.lemmas.Bool.Decides.{nat_tests}
-use Rattle.dwp_bytes.specs.StringOffsets.{entry_in}
-use Rattle.dwp_bytes.specs.declared.encoding.Format.{Format}
+use Rattle.dwp_bytes.specs.{declared.encoding.Format.Format, StringOffsets.entry_in}
 use Rattle.dwp_bytes.specs.declared.encoding.Format.TheVariants.{Dwarf32, Dwarf64}
 use Rattle.dwp_bytes.specs.declared.error.ReadError.TheVariants.{UnexpectedEof}
 use Rattle.thorin_errors.specs.Errors.{OffsetAtIndex}

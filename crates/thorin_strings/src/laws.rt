@@ -1,10 +1,9 @@
 //! What rewritten string offsets name, as a law.
 
-ghost use Rattle.std.specs.Prelude.{◌≡◌, ℕ, List, Ok};
+ghost use Rattle.std.specs.Prelude.{List, Ok, ℕ, ◌≡◌};
 ghost use Rattle.dwp_base.specs.declared.endian.Endianness.{Endianness};
 ghost use Rattle.dwp_bytes.specs.declared.encoding.Encoding.{Encoding};
-ghost use Rattle.thorin_strings.specs.Rewritten.{NamesTheSame};
-ghost use Rattle.thorin_strings.specs.StringOffsets.{remapped};
+ghost use Rattle.thorin_strings.specs.{Rewritten.NamesTheSame, StringOffsets.remapped};
 ghost use Rattle.dwp_strings.specs.Strings.{IsTable};
 
 /// The law of rewriting: a range of string offsets that was rewritten has as many entries as

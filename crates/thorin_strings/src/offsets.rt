@@ -1,16 +1,15 @@
 //! String offsets, rewritten into a table of strings (DWARF 5, 7.26).
 
-ghost use Rattle.std.specs.Prelude.{◌≡◌, ◌≢◌, ◌≤◌, ◌<◌, ◌+◌, ◌*◌, ◌^◌, ◌++◌, [], length, take};
-ghost use Rattle.std.specs.Prelude.{OnOk, OnErr, IfOk};
+ghost use Rattle.std.specs.Prelude.{length, take, [], ◌*◌, ◌++◌, ◌+◌, ◌<◌, ◌^◌, ◌≡◌, ◌≢◌, ◌≤◌};
+ghost use Rattle.std.specs.Prelude.{IfOk, OnErr, OnOk};
+ghost use Rattle.thorin_strings.specs.StringOffsets.{header_of, offset_limit, string_read};
+ghost use Rattle.thorin_strings.specs.StringOffsets.{remapped};
 ghost use Rattle.dwp_base.specs.Numbers.{number_bytes};
 ghost use Rattle.dwp_bytes.specs.declared.encoding.Format.TheVariants.{Dwarf32};
-ghost use Rattle.dwp_bytes.specs.Encoding.{offset_size};
+ghost use Rattle.dwp_bytes.specs.{Encoding.offset_size, StringOffsets.header_size};
 ghost use Rattle.thorin_errors.specs.Answers.{Gives};
-ghost use Rattle.dwp_bytes.specs.StringOffsets.{header_size};
-ghost use Rattle.thorin_strings.specs.StringOffsets.{offset_limit, header_of, remapped};
-ghost use Rattle.thorin_strings.specs.StringOffsets.{string_read};
 ghost use Rattle.dwp_strings.specs.Strings.{IsZeroFree};
-ghost use Rattle.thorin_strings.specs.Known.{offset_read, fitting_read, AreKnown};
+ghost use Rattle.thorin_strings.specs.Known.{AreKnown, fitting_read, offset_read};
 
 use crate::repeats::Repeats;
 use crate::table::PackageStringTable;

@@ -1,10 +1,9 @@
 //! The table of distinct strings of a package (DWARF 5, 7.26).
 
-ghost use Rattle.std.specs.Prelude.{◌≡◌, ◌↔◌, [], length, take, OnOk, IfOk, IfErr, IsSome, IfSome};
-ghost use Rattle.std.specs.Prelude.{IsTrue, Contains};
-ghost use Rattle.dwp_strings.specs.Strings.{data_of, offset_of, with_string, IsZeroFree, IsTable};
-ghost use Rattle.dwp_strings.specs.Strings.{IsWithinDigits};
-ghost use Rattle.dwp_strings.specs.Marks.{mark_of};
+ghost use Rattle.std.specs.Prelude.{IfErr, IfOk, IfSome, IsSome, length, OnOk, take, [], ◌↔◌, ◌≡◌};
+ghost use Rattle.std.specs.Prelude.{Contains, IsTrue};
+ghost use Rattle.dwp_strings.specs.Strings.{IsWithinDigits, IsZeroFree, offset_of, with_string};
+ghost use Rattle.dwp_strings.specs.{Marks.mark_of, Strings.data_of, Strings.IsTable};
 
 use dwp_strings::{StringTable, TableMark};
 use std::alloc::Global;

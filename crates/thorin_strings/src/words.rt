@@ -1,16 +1,15 @@
 //! String offsets of four bytes, the lowest first, each rewritten in its place: most are such, and
 //! the strings of nearly all are told by their hashes, one after the other.
 
-ghost use Rattle.std.specs.Prelude.{◌≡◌, ◌≢◌, ◌≤◌, ◌<◌, ◌+◌, ◌^◌, ◌++◌, ◌*◌, ℕ, List, Ok};
-ghost use Rattle.std.specs.Prelude.{OnOk, IfSome, IsNone, length, take};
+ghost use Rattle.std.specs.Prelude.{List, Ok, OnOk, ℕ, ◌*◌, ◌++◌, ◌+◌, ◌<◌, ◌^◌, ◌≡◌, ◌≢◌, ◌≤◌};
+ghost use Rattle.std.specs.Prelude.{IfSome, IsNone, length, take};
 ghost use Rattle.dwp_base.specs.declared.endian.Endianness.TheVariants.{Little};
 ghost use Rattle.dwp_base.specs.Numbers.{number_bytes};
 ghost use Rattle.dwp_bytes.specs.declared.encoding.Format.TheVariants.{Dwarf32};
 ghost use Rattle.thorin_errors.specs.Answers.{Gives};
 ghost use Rattle.dwp_bytes.specs.StringOffsets.{header_size};
 ghost use Rattle.thorin_strings.specs.StringOffsets.{entry_at, remapped};
-ghost use Rattle.thorin_strings.specs.Known.{AreKnown, offset_read};
-ghost use Rattle.thorin_strings.specs.Written.{AreWritten};
+ghost use Rattle.thorin_strings.specs.{Known.AreKnown, Known.offset_read, Written.AreWritten};
 
 use crate::offsets::{dwarf32, header};
 use crate::repeats::Repeats;

@@ -1,11 +1,10 @@
 -- Reading words byte by byte: what was read of a word stands in front of what is left of it.
-use Rattle.std.proofs.Common.{◌≡◌, ℕ, List, [], ◌∷◌, ◌++◌, Some, refl, sym, append-nil}
-use Rattle.std.proofs.Common.{append_assoc, true, false}
+use Rattle.std.proofs.Common.{append-nil, false, List, refl, Some, sym, true, [], ℕ, ◌++◌, ◌∷◌, ◌≡◌}
+use Rattle.std.proofs.Common.{append_assoc}
 use Rattle.std.proofs.lemmas.Bool.{false≢true}
-use Rattle.thorin_words.specs.declared.words.LexerState.{LexerState}
-use Rattle.thorin_words.specs.declared.words.LexerState.TheVariants.{Between, Inside, Escaped}
-use Rattle.thorin_words.specs.Words.{put, words_from, words_of, escaped, quoted, keeps, behind}
-use Rattle.thorin_words.specs.Words.{is_between}
+use Rattle.thorin_words.specs.Words.{behind, escaped, is_between, put, quoted, words_from, words_of}
+use Rattle.thorin_words.specs.{declared.words.LexerState.LexerState, Words.keeps}
+use Rattle.thorin_words.specs.declared.words.LexerState.TheVariants.{Between, Escaped, Inside}
 
 -- what was read of a word, in front of the first of these
 abbrev pub prefix : List ℕ → List (List ℕ) → List (List ℕ)

@@ -1,15 +1,13 @@
 -- What words stand for, while they are read one after another.
-use Rattle.std.proofs.Common.{◌≡◌, ℕ, List, [], ◌∷◌, ◌++◌, map, length, take, Option, Some}
-use Rattle.std.proofs.Common.{Ok, Err, Vec, String, string_bytes, refl, sym, append_assoc, false}
-use Rattle.std.proofs.Common.{◌<◌, ◌≤◌, ◌+◌, get_or, drop, append-nil, Global, arith, subst, IsUtf8}
+use Rattle.std.proofs.Common.{length, List, map, Option, take, [], ℕ, ◌++◌, ◌+◌, ◌<◌, ◌∷◌, ◌≡◌, ◌≤◌}
+use Rattle.std.proofs.Common.{append-nil, append_assoc, false, get_or, Global, String, string_bytes}
+use Rattle.std.proofs.Common.{arith, drop, Err, IsUtf8, Ok, refl, Some, subst, sym, Vec}
+use Rattle.thorin_words.specs.Responses.{after, End, Itself, Leaves, Nothing, Plain, Stands, Within}
+use Rattle.thorin_words.specs.Responses.{Costs, Deep, File, Here, Inner, Later, Named, Stops, Word}
+use Rattle.thorin_words.specs.Responses.{is_among, IsPlain, most_deep, Outcome, Refuses, words_in}
 use Rattle.std.proofs.Math.Seq.{take-append_seam}
-use Rattle.std.proofs.lemmas.List.{map-append, take-map, length-map, drop_more}
-use Rattle.thorin_words.specs.Responses.{Outcome, after, is_among, IsPlain, Stands, End, Plain}
-use Rattle.thorin_words.specs.Responses.{File, Inner, Itself, Deep, words_in, most_deep, Leaves}
-use Rattle.thorin_words.specs.Responses.{Refuses, Stops, Here, Later, Within, Costs, Nothing, Word}
-use Rattle.thorin_words.specs.Responses.{Named}
-use Rattle.thorin_words.specs.Words.{words_of}
-use Rattle.thorin_words.specs.declared.responses.Allowance.{Allowance}
+use Rattle.std.proofs.lemmas.List.{drop_more, length-map, map-append, take-map}
+use Rattle.thorin_words.specs.{declared.responses.Allowance.Allowance, Words.words_of}
 use Rattle.thorin_words.specs.declared.responses.ResponseError.{ResponseError}
 use Rattle.thorin_words.specs.declared.responses.ResponseError.TheVariants as errors
 

@@ -1,10 +1,9 @@
 //! `@FILE` among the words of a command line: a response file, as linkers have it.
 
-ghost use Rattle.std.specs.Prelude.{◌≡◌, ◌≤◌, ◌<◌, ◌+◌, ◌∷◌, [], ℕ, List, Option, map, Some};
-ghost use Rattle.std.specs.Prelude.{length, IfOk, IfErr, OnOk, IfSome, option_map, string_bytes};
-ghost use Rattle.thorin_words.specs.Responses.{is_among, Answers, AreRead, IsOfReading, IsRead};
-ghost use Rattle.thorin_words.specs.Responses.{Opens, words_in};
-ghost use Rattle.thorin_words.specs.Words.{words_of};
+ghost use Rattle.std.specs.Prelude.{IfOk, List, map, Option, Some, [], ℕ, ◌+◌, ◌<◌, ◌∷◌, ◌≡◌, ◌≤◌};
+ghost use Rattle.std.specs.Prelude.{IfErr, IfSome, length, OnOk, option_map, string_bytes};
+ghost use Rattle.thorin_words.specs.Responses.{Answers, AreRead, is_among, IsOfReading, words_in};
+ghost use Rattle.thorin_words.specs.{Responses.IsRead, Responses.Opens, Words.words_of};
 ghost use Rattle.thorin_words.specs.declared.responses.ResponseError.TheVariants as errors;
 
 use crate::words::next_word;

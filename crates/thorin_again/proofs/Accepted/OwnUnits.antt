@@ -14,28 +14,25 @@ use Terms.{range-none, range_in, ReadError, refl, Result, row_of, row_test, rows
 use Terms.{same_name, same_name-sym, same_place, section, SectionKind, slice_get, slice_get_within}
 use Terms.{Some, sound-inside, Source, StrOffsets, subst, sym, true, unit_section, units}
 use Terms.{UnitSection, Used, written_used, [], ℕ, ◌++◌, ◌+◌, ◌<◌, ◌>>=◌, ◌∙◌, ◌∷◌, ◌≡◌, ◌≤◌, ◌⊎◌}
-use Rattle.thorin_join.proofs.Rows.OfUnits.{adjustor, own-index, some-index, whole-part}
-use Rattle.thorin_join.proofs.Files.Finished.{finished-grows}
 use Rattle.std.proofs.Common.{Bool, eqb, is_some, le-leb, ◌||◌, ◌≢◌}
+use Rattle.thorin_input.specs.Adjusting.{has_column_for, moved_range, other_index, without_column}
+use Rattle.thorin_again.proofs.Opened.Sections.{and-then, rest-differ, section_of, then-fares}
+use Rattle.thorin_again.proofs.Opened.Sections.{answered, behind, Fares, front, Unless}
+use Rattle.thorin_input.specs.NewUnits.{is_met, with_each_section, with_section_at, with_section_in}
+use Rattle.thorin_input.specs.NewUnits.{kept_bytes, SeenSections, with_each_read, with_section}
+use Rattle.thorin_input.specs.NewUnits.{none_met, once_test, with_first, with_read, with_unit}
+use Rattle.thorin_again.proofs.Meant.RowByRow.{IsUnitOf, of-section, read-alone, row-there}
+use Rattle.thorin_again.proofs.Meant.RowByRow.{place-eq, place-is}
+use Rattle.thorin_again.proofs.Meant.OneRow.{found-range, found-row, named-again, parts, row-tested}
+use Rattle.thorin_join.proofs.Rows.OfUnits.{adjustor, own-index, some-index, whole-part}
+use Rattle.thorin_join.proofs.{Files.Finished.finished-grows, Parts.Added.copied-or-offsets}
 use Rattle.dwp_base.specs.Reading.{read_each}
-use Rattle.thorin_input.specs.Adjusting.{Adjustor, has_column_for, moved_range, other_index}
-use Rattle.thorin_input.specs.Adjusting.{own_index, without_column}
+use Rattle.thorin_input.specs.{Adjusting.Adjustor, Adjusting.own_index, NewUnits.with_met}
 use Rattle.thorin_input.specs.Rows.{adjusted_contribution, unit_contribution, unit_row}
 use Rattle.thorin_again.proofs.Offsets.RewrittenAgain.{at-row, by-passing, used-chosen}
-use Rattle.thorin_again.proofs.Opened.Sections.{and-then, answered, behind, Fares, front}
-use Rattle.thorin_again.proofs.Opened.Sections.{rest-differ, section_of, then-fares, Unless}
-use Rattle.thorin_input.specs.NewUnits.{is_met, kept_bytes, none_met, once_test, SeenSections}
-use Rattle.thorin_input.specs.NewUnits.{with_each_read, with_each_section, with_first, with_met}
-use Rattle.thorin_input.specs.NewUnits.{with_read, with_section, with_section_at, with_section_in}
-use Rattle.thorin_input.specs.NewUnits.{with_unit}
-use Rattle.thorin_again.proofs.Meant.RowByRow.{IsUnitOf, of-section, place-eq, place-is, read-alone}
-use Rattle.thorin_again.proofs.Meant.RowByRow.{row-there}
 use Rattle.thorin_again.proofs.Opened.Indexes.{finished-shared, IsReadOf, lie-kept}
-use Rattle.thorin_again.proofs.Meant.OneRow.{found-range, found-row, named-again, parts, row-lies}
-use Rattle.thorin_again.proofs.Meant.OneRow.{row-tested}
-use Rattle.thorin_again.proofs.Kept.Names.{keep-names}
+use Rattle.thorin_again.proofs.{Kept.Names.keep-names, Meant.OneRow.row-lies}
 use Rattle.thorin_join.proofs.Parts.ReadAlike.{parts-first, rows-read}
-use Rattle.thorin_join.proofs.Parts.Added.{copied-or-offsets}
 use Rattle.std.proofs.Math.Bool.{and-false}
 use Rattle.thorin_errors.specs.Errors.{DuplicateUnit}
 

@@ -12,30 +12,27 @@ use Terms.{new_units, None, Ok, Option, own_encoding, own_source, package_or_new
 use Terms.{refl, rewritten, same_name, same_name-self, same_name-true, SectionKind, Some, subst}
 use Terms.{sym, true, units_begun, units_in, units_of, with_source, written_elf, written_object, []}
 use Terms.{IsSound, ℕ, ◌++◌, ◌<◌, ◌∙◌, ◌∷◌, ◌≡◌}
-use Rattle.thorin_again.proofs.Lists.{answers-whole, AreEncoded, Finds, first-of, input-order}
-use Rattle.thorin_again.proofs.Lists.{meant_or, rows-encoded, there-back}
+use Rattle.thorin_again.proofs.Lists.{answers-whole, AreEncoded, Finds, input-order, rows-encoded}
 use Rattle.std.proofs.Common.{Bool, cond, filter, IsPermutation, ltb-true, nat_lt, not, ◌||◌}
-use Rattle.thorin_join.specs.Builder.{begun_by, finish_test, IsFinishedState, order_of, start}
-use Rattle.thorin_join.specs.Builder.{State, taken, with_source_or_new}
+use Rattle.thorin_join.specs.Builder.{begun_by, finish_test, IsFinishedState, with_source_or_new}
+use Rattle.thorin_join.specs.Builder.{order_of, start, State, taken}
+use Rattle.thorin_again.proofs.Opened.Indexes.{in-format, lie-kept, lie-used, own-made, up-to-parts}
+use Rattle.thorin_again.proofs.Opened.Indexes.{finished-shared, own-offsets, own-offsets-alone}
+use Rattle.thorin_again.proofs.Opened.Sections.{and-then, info-written, object-written, opened-elf}
+use Rattle.thorin_again.proofs.Opened.Sections.{input-encoding, own-parts-tried, present-written}
+use Rattle.thorin_again.proofs.{Accepted.OwnUnits.taken-all, Kept.OneEncoding.begun-now}
+use Rattle.thorin_again.proofs.{Accepted.OwnUnits.flips, Lists.there-back, Opened.Sections.answered}
+use Rattle.thorin_again.proofs.{Lists.first-of, Opened.Indexes.OwnMade, Opened.Indexes.read-of}
+use Rattle.thorin_again.proofs.{Lists.meant_or, Meant.Package.again-is, Opened.Sections.Unless}
 use Rattle.std.proofs.lemmas.List.Sorted.{IsPermutation-middle, sum_by-IsPermutation}
 use Rattle.std.specs.List.{IsDistinct}
-use Rattle.std.proofs.lemmas.Simd.{map-map}
+use Rattle.std.proofs.{lemmas.List.Sums.length-filter, lemmas.Simd.map-map}
 use Rattle.std.proofs.lemmas.Map.Keys.{IsDistinct-from_apart, IsDistinct-IsPermutation}
 use Rattle.indexmap.proofs.MapLemmas.{lookup_permutation}
 use Rattle.thorin_join.specs.Join.{IsPackageOf, limit_of, look_limit, same_sort}
-use Rattle.thorin_again.proofs.Accepted.OwnUnits.{flips, taken-all}
 use Rattle.thorin_again.specs.OwnAccepted.{IsAccepted, IsAcceptedByNew}
-use Rattle.thorin_again.proofs.Opened.Indexes.{finished-shared, in-format, lie-kept, lie-used}
-use Rattle.thorin_again.proofs.Opened.Indexes.{own-made, own-offsets, own-offsets-alone, OwnMade}
-use Rattle.thorin_again.proofs.Opened.Indexes.{read-of, up-to-parts}
-use Rattle.thorin_again.proofs.Opened.Sections.{and-then, answered, info-written, input-encoding}
-use Rattle.thorin_again.proofs.Opened.Sections.{object-written, opened-elf, own-parts-tried}
-use Rattle.thorin_again.proofs.Opened.Sections.{present-written, Unless}
-use Rattle.thorin_again.proofs.Kept.OneEncoding.{begun-now}
-use Rattle.thorin_again.proofs.Meant.Package.{again-is}
 use Rattle.thorin_again.specs.Again.{all_meant, HaveEncodingOf}
 use Rattle.thorin_again.specs.Own.{has_content, has_sections, packs_again}
-use Rattle.std.proofs.lemmas.List.Sums.{length-filter}
 use Rattle.dwp_base.specs.declared.section.SectionKind.TheVariants as kinds
 use Rattle.dwp_units.specs.declared.unit.UnitSection.TheVariants as places
 

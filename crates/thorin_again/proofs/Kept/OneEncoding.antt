@@ -13,8 +13,7 @@ use Terms.{Source, source-made, source_units, subst, sym, Takes, takes, TakesUni
 use Terms.{UnitRead, units_begun, units_of, Used, with_input, [], ℕ, ◌<◌, ◌↔◌, ◌∙◌, ◌∷◌, ◌≡◌}
 use Rattle.thorin_again.proofs.Kept.EachUnit.{encoding-eq, named-kept}
 use Rattle.thorin_again.proofs.Kept.Names.{info-there, names-kept}
-use Rattle.thorin_again.proofs.Offsets.RewrittenAgain.{no-turn}
-use Rattle.thorin_again.proofs.Offsets.Tiled.{tiled-kept}
+use Rattle.thorin_again.proofs.{Offsets.RewrittenAgain.no-turn, Offsets.Tiled.tiled-kept}
 use Rattle.thorin_join.specs.Meaning.{meant, object_meaning, source_meaning, unit_meaning}
 use Rattle.thorin_join.specs.Builder.{names_in, State, taken}
 

@@ -13,14 +13,12 @@ use Terms.{Source, strings-are, strings_of, suc, sym, take-length, true, UnitSec
 use Terms.{◌++◌, ◌+◌, ◌<◌, ◌∙◌, ◌∷◌, ◌≡◌, ◌≤◌}
 use Rattle.std.proofs.Common.{ap₂, Bool, eqb-true, find, get_or, is_none, nat_eq, ◌≢◌}
 use Rattle.thorin_join.specs.Meaning.{lie_inside, meaning_with, shared_kinds, unit_meaning}
-use Rattle.dwp_table.specs.Probing.{found_row, look_count}
-use Rattle.thorin_package_input.specs.RowPlaces.{row_by_place}
+use Rattle.dwp_table.specs.{Probing.found_row, Probing.look_count, Table.FindsExactly}
+use Rattle.thorin_package_input.{proofs.FirstRow.first_found, specs.RowPlaces.row_by_place}
 use Rattle.thorin_input.specs.Rows.{numbered_abbreviations, own_contribution, row_abbreviations}
 use Rattle.thorin_again.proofs.Meant.RowByRow.{at-seam, bytes-own, IsBelow, IsUnitOf, range_at}
-use Rattle.thorin_package_input.proofs.FirstRow.{first_found}
 use Rattle.dwp_table.proofs.Tables.{finds_exactly}
 use Rattle.thorin_again.proofs.Opened.Indexes.{IsReadOf, rows-kept}
-use Rattle.dwp_table.specs.Table.{FindsExactly}
 use Rattle.thorin_join.proofs.Units.Whole.{identity-sort}
 use Rattle.dwp_base.specs.declared.section.SectionKind.TheVariants as kinds
 

@@ -12,23 +12,21 @@ use Terms.{Source, source-made, source_for, source_units, subst, sym, true, unit
 use Terms.{units, units_in, units_of, units_within, UnitSection, with_input, with_source}
 use Terms.{with_units, written_elf, written_object, written_used, [], ℕ, ◌++◌, ◌<◌, ◌∙◌, ◌∷◌, ◌≡◌}
 use Rattle.std.proofs.lemmas.List.Sorted.{IsPermutation-append_comm, IsPermutation-append_right}
-use Rattle.std.proofs.lemmas.List.Sorted.{IsPermutation-filter_both, IsPermutation-refl}
-use Rattle.std.proofs.lemmas.List.Sorted.{IsPermutation-sym, IsPermutation-trans}
-use Rattle.thorin_join.specs.Meaning.{can_join, meant, named_at, named_each, named_sections}
-use Rattle.thorin_join.specs.Meaning.{named_unit, object_meaning, source_meaning}
-use Rattle.thorin_again.proofs.Opened.Sections.{empty-first, first-written, input-encoding, no-info}
-use Rattle.thorin_again.proofs.Opened.Sections.{none-behind, object-written, opened-elf}
-use Rattle.thorin_again.proofs.Opened.Sections.{rest-differ, section_of}
-use Rattle.thorin_again.proofs.Meant.RowByRow.{of-section}
-use Rattle.thorin_again.proofs.Meant.OneRow.{row-means-again}
+use Rattle.std.proofs.lemmas.List.Sorted.{IsPermutation-filter_both, IsPermutation-trans}
+use Rattle.std.proofs.lemmas.List.Sorted.{IsPermutation-refl, IsPermutation-sym}
+use Rattle.thorin_join.specs.Meaning.{named_each, named_sections, object_meaning, source_meaning}
+use Rattle.thorin_join.specs.Meaning.{can_join, meant, named_at, named_unit}
+use Rattle.thorin_again.proofs.Opened.Sections.{empty-first, none-behind, opened-elf, rest-differ}
+use Rattle.thorin_again.proofs.Opened.Sections.{first-written, input-encoding, object-written}
+use Rattle.thorin_again.proofs.Opened.Sections.{no-info, section_of}
+use Rattle.thorin_join.specs.Builder.{finish_test, IsFinishedState, order_test, with_source_or_new}
+use Rattle.thorin_join.specs.Builder.{order_of, State, taken}
+use Rattle.std.proofs.Common.{ap₂, IsPermutation, ◌≢◌}
+use Rattle.thorin_again.proofs.{Meant.OneRow.row-means-again, Meant.RowByRow.of-section}
 use Rattle.thorin_again.proofs.Opened.Indexes.{IsReadOf, lie-kept, lie-used, read-of}
 use Rattle.thorin_again.proofs.Kept.EachUnit.{joined}
-use Rattle.std.proofs.Math.Dec.{eqb-suc-zero}
-use Rattle.std.proofs.Math.Seq.{drop-append_seam, take-append_seam}
+use Rattle.std.proofs.{Math.Dec.eqb-suc-zero, Math.Seq.drop-append_seam, Math.Seq.take-append_seam}
 use Rattle.thorin_again.specs.Again.{all_meant, HaveEncodingOf, MeansWhereTaken}
-use Rattle.thorin_join.specs.Builder.{finish_test, IsFinishedState, order_of, order_test, State}
-use Rattle.thorin_join.specs.Builder.{taken, with_source_or_new}
-use Rattle.std.proofs.Common.{ap₂, IsPermutation, ◌≢◌}
 use Rattle.dwp_base.specs.declared.section.SectionKind.TheVariants as kinds
 use Rattle.dwp_units.specs.declared.unit.UnitSection.TheVariants as places
 

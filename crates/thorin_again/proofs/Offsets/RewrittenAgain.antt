@@ -12,20 +12,19 @@ use Terms.{Ok, Option, range-front, range_bytes, range_with_len, recursion_from_
 use Terms.{SectionKind, slice_get, slice_get_within, Some, StrOffsets, subst, suc, sym, Tile, true}
 use Terms.{UnlessStringOffset, zero, [], ℕ, ◌++◌, ◌+◌, ◌<◌, ◌>>=◌, ◌∙◌, ◌∷◌, ◌≡◌, ◌≤◌, ◌⊎◌}
 use Rattle.std.proofs.Common.{add-mul, Bool, drop, is_some, length-drop, slice_range, ⊎_elim, ◌*◌}
+use Rattle.thorin_package_input.specs.PackagedOffsets.{offset_ranges, ranges_test, rewritten_from}
+use Rattle.thorin_package_input.specs.PackagedOffsets.{place_cmp, with_ranges, with_rows}
+use Rattle.thorin_strings.specs.StringOffsets.{fitting_offset, remapped_entries, remapped_entry}
+use Rattle.thorin_strings.specs.StringOffsets.{entry_bytes, named_at, offset_at, remapped}
 use Rattle.std.specs.BTreeSet.{insert_key}
 use Rattle.std.proofs.lemmas.List.FromFn.{get_or-map-range_with_len, length-map-range_with_len}
 use Rattle.std.proofs.lemmas.List.Sorted.{IsPermutation-filter_both, list_any-IsPermutation}
-use Rattle.thorin_package_input.specs.PackagedOffsets.{offset_ranges, place_cmp, ranges_test}
-use Rattle.thorin_package_input.specs.PackagedOffsets.{rewritten_from, with_ranges, with_rows}
 use Rattle.thorin_package_input.specs.RowPlaces.{is_range, range_of_row, ranges_of}
 use Rattle.thorin_package_input.proofs.FirstRow.{range_is, range_of_found}
 use Rattle.thorin_package_input.proofs.RowRanges.{compilation_there, type_there}
-use Rattle.std.proofs.lemmas.Nat.{row_fits}
+use Rattle.std.proofs.{lemmas.Nat.row_fits, Math.Seq.drop-append-add}
 use Rattle.dwp_base.specs.Numbers.{number}
-use Rattle.thorin_strings.specs.StringOffsets.{entry_bytes, fitting_offset, named_at, offset_at}
-use Rattle.thorin_strings.specs.StringOffsets.{remapped, remapped_entries, remapped_entry}
 use Rattle.dwp_bytes.specs.StringOffsets.{entry_in, header_size, string_at, string_in}
-use Rattle.std.proofs.Math.Seq.{drop-append-add}
 use Rattle.std.proofs.lemmas.Option.{slice_get_cases, slice_get_read}
 
 -- the rows of compilation units and those of type units

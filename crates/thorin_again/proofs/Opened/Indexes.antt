@@ -14,21 +14,18 @@ use Terms.{own_source, part-inside, range_bytes, refl, rewritten, rows_at, rows_
 use Terms.{same-ok, same_Some, SectionKind, slice_get, Some, source_for, subst, sym, take-length}
 use Terms.{TakesUpToParts, true, units_of, UnitSection, UnlessStringOffset, version_test}
 use Terms.{with_input, with_units, written_elf, written_object, [], ℕ, ◌<◌, ◌∙◌, ◌∷◌, ◌≡◌}
-use Rattle.thorin_join.proofs.Files.Finished.{finished-content, finished-grows, Tested}
-use Rattle.thorin_join.proofs.Files.Finished.{tested-state}
+use Rattle.thorin_join.proofs.Files.Finished.{finished-content, finished-grows, tested-state}
 use Rattle.std.proofs.Common.{Bool, cond, is_some, not, slice_index, ◌^◌, ◌||◌}
+use Rattle.thorin_again.proofs.Opened.Sections.{first-written, info-written, object-written}
+use Rattle.thorin_again.proofs.Opened.Sections.{opened-elf}
+use Rattle.thorin_again.proofs.Offsets.RewrittenAgain.{are-named, CanRewrite, ranges-are, tile-lies}
+use Rattle.thorin_again.proofs.Offsets.RewrittenAgain.{all-rewritten, tile-tested, used-chosen}
+use Rattle.thorin_join.proofs.{Files.Finished.Tested, Units.InRows.distinct_chosen}
 use Rattle.thorin_join.specs.Builder.{IsFinished, order_of, order_test, same_order, State}
 use Rattle.thorin_index.proofs.Each.{have_passed, used_known}
 use Rattle.thorin_index.proofs.ReadAgain.{index_is_read, written_rows}
-use Rattle.thorin_again.proofs.Opened.Sections.{first-written, info-written, object-written}
-use Rattle.thorin_again.proofs.Opened.Sections.{opened-elf}
-use Rattle.dwp_table.specs.Columns.{column_of}
-use Rattle.thorin_join.proofs.Units.InRows.{distinct_chosen}
-use Rattle.thorin_again.proofs.Offsets.RewrittenAgain.{all-rewritten, are-named, CanRewrite}
-use Rattle.thorin_again.proofs.Offsets.RewrittenAgain.{ranges-are, tile-lies, tile-tested}
-use Rattle.thorin_again.proofs.Offsets.RewrittenAgain.{used-chosen}
+use Rattle.dwp_table.specs.{Columns.column_of, Table.AreDistinct}
 use Rattle.thorin_package_input.specs.PackagedOffsets.{packaged_offsets, rewritten_from}
-use Rattle.dwp_table.specs.Table.{AreDistinct}
 use Rattle.thorin_join.proofs.Parts.Added.{rewritten-package, slice-long}
 use Rattle.dwp_base.specs.declared.section.SectionKind.TheVariants as kinds
 use Rattle.dwp_units.specs.declared.unit.UnitSection.TheVariants as places

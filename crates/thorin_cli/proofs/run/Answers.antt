@@ -3,8 +3,7 @@ use Rattle.std.specs.Prelude.{IsSome}
 use Rattle.thorin_print.specs.Watching.{LacksLine}
 use Rattle.thorin_terminal.specs.Watching.{failure_of}
 use Rattle.thorin_arguments.specs.Asked.{words_in}
-use Rattle.thorin_cli.proofs.Ran.{ran}
-use Rattle.thorin_cli.proofs.Told.{unread}
+use Rattle.thorin_cli.proofs.{Ran.ran, Told.unread}
 use Rattle.thorin_cli.proofs.run.Goals as goal
 
 pub returns-in-Ok : goal.returns-in-Ok

@@ -9,8 +9,7 @@ use Rattle.dwp_base.specs.declared.class.Class.TheVariants.{Elf32, Elf64}
 use Rattle.dwp_base.specs.declared.section.SectionKind.TheVariants.{CuIndex, TuIndex}
 use Rattle.dwp_elf_read.specs.Layout.{word_size}
 use Rattle.dwp_elf.specs.FileText.{headers_place, name_table, Object}
-use Rattle.dwp_elf.specs.Numbers.{Fits}
-use Rattle.dwp_elf.specs.Written.{written_elf, written_sections}
+use Rattle.dwp_elf.specs.{Numbers.Fits, Written.written_elf, Written.written_sections}
 use Rattle.dwp_index.proofs.HeldContents.{empty, foreign, index_missing, package_is}
 use Rattle.dwp_elf.proofs.ReadingBack.{elf_of-file_text}
 use Rattle.thorin_join.specs.WrittenPackage.{IsIndexIn, package_with}

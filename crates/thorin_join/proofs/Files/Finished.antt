@@ -12,11 +12,10 @@ use Terms.{sections_of, slice_get, slice_index, Some, suc, sym, take-length, tru
 use Terms.{units_of, UnitSection, with_bytes, zero, [], ℕ, ◌++◌, ◌+◌, ◌<◌, ◌∙◌, ◌∷◌, ◌≡◌, ◌≤◌}
 use Rattle.thorin_join.proofs.Units.InRows.{chosen-sort, distinct_chosen, same-sort, same_name-true}
 use Rattle.dwp_table.proofs.Tables.{finds_exactly}
-use Rattle.dwp_index.specs.Contents.{content}
+use Rattle.dwp_index.{proofs.UsedOnce.entries_once, specs.Contents.content}
 use Rattle.dwp_index.proofs.PackageLookUp.{absent_unit, no_index, present_unit}
 use Rattle.thorin_index.specs.ReadRows.{HasContributions, HasEntries, non_empty}
 use Rattle.thorin_join.proofs.Files.Contents.{chosen-fit, HasRows, index-read, package_held}
-use Rattle.dwp_index.proofs.UsedOnce.{entries_once}
 use Rattle.thorin_join.specs.Builder.{finish_test, indexes_test, IsFinishedState, State}
 use Rattle.thorin_join.proofs.Rows.OneAdded.{Grows, grows-trans, grows-with_bytes, keep-rows}
 use Rattle.thorin_join.proofs.Parts.Added.{content-with_bytes}

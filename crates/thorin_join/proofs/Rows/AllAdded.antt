@@ -7,14 +7,12 @@ use Terms.{length-append, List, list_any, map-append, Members, names_of, NewUnit
 use Terms.{refl, row_at, same_kind, same_name, SectionKind, Some, Source, sym, take-length}
 use Terms.{TypeUnit, UnitRead, UnitSection, with_bytes, with_new_unit, with_new_units, with_parts}
 use Terms.{with_unit_added, [], ℕ, ◌++◌, ◌+◌, ◌∙◌, ◌∷◌, ◌≡◌}
+use Rattle.thorin_join.proofs.Rows.OneAdded.{CanBeAdded, grows-trans, grows-with_bytes, keep-shares}
+use Rattle.thorin_join.proofs.Rows.OneAdded.{keep-rows, own-place, place-put, row-other, unit-added}
+use Rattle.thorin_join.proofs.Rows.OneAdded.{CanLie, Grows, keep-lie, row-name, row-own, rows-next}
 use Rattle.thorin_join.specs.Laid.{HaveOneRange, Heads, is_at, IsLaid, Lie, rows_at, same_place}
-use Rattle.thorin_join.proofs.Units.ReadInTurn.{IsAdded, News}
-use Rattle.thorin_join.proofs.Units.Whole.{Goes}
+use Rattle.thorin_join.proofs.{Units.ReadInTurn.IsAdded, Units.ReadInTurn.News, Units.Whole.Goes}
 use Rattle.thorin_join.proofs.Rows.OfUnits.{is-unit_row, whole-else}
-use Rattle.thorin_join.proofs.Rows.OneAdded.{CanBeAdded, CanLie, Grows, grows-trans}
-use Rattle.thorin_join.proofs.Rows.OneAdded.{grows-with_bytes, keep-lie, keep-rows, keep-shares}
-use Rattle.thorin_join.proofs.Rows.OneAdded.{own-place, place-put, row-name, row-other, row-own}
-use Rattle.thorin_join.proofs.Rows.OneAdded.{rows-next, unit-added}
 use Rattle.thorin_join.proofs.Parts.Added.{content-with_bytes, content-with_parts}
 use Rattle.dwp_units.specs.declared.unit.UnitSection.TheVariants as places
 

@@ -9,23 +9,20 @@ use Terms.{is_shared, is_some, IsTable, joined_parts, length, LieInside, List, l
 use Terms.{None, Ok, Option, part_of, parts_of, range_in, Ranges, read_each, ReadsAlike, refl}
 use Terms.{row_in, SectionKind, Shares, Some, Source, Str, StrOffsets, sym, take, take-length, true}
 use Terms.{UnitRead, with_parts, [], ℕ, ◌&&◌, ◌+◌, ◌||◌, ◌∙◌, ◌∷◌, ◌≡◌, ◌≤◌}
-use Rattle.dwp_base.specs.ByKind.{value_of}
-use Rattle.dwp_base.proofs.KindsRead.{read-kind}
-use Rattle.dwp_base.specs.declared.section.SectionKind.TheVariants.{Abbrev, Info, Types}
-use Rattle.thorin_input.specs.Adjusting.{adjusted, Adjustor, contribution_by_row, has_column_for}
-use Rattle.thorin_input.specs.Adjusting.{other_index, own_index, row_of}
-use Rattle.thorin_input.specs.Indexes.{index_for}
-use Rattle.thorin_join.specs.Meaning.{contribution_by, contributions_by, lie_inside, meaning_by}
-use Rattle.thorin_join.specs.Meaning.{offsets_by, placed_row, shared_kinds, unit_meaning}
-use Rattle.thorin_input.specs.Rows.{adjusted_contribution, own_contribution, row_test}
-use Rattle.thorin_input.specs.Rows.{unit_contribution, unit_row, whole_row}
-use Rattle.thorin_join.proofs.Parts.ReadAlike.{parts-first, parts-read, rows-read, RowsRead}
-use Rattle.thorin_join.proofs.Rows.OneAdded.{Lies, lies-whole, not-outside, part-inside, Placed}
-use Rattle.thorin_join.proofs.Rows.OneAdded.{placed-by, range-none, range-some}
-use Rattle.thorin_join.proofs.Parts.Ranges.{empty-alike, strings-there}
+use Rattle.thorin_input.specs.Adjusting.{adjusted, contribution_by_row, has_column_for, other_index}
+use Rattle.thorin_input.specs.Adjusting.{Adjustor, own_index, row_of}
+use Rattle.thorin_join.specs.Meaning.{contribution_by, contributions_by, shared_kinds, unit_meaning}
+use Rattle.thorin_join.specs.Meaning.{lie_inside, meaning_by, offsets_by, placed_row}
+use Rattle.thorin_input.specs.Rows.{adjusted_contribution, own_contribution, unit_contribution}
+use Rattle.thorin_join.proofs.Rows.OneAdded.{Lies, lies-whole, not-outside, part-inside, range-none}
+use Rattle.thorin_join.proofs.Rows.OneAdded.{Placed, placed-by, range-some}
 use Rattle.thorin_join.proofs.Parts.Added.{content-with_parts, copied-or-offsets, parts-copied}
-use Rattle.thorin_join.proofs.Parts.Added.{parts-follow}
-use Rattle.thorin_join.specs.StandApart.{LieBehind}
+use Rattle.dwp_base.{proofs.KindsRead.read-kind, specs.ByKind.value_of}
+use Rattle.dwp_base.specs.declared.section.SectionKind.TheVariants.{Abbrev, Info, Types}
+use Rattle.thorin_input.specs.{Indexes.index_for, Rows.row_test, Rows.unit_row, Rows.whole_row}
+use Rattle.thorin_join.proofs.Parts.ReadAlike.{parts-first, parts-read, rows-read, RowsRead}
+use Rattle.thorin_join.proofs.Parts.Ranges.{empty-alike, strings-there}
+use Rattle.thorin_join.{proofs.Parts.Added.parts-follow, specs.StandApart.LieBehind}
 
 -- an entry by parts has each of those that it can have
 entry-part : (encoding : Encoding) (id : DwarfObject) (part : SectionKind → Option Contribution)

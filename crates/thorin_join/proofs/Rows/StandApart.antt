@@ -4,14 +4,12 @@ use Terms.{adding, append-nil, append_assoc, AreRowsOf, arith, content_of, Conte
 use Terms.{IndexEntry, inl, InProgress, inr, IsSound, IsSoundBegun, kind_of, LieInside, List, map}
 use Terms.{Members, Ok, Option, package_or_new, refl, row_at, same_Some, Some, Source, subst, sym}
 use Terms.{with_input, with_new_units, with_unit_added, [], ℕ, ◌++◌, ◌∙◌, ◌∷◌, ◌≡◌}
+use Rattle.thorin_join.proofs.Rows.OneAdded.{front-long, grows-trans, grows-with_bytes, lies-whole}
+use Rattle.thorin_join.proofs.Joined.{grows-with_parts, input-keeps, same-begun, source-made, takes}
 use Rattle.thorin_join.specs.StandApart.{contents_begun, EachRow, LieBehind, rows_begun, StandApart}
 use Rattle.thorin_join.proofs.Units.ReadInTurn.{AreAdded, News, Reads, units-joined}
-use Rattle.thorin_join.proofs.Rows.OneAdded.{front-long, Grows, grows-trans, grows-with_bytes}
-use Rattle.thorin_join.proofs.Rows.OneAdded.{lies-whole, row-part}
-use Rattle.thorin_join.proofs.Rows.OfUnits.{is-unit_row, row-behind}
-use Rattle.thorin_join.proofs.Joined.{grows-with_parts, input-keeps, new-sound, same-begun}
-use Rattle.thorin_join.proofs.Joined.{source-made, takes}
-use Rattle.thorin_join.proofs.Parts.Added.{each-unit}
+use Rattle.thorin_join.proofs.{Joined.new-sound, Rows.OfUnits.is-unit_row, Rows.OfUnits.row-behind}
+use Rattle.thorin_join.proofs.{Parts.Added.each-unit, Rows.OneAdded.Grows, Rows.OneAdded.row-part}
 
 -- units that are added
 abbrev EachNew : Contents → News → Type 0

@@ -8,8 +8,7 @@ use Terms.{is_compilation, IsRowOf, IsTable, joining, keys, length-map, List, li
 use Terms.{map, Meaning, meaning_at, Members, names_of, Ok, part_of, refl, Represents}
 use Terms.{result_unwrap_or, rows_of, same_name, strings_of, StrOffsets, sym, take-length, true}
 use Terms.{map-map, unit_bytes, units_of, [], ℕ, ◌++◌, ◌∷◌, ◌≡◌}
-use Rattle.std.proofs.lemmas.List.Kept.{AllPairs-filter}
-use Rattle.std.proofs.lemmas.List.Quantifiers.{all_pairs_push}
+use Rattle.std.proofs.{lemmas.List.Kept.AllPairs-filter, lemmas.List.Quantifiers.all_pairs_push}
 use Rattle.thorin_join.proofs.Parts.Ranges.{strings-are}
 
 -- one name is the other

@@ -7,13 +7,12 @@ use Terms.{keys, kind_of, List, list_any, list_any-append, map-append, name_for,
 use Terms.{NewUnit, None, Ok, Option, ParseUnitHeader, place_for, ReadError, refl, Result, same-ok}
 use Terms.{same_name, section, SectionKind, slice_get, Some, Source, source_units, suc, sym, true}
 use Terms.{unit_section, UnitRead, UnitSection, Used, with_unit, [], ℕ, ◌++◌, ◌∙◌, ◌∷◌, ◌≡◌}
+use Rattle.thorin_input.specs.NewUnits.{SeenSections, with_each_read, with_first, with_section}
+use Rattle.thorin_input.specs.NewUnits.{with_each_section, with_section_at, with_section_in}
 use Rattle.thorin_join.specs.Meaning.{named_at, named_each, named_sections, named_unit}
-use Rattle.thorin_input.specs.NewUnits.{none_met, SeenSections, with_each_read, with_each_section}
-use Rattle.thorin_input.specs.NewUnits.{with_first, with_read, with_section, with_section_at}
-use Rattle.thorin_input.specs.NewUnits.{with_section_in}
+use Rattle.thorin_input.specs.{NewUnits.none_met, NewUnits.with_read, Rows.row_test, Rows.unit_row}
 use Rattle.std.proofs.lemmas.Map.Made.{is_some-lookup}
 use Rattle.dwp_units.specs.Units.{units}
-use Rattle.thorin_input.specs.Rows.{row_test, unit_row}
 
 abbrev pub Listed : Type 0
 Listed = List (Result Header ReadError)

@@ -7,12 +7,11 @@ use Terms.{kind_of, length, List, name_signature, nat_eq, None, Ok, place_for, R
 use Terms.{root_identity, same-ok, section, slice_get, Some, Source, source_units, suc, sym}
 use Terms.{take-append-drop, type_signature, unit_taken, UnitRead, UnitSection, zero, [], ℕ, ◌++◌}
 use Terms.{◌+◌, ◌-◌, ◌∙◌, ◌∷◌, ◌≡◌, ◌⊎◌}
+use Rattle.thorin_join.proofs.Units.ReadInTurn.{each-all, name-identity, sections-are, WasRead}
+use Rattle.thorin_join.proofs.Moved.{FiveOrType, IsShifted, unit-anywhere, unit-five, unit-moves}
 use Rattle.dwp_units.specs.Units.{listed, unit_at, units, units_within}
 use Rattle.dwp_index.proofs.TwoPlaces.{units_alone}
-use Rattle.thorin_join.proofs.Units.ReadInTurn.{each-all, Listed, name-identity, Reads}
-use Rattle.thorin_join.proofs.Units.ReadInTurn.{sections-are, WasRead}
-use Rattle.thorin_join.proofs.Moved.{FiveOrType, IsShifted, plain, unit-anywhere, unit-five}
-use Rattle.thorin_join.proofs.Moved.{unit-moves}
+use Rattle.thorin_join.proofs.{Moved.plain, Units.ReadInTurn.Listed, Units.ReadInTurn.Reads}
 use Rattle.dwp_dwarf.specs.Entries.{DebugAttribute}
 use Rattle.dwp_units.specs.declared.unit.UnitSection.TheVariants as places
 

@@ -1,10 +1,8 @@
-use Rattle.std.proofs.Common.{◌≡◌, ℕ, ◌==◌, List, Option, Some, None, length, take, ap, ◌∙◌, sym}
+use Rattle.std.proofs.Common.{ap, length, List, None, Option, Some, sym, take, ℕ, ◌==◌, ◌∙◌, ◌≡◌}
 use Rattle.std.proofs.Common.{arith, take_all}
-use Rattle.std.specs.List.{position_or_len}
-use Rattle.std.specs.Prelude.{unwrap_or}
-use Rattle.std.proofs.lemmas.Bool.{false_from_ne_true}
-use Rattle.std.proofs.lemmas.List.Sums.{position_or_len_is}
-use Rattle.memchr.specs.Find.{IsFirstByte, is_byte}
+use Rattle.std.specs.{List.position_or_len, Prelude.unwrap_or}
+use Rattle.std.proofs.{lemmas.Bool.false_from_ne_true, lemmas.List.Sums.position_or_len_is}
+use Rattle.memchr.specs.Find.{is_byte, IsFirstByte}
 use Rattle.dwp_archive.proofs.member.up_to.Goals as goal
 
 -- where the first byte of its kind stands, as `memchr` says

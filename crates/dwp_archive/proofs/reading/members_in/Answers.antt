@@ -1,10 +1,7 @@
-use Rattle.std.proofs.Common.{◌∙◌, ◌+◌, ◌-◌, List, map, sym, ap, arith}
-use Rattle.std.proofs.lemmas.Bool.Decides.{nat_tests}
-use Rattle.std.proofs.lemmas.Result.{err_from_is_err_and}
-use Rattle.dwp_archive.specs.Entries.{Member}
-use Rattle.dwp_archive.specs.Members.{members_from}
-use Rattle.dwp_archive.specs.View.{member, entry}
-use Rattle.dwp_archive.proofs.Entering.{behind, entry_taken, entry_fails, entries_end, entries_done}
+use Rattle.std.proofs.Common.{ap, arith, List, map, sym, ◌+◌, ◌-◌, ◌∙◌}
+use Rattle.std.proofs.{lemmas.Bool.Decides.nat_tests, lemmas.Result.err_from_is_err_and}
+use Rattle.dwp_archive.specs.{Entries.Member, Members.members_from, View.entry, View.member}
+use Rattle.dwp_archive.proofs.Entering.{behind, entries_done, entries_end, entry_fails, entry_taken}
 use Rattle.dwp_archive.proofs.reading.members_in.Goals as goal
 
 pub returns-then-is_empty : goal.returns-then-is_empty

@@ -1,7 +1,5 @@
-use Rattle.std.proofs.Common.{◌≡◌, ◌-◌, [], map}
-use Rattle.dwp_archive.specs.Members.{members_from}
-use Rattle.dwp_archive.specs.View.{member}
-use Rattle.dwp_archive.proofs.Entering.{behind}
+use Rattle.std.proofs.Common.{map, [], ◌-◌, ◌≡◌}
+use Rattle.dwp_archive.{proofs.Entering.behind, specs.Members.members_from, specs.View.member}
 use Rattle.dwp_archive.proofs.reading.members_in.Given as goal
 
 -- those so far and those that are left are all

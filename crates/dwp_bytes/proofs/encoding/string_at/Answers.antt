@@ -1,6 +1,5 @@
-use Rattle.std.proofs.Common.{arith}
-use Rattle.std.proofs.lemmas.List.{take_rest}
-use Rattle.dwp_bytes.proofs.Found.{zero_free, string_at-found, string_at-unended}
+use Rattle.std.proofs.{Common.arith, lemmas.List.take_rest}
+use Rattle.dwp_bytes.proofs.Found.{string_at-found, string_at-unended, zero_free}
 use Rattle.dwp_bytes.proofs.encoding.string_at.Goals as goal
 
 pub returns-in-Some-clause-meaning : goal.returns-in-Some-clause-meaning

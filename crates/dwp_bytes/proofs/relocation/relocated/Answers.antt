@@ -1,15 +1,14 @@
-use Rattle.std.proofs.Common.{zero, true, false, List, length, get_or, Some, None, Ok, arith, rules}
-use Rattle.std.proofs.Common.{◌≡◌, ◌≢◌, inl, inr, ℕ, suc, ◌+◌, ◌<◌, eqb, ◌∷◌, Err, refl, sym, ◌∙◌}
-use Rattle.std.proofs.lemmas.Bool.{ltb-true, cases_lt, ne_eqb}
+use Rattle.std.proofs.Common.{false, length, List, Ok, true, zero, ℕ, ◌+◌, ◌<◌, ◌∙◌, ◌∷◌, ◌≡◌, ◌≢◌}
+use Rattle.std.proofs.Common.{arith, eqb, Err, get_or, inl, inr, None, refl, rules, Some, suc, sym}
+use Rattle.std.proofs.lemmas.Bool.{cases_lt, ltb-true, ne_eqb}
 use Rattle.std.proofs.lemmas.Bool.Decides.{nat_tests}
 use Rattle.std.proofs.lemmas.List.Recursion.{found_at, found_nowhere}
-use Rattle.std.proofs.lemmas.List.Sorted.{IsNonDecreasingBy-from_all_adjacent, answers_always}
-use Rattle.std.specs.Ordering.{nat_cmp, ordering_index}
-use Rattle.std.specs.declared.cmp.Ordering.{Ordering}
-use Rattle.std.specs.declared.cmp.Ordering.TheVariants.{Less, Equal, Greater}
+use Rattle.std.proofs.lemmas.List.Sorted.{answers_always, IsNonDecreasingBy-from_all_adjacent}
+use Rattle.std.specs.{declared.cmp.Ordering.Ordering, Ordering.nat_cmp, Ordering.ordering_index}
+use Rattle.std.specs.declared.cmp.Ordering.TheVariants.{Equal, Greater, Less}
 use Rattle.std.specs.List.Sorted.{IsBinarySearchResult, IsNonDecreasingBy}
 use Rattle.dwp_bytes.specs.declared.relocation.RelocationEntry.{RelocationEntry}
-use Rattle.dwp_bytes.specs.Relocation.{ascends, begins_past, relocation_at, relocated_by, value_of}
+use Rattle.dwp_bytes.specs.Relocation.{ascends, begins_past, relocated_by, relocation_at, value_of}
 use Rattle.dwp_base.proofs.Bools.{both}
 use Rattle.dwp_bytes.proofs.relocation.relocated.Goals as goal
 

@@ -1,5 +1,4 @@
-use Rattle.dwp_dwarf.proofs.Terms.{Err, None, Ok, Some}
-use Rattle.dwp_dwarf.proofs.Tables.{said}
+use Rattle.dwp_dwarf.proofs.{Tables.said, Terms.Err, Terms.None, Terms.Ok, Terms.Some}
 use Rattle.dwp_dwarf.proofs.laws.declarations_are_found_first.Goals as goal
 
 pub returns-clause-found : goal.returns-clause-found

@@ -1,5 +1,4 @@
-use Rattle.dwp_dwarf.proofs.Terms.{refl}
-use Rattle.dwp_dwarf.specs.Versions.{value_below}
+use Rattle.dwp_dwarf.{proofs.Terms.refl, specs.Versions.value_below}
 use Rattle.dwp_dwarf.proofs.versions.+value_below.Goals as goal
 
 pub returns-then-levels-eq0 : goal.returns-then-levels-eq0

@@ -1,7 +1,6 @@
-use Rattle.std.proofs.Common.{take-append-drop}
-use Rattle.dwp_elf.proofs.Terms.{◌++◌, ◌<◌, ap, arith, length, sym, take, take_rest, ◌∙◌}
-use Rattle.std.proofs.lemmas.Bool.Decides.{nat_tests}
-use Rattle.dwp_elf.proofs.SoFar.{so_far_none, so_far_more, so_far_stop, Keeps-from_none, failed}
+use Rattle.dwp_elf.proofs.Terms.{ap, arith, length, sym, take, take_rest, ◌++◌, ◌<◌, ◌∙◌}
+use Rattle.std.proofs.{Common.take-append-drop, lemmas.Bool.Decides.nat_tests}
+use Rattle.dwp_elf.proofs.SoFar.{failed, Keeps-from_none, so_far_more, so_far_none, so_far_stop}
 use Rattle.dwp_elf.proofs.output.write_whole.Goals as goal
 
 pub loop-rest-init : goal.loop-rest-init

@@ -1,5 +1,4 @@
-use Rattle.dwp_elf.proofs.Terms.{ErrorKind, length}
-use Rattle.dwp_elf.proofs.SoFar.{SoFar}
+use Rattle.dwp_elf.proofs.{SoFar.SoFar, Terms.ErrorKind, Terms.length}
 use Rattle.dwp_elf.proofs.output.write_whole.Given as goal
 
 abbrev pub invariant-loop-rest : goal.invariant-loop-rest

@@ -1,10 +1,9 @@
-use Rattle.std.proofs.Common.{sym, ap, ◌∙◌, arith}
-use Rattle.std.specs.Str.{is_utf8}
-use Rattle.std.proofs.lemmas.Str.{is_utf8-from_IsUtf8}
-use Rattle.dwp_elf_read.proofs.ShortNames.{no_end, by_bytes}
 use Rattle.dwp_elf_read.proofs.section.stands_at.Goals as goal
-use Rattle.dwp_elf_read.proofs.section.stands_at.Goals.{then-text-rest-via-then-text-rest}
+use Rattle.std.proofs.Common.{ap, arith, sym, ◌∙◌}
 use Rattle.dwp_elf_read.proofs.section.stands_at.Goals.{then-text-rest-via-else-text-rest+then-rest-text-ne0}
+use Rattle.dwp_elf_read.proofs.section.stands_at.Goals.{then-text-rest-via-then-text-rest}
+use Rattle.std.{proofs.lemmas.Str.is_utf8-from_IsUtf8, specs.Str.is_utf8}
+use Rattle.dwp_elf_read.proofs.ShortNames.{by_bytes, no_end}
 
 pub returns-then-text-rest : goal.returns-then-text-rest
 returns-then-text-rest c =

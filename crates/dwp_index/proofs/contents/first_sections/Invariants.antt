@@ -1,5 +1,4 @@
-use Rattle.dwp_index.proofs.Terms.{SectionKind, elf, found_in}
-use Rattle.dwp_index.proofs.HeldContents.{IsMet}
+use Rattle.dwp_index.proofs.{HeldContents.IsMet, Terms.elf, Terms.found_in, Terms.SectionKind}
 use Rattle.dwp_index.proofs.contents.first_sections.Given as goal
 
 -- of each kind the first of the sections so far was met

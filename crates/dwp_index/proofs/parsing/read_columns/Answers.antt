@@ -1,8 +1,7 @@
 use Rattle.std.proofs.Common.{ap, arith, false, is_none, is_some, refl, sym, true, ◌-◌, ◌∙◌, ◌≡◌}
-use Rattle.dwp_index.proofs.Terms.{NO_COLUMN, kind_of_column, numbers}
-use Rattle.dwp_index.proofs.Columns.{among, done, ends, further, none_yet, one_more, says_none}
-use Rattle.dwp_index.proofs.Columns.{says_some}
-use Rattle.dwp_index.proofs.NumberLists.{length-numbers, numbers_more}
+use Rattle.dwp_index.proofs.Columns.{among, done, further, none_yet, one_more, says_none, says_some}
+use Rattle.dwp_index.proofs.Terms.{kind_of_column, NO_COLUMN, numbers}
+use Rattle.dwp_index.proofs.{Columns.ends, NumberLists.length-numbers, NumberLists.numbers_more}
 use Rattle.dwp_index.proofs.parsing.read_columns.Goals as goal
 
 pub loop-i-init : goal.loop-i-init

@@ -1,6 +1,5 @@
-use Rattle.std.proofs.Common.{[], length, ◌*◌, ◌≡◌, ◌≤◌}
-use Rattle.dwp_index.proofs.Terms.{ArePlaces, columns_at, numbers}
-use Rattle.dwp_index.proofs.Columns.{Behind}
+use Rattle.std.proofs.Common.{length, [], ◌*◌, ◌≡◌, ◌≤◌}
+use Rattle.dwp_index.proofs.{Columns.Behind, Terms.ArePlaces, Terms.columns_at, Terms.numbers}
 use Rattle.dwp_index.proofs.parsing.read_columns.Given as goal
 
 abbrev pub invariant-loop-i : goal.invariant-loop-i

@@ -1,7 +1,6 @@
-use Rattle.std.proofs.Common.{◌≡◌, ◌+◌, ◌-◌, sym, ap, ◌∙◌, arith, option_map}
+use Rattle.std.proofs.Common.{ap, arith, option_map, sym, ◌+◌, ◌-◌, ◌∙◌, ◌≡◌}
 use Rattle.dwp_elf_read.specs.View.{elf, section}
-use Rattle.dwp_macros.specs.Kept.{has_macros}
-use Rattle.dwp_macros.proofs.Walks.{any_step, kept_step}
+use Rattle.dwp_macros.{proofs.Walks.any_step, proofs.Walks.kept_step, specs.Kept.has_macros}
 use Rattle.dwp_macros.proofs.kept.agrees.Goals as goal
 
 pub loop-left-preserved : goal.loop-left-preserved

@@ -1,5 +1,4 @@
-use Rattle.dwp_strings.proofs.Terms.{arith, leb-true}
-use Rattle.dwp_strings.proofs.LaneLemmas.{lanes_some}
+use Rattle.dwp_strings.proofs.{LaneLemmas.lanes_some, Terms.arith, Terms.leb-true}
 use Rattle.dwp_strings.proofs.buffer.copy_ended.Goals as goal
 
 pub returns-then-end-lt-HALF : goal.returns-then-end-lt-HALF

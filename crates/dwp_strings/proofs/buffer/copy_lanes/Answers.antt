@@ -1,6 +1,5 @@
 use Rattle.std.proofs.lemmas.Simd.{length-put_chunk}
-use Rattle.dwp_strings.proofs.Terms.{refl}
-use Rattle.dwp_strings.proofs.CopyLemmas.{stored_kept, stored_there}
+use Rattle.dwp_strings.proofs.{CopyLemmas.stored_kept, CopyLemmas.stored_there, Terms.refl}
 use Rattle.dwp_strings.proofs.buffer.copy_lanes.Goals as goal
 
 pub returns : goal.returns

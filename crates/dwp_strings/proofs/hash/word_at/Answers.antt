@@ -1,6 +1,5 @@
-use Rattle.dwp_strings.proofs.Terms.{arith, take_rest}
+use Rattle.dwp_strings.proofs.{HashLemmas.read_behind, Terms.arith, Terms.take_rest}
 use Rattle.std.specs.Hash.FoldHasher.{read_u64}
-use Rattle.dwp_strings.proofs.HashLemmas.{read_behind}
 use Rattle.dwp_strings.proofs.hash.word_at.Goals as goal
 
 pub returns : goal.returns

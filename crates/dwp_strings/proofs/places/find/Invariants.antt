@@ -1,5 +1,4 @@
-use Rattle.dwp_strings.proofs.Terms.{home}
-use Rattle.dwp_strings.proofs.PlacesLemmas.{ArePassed}
+use Rattle.dwp_strings.proofs.{PlacesLemmas.ArePassed, Terms.home}
 use Rattle.dwp_strings.proofs.places.find.Given as goal
 
 abbrev pub invariant-loop-number : goal.invariant-loop-number

@@ -1,9 +1,8 @@
-use Rattle.dwp_strings.proofs.Terms.{[], arith, get_or, get_or_read, length, pieces, ◌+◌, ◌/◌, ◌<◌}
-use Rattle.dwp_strings.proofs.Terms.{◌≡◌}
+use Rattle.dwp_strings.proofs.Terms.{arith, get_or, get_or_read, length, [], ◌+◌, ◌/◌, ◌<◌, ◌≡◌}
+use Rattle.dwp_strings.proofs.ChunkLemmas.{halves_begun, halves_short, length-pieces, piece_halved}
+use Rattle.dwp_strings.proofs.ChunkLemmas.{counts, halves_same, piece_read, start_within}
+use Rattle.dwp_strings.proofs.{positions.cut.Goals.After-index, Terms.pieces}
 use Rattle.dwp_strings.specs.Chunks.{IsHalved}
-use Rattle.dwp_strings.proofs.ChunkLemmas.{counts, halves_begun, halves_same, halves_short}
-use Rattle.dwp_strings.proofs.ChunkLemmas.{length-pieces, piece_halved, piece_read, start_within}
-use Rattle.dwp_strings.proofs.positions.cut.Goals.{After-index}
 use Rattle.dwp_strings.proofs.positions.cut.Goals as goal
 
 there : (c : goal.After-index) → c.args.at < length (pieces c.args.chunks.now.items)

@@ -1,5 +1,4 @@
-use Rattle.dwp_strings.proofs.Terms.{filter, nat_lt, pieces}
-use Rattle.dwp_strings.proofs.ChunkLemmas.{IsKept}
+use Rattle.dwp_strings.proofs.{ChunkLemmas.IsKept, Terms.filter, Terms.nat_lt, Terms.pieces}
 use Rattle.dwp_strings.proofs.positions.keep_all.Given as goal
 
 abbrev pub invariant-loop-at : goal.invariant-loop-at

@@ -1,5 +1,4 @@
-use Rattle.dwp_strings.proofs.Terms.{arith}
-use Rattle.dwp_strings.proofs.CompareLemmas.{compared_at, compared_short}
+use Rattle.dwp_strings.proofs.{CompareLemmas.compared_at, CompareLemmas.compared_short, Terms.arith}
 use Rattle.dwp_strings.proofs.search.compare_at.Goals as goal
 
 pub returns-then-rest-string : goal.returns-then-rest-string

@@ -1,9 +1,8 @@
-use Rattle.std.proofs.Common.{◌≡◌, ◌+◌, ◌-◌, length, set, refl, arith}
-use Rattle.dwp_table.specs.Probing.{place}
-use Rattle.dwp_table.specs.Table.{rows_with}
-use Rattle.dwp_table.proofs.Tables.{IsFree, free_early}
+use Rattle.std.proofs.Common.{arith, length, refl, set, ◌+◌, ◌-◌, ◌≡◌}
 use Rattle.dwp_table.proofs.Placing.{AllUsed, first_unused-free, first_unused-none, not_all_used}
-use Rattle.dwp_table.proofs.Placing.{stays, stands, placed_table}
+use Rattle.dwp_table.proofs.Placing.{placed_table, stands, stays}
+use Rattle.dwp_table.specs.{Probing.place, Table.rows_with}
+use Rattle.dwp_table.proofs.Tables.{free_early, IsFree}
 use Rattle.dwp_table.proofs.row.place_row.Goals as goal
 
 pub returns-then-slots-at-eq0 : goal.returns-then-slots-at-eq0

@@ -1,10 +1,8 @@
-use Rattle.thorin.proofs.Terms.{begun-now, input-keeps, IsPackageOf, Ok, start, subst, sym, taken}
-use Rattle.thorin.proofs.Terms.{units_in, ◌≡◌}
+use Rattle.thorin.proofs.Terms.{begun-now, input-keeps, IsPackageOf, Ok, start, subst, sym, ◌≡◌}
+use Rattle.thorin.proofs.{GroupJoins.sound-taken, Running.as-written, TakenAgain.plain-encoding}
+use Rattle.thorin.proofs.{Running.read-text, Terms.taken, Terms.units_in}
 use Rattle.thorin_again.specs.Again.{HaveEncodingOf, MeansWhereTaken}
 use Rattle.thorin_join.proofs.Files.Finished.{finished-is}
-use Rattle.thorin.proofs.GroupJoins.{sound-taken}
-use Rattle.thorin.proofs.Running.{as-written, read-text}
-use Rattle.thorin.proofs.TakenAgain.{plain-encoding}
 use Rattle.thorin.proofs.again.refused_packages_mean_what_is_read.Goals as goal
 
 pub returns-clause-taken : goal.returns-clause-taken

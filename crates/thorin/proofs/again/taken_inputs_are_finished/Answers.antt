@@ -1,6 +1,4 @@
-use Rattle.thorin.proofs.Terms.{start}
-use Rattle.thorin.proofs.GroupJoins.{sound-taken}
-use Rattle.thorin.proofs.Unfinished.{unfinished}
+use Rattle.thorin.proofs.{GroupJoins.sound-taken, Terms.start, Unfinished.unfinished}
 use Rattle.thorin.proofs.again.taken_inputs_are_finished.Goals as goal
 
 pub returns : goal.returns

@@ -1,5 +1,4 @@
-use Rattle.thorin.proofs.Terms.{start}
-use Rattle.thorin.proofs.Running.{run-accepts}
+use Rattle.thorin.proofs.{Running.run-accepts, Terms.start}
 use Rattle.thorin.proofs.packing.pack.Goals as goal
 
 pub returns-in-Ok-clause-packed : goal.returns-in-Ok-clause-packed

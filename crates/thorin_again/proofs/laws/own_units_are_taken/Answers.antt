@@ -1,6 +1,5 @@
-use Rattle.thorin_again.proofs.Terms.{inr, IsForeseen, refl}
-use Rattle.thorin_again.proofs.Opened.Indexes.{own-plain, read-of}
-use Rattle.thorin_again.proofs.Accepted.OwnUnits.{taken-all}
+use Rattle.thorin_again.proofs.{Accepted.OwnUnits.taken-all, Opened.Indexes.own-plain, Terms.refl}
+use Rattle.thorin_again.proofs.{Opened.Indexes.read-of, Terms.inr, Terms.IsForeseen}
 use Rattle.thorin_again.proofs.laws.own_units_are_taken.Goals as goal
 
 pub returns : goal.returns

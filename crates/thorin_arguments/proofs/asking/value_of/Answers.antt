@@ -1,6 +1,5 @@
 use Rattle.std.proofs.Common.{◌∙◌}
-use Rattle.clap.specs.Words.{found_of}
-use Rattle.clap.proofs.WalkLemmas.{first_value-rows}
+use Rattle.clap.{proofs.WalkLemmas.first_value-rows, specs.Words.found_of}
 use Rattle.thorin_arguments.proofs.asking.value_of.Goals as goal
 
 pub returns : goal.returns

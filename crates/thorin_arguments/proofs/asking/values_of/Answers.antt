@@ -1,6 +1,5 @@
 use Rattle.std.proofs.Common.{◌∙◌}
-use Rattle.clap.specs.Words.{found_of}
-use Rattle.clap.proofs.WalkLemmas.{raw_values-rows}
+use Rattle.clap.{proofs.WalkLemmas.raw_values-rows, specs.Words.found_of}
 use Rattle.thorin_arguments.proofs.asking.values_of.Goals as goal
 
 pub returns : goal.returns

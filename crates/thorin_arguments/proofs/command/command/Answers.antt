@@ -1,10 +1,7 @@
 use borrow.Rule.Slice.PartMut.{mid_of}
-use Rattle.std.proofs.Common.{◌≡◌, ◌∙◌, ap, arith, true}
-use Rattle.std.specs.Prelude.{fold}
-use Rattle.std.proofs.lemmas.List.{take_all}
-use Rattle.std.proofs.lemmas.Result.{IfOk-weaker}
-use Rattle.clap.specs.Simple.{app_of_fields}
-use Rattle.clap.specs.Words.{App, app_of, with_subcommand}
+use Rattle.std.proofs.Common.{ap, arith, true, ◌∙◌, ◌≡◌}
+use Rattle.std.{proofs.lemmas.List.take_all, proofs.lemmas.Result.IfOk-weaker, specs.Prelude.fold}
+use Rattle.clap.specs.{Simple.app_of_fields, Words.App, Words.app_of, Words.with_subcommand}
 use Rattle.thorin_arguments.specs.Grammar.{IsThorin, thorin}
 use Rattle.thorin_arguments.proofs.Rules.{add_line, added, first_line, other_lines}
 use Rattle.thorin_arguments.proofs.command.command.Invariants.{bare}

@@ -1,7 +1,6 @@
-use Rattle.std.proofs.Common.{◌≡◌, [], take, true}
+use Rattle.std.proofs.Common.{take, true, [], ◌≡◌}
 use Rattle.clap.specs.Words.{App, app_of}
-use Rattle.thorin_arguments.specs.Grammar.{program}
-use Rattle.thorin_arguments.proofs.Rules.{added}
+use Rattle.thorin_arguments.{proofs.Rules.added, specs.Grammar.program}
 use Rattle.thorin_arguments.proofs.command.command.Given as goal
 
 abbrev pub bare : App

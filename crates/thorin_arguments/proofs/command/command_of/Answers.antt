@@ -1,8 +1,7 @@
-use Rattle.std.proofs.Common.{◌∙◌, ap, arith}
+use Rattle.std.proofs.Common.{ap, arith, ◌∙◌}
 use Rattle.std.proofs.lemmas.List.{take_all}
 use Rattle.clap.specs.Simple.{app_of_fields}
-use Rattle.thorin_arguments.specs.Rules.{app_of_words}
-use Rattle.thorin_arguments.proofs.Rules.{add_word}
+use Rattle.thorin_arguments.{proofs.Rules.add_word, specs.Rules.app_of_words}
 use Rattle.thorin_arguments.proofs.command.command_of.Goals as goal
 
 pub loop-word-init : goal.loop-word-init

@@ -1,10 +1,7 @@
-use Rattle.std.proofs.Common.{◌∙◌, List, [], ap, true}
+use Rattle.std.proofs.Common.{ap, List, true, [], ◌∙◌}
 use Rattle.std.proofs.lemmas.Result.{IfOk-weaker}
-use Rattle.clap.specs.Simple.{app_of_fields}
-use Rattle.clap.specs.Walk.{Rule}
-use Rattle.clap.specs.Words.{App, app_of}
-use Rattle.thorin_arguments.specs.Grammar.{IsPeer, command, peer}
-use Rattle.thorin_arguments.specs.Rules.{shape_in}
+use Rattle.clap.specs.{Simple.app_of_fields, Walk.Rule, Words.App, Words.app_of}
+use Rattle.thorin_arguments.specs.{Grammar.command, Grammar.IsPeer, Grammar.peer, Rules.shape_in}
 use Rattle.thorin_arguments.proofs.command.peer.Goals as goal
 
 pub returns : goal.returns

@@ -1,5 +1,4 @@
-use Rattle.std.proofs.Common.{arith}
-use Rattle.std.proofs.lemmas.Str.Pattern.{strip_prefix_char}
+use Rattle.std.proofs.{Common.arith, lemmas.Str.Pattern.strip_prefix_char}
 use Rattle.clap.proofs.LexerLemmas.{strip_byte-from}
 use Rattle.thorin_arguments.proofs.peers.behind_dash.Goals as goal
 

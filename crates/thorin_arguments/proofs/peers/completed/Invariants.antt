@@ -1,8 +1,7 @@
-use Rattle.std.proofs.Common.{◌≡◌, ◌++◌, drop}
+use Rattle.std.proofs.Common.{drop, ◌++◌, ◌≡◌}
 use Rattle.std.specs.Prelude.{if◌then◌else◌}
 use Rattle.clap.specs.Walk.{texts}
-use Rattle.thorin_arguments.specs.Asked.{words_in}
-use Rattle.thorin_arguments.specs.Whole.{completed}
+use Rattle.thorin_arguments.specs.{Asked.words_in, Whole.completed}
 use Rattle.thorin_arguments.proofs.peers.completed.Given as goal
 
 -- the words so far, and what those that are left come to

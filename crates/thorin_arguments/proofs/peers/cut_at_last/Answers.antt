@@ -1,6 +1,5 @@
-use Rattle.std.proofs.Common.{◌≡◌, ◌++◌, ◌-◌, ◌∷◌, List, [], None, Some, arith, length, take, ℕ}
-use Rattle.std.proofs.Common.{sym}
-use Rattle.std.proofs.lemmas.Grind.{common_steps}
+use Rattle.std.proofs.Common.{arith, length, List, None, Some, take, [], ℕ, ◌++◌, ◌-◌, ◌∷◌, ◌≡◌}
+use Rattle.std.proofs.{Common.sym, lemmas.Grind.common_steps}
 use Rattle.thorin_arguments.proofs.Completing.{last_part-cut}
 use Rattle.thorin_arguments.proofs.peers.cut_at_last.Goals as goal
 

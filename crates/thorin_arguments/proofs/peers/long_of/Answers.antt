@@ -1,7 +1,6 @@
-use Rattle.std.proofs.Common.{◌≡◌, ◌∙◌, ◌==◌, ◌∷◌, ℕ, List, [], Some, None, ap, arith, false}
-use Rattle.std.proofs.Common.{length, sym}
+use Rattle.std.proofs.Common.{ap, arith, false, List, None, Some, sym, [], ℕ, ◌==◌, ◌∙◌, ◌∷◌, ◌≡◌}
+use Rattle.std.proofs.{Common.length, lemmas.Str.Pattern.split_parts}
 use Rattle.std.specs.Prelude.{option_and_then}
-use Rattle.std.proofs.lemmas.Str.Pattern.{split_parts}
 use Rattle.clap.specs.Lexer.{long_of, long_of_rest, name_and_value, strip_byte}
 use Rattle.clap.proofs.LexerLemmas.{name_and_value-without}
 use Rattle.thorin_arguments.proofs.peers.long_of.Goals as goal

@@ -1,11 +1,8 @@
-use Rattle.std.proofs.Common.{◌≡◌, ◌∙◌, ap, refl, List, [], map, rules, tests}
-use Rattle.std.specs.Prelude.{Option, None, Some, option_map, unwrap_or}
-use Rattle.std.specs.Borrow.{Bor}
-use Rattle.std.specs.List.{list_any}
-use Rattle.std.proofs.lemmas.Iterator.{YieldsList-from_slice}
+use Rattle.std.proofs.Common.{ap, List, map, refl, rules, tests, [], ◌∙◌, ◌≡◌}
+use Rattle.std.specs.Prelude.{None, Option, option_map, Some, unwrap_or}
+use Rattle.std.{proofs.lemmas.Iterator.YieldsList-from_slice, specs.Borrow.Bor, specs.List.list_any}
 use Rattle.std.proofs.lemmas.Iterator.Search.{any_from_yields_List}
-use Rattle.clap.proofs.WalkLemmas.{list_any-map}
-use Rattle.clap.specs.Walk.{Text}
+use Rattle.clap.{proofs.WalkLemmas.list_any-map, specs.Walk.Text}
 use Rattle.thorin_arguments.specs.Wrong.{lacks_mark}
 use Rattle.thorin_arguments.proofs.reading.lack_marks.Goals as goal
 

@@ -1,7 +1,6 @@
 use Rattle.std.proofs.lemmas.Result.{err_from_is_err_and}
 use Rattle.clap.specs.Words.{app_of}
-use Rattle.thorin_arguments.specs.Asked.{words_in}
-use Rattle.thorin_arguments.proofs.Matched.{read, unread}
+use Rattle.thorin_arguments.{proofs.Matched.read, proofs.Matched.unread, specs.Asked.words_in}
 use Rattle.thorin_arguments.proofs.reading.read_by.Goals as goal
 
 pub returns : goal.returns

@@ -1,6 +1,5 @@
-use Rattle.std.proofs.Common.{◌∙◌, Some, None, ap, refl, sym}
-use Rattle.thorin_arguments.specs.Asked.{words_in}
-use Rattle.thorin_arguments.proofs.Matched.{by_name}
+use Rattle.std.proofs.Common.{ap, None, refl, Some, sym, ◌∙◌}
+use Rattle.thorin_arguments.{proofs.Matched.by_name, specs.Asked.words_in}
 use Rattle.thorin_arguments.proofs.reading.run.Goals as goal
 
 pub returns-in-Ok-completed : goal.returns-in-Ok-completed

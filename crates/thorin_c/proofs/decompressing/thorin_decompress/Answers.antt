@@ -1,5 +1,4 @@
-use Rattle.std.proofs.Common.{arith}
-use Rattle.std.proofs.lemmas.Int.{ints, to_z-of_z}
+use Rattle.std.proofs.{Common.arith, lemmas.Int.ints, lemmas.Int.to_z-of_z}
 use Rattle.thorin_c.proofs.PlainFiles.{told_early}
 use Rattle.thorin_c.proofs.decompressing.thorin_decompress.Goals as goal
 

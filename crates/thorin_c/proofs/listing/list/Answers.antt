@@ -1,10 +1,9 @@
-use Rattle.std.proofs.Common.{◌≡◌, ◌∙◌, length, map, refl, arith}
-use Rattle.std.proofs.lemmas.List.{append_assoc, length-map, length_push}
-use Rattle.thorin_c.specs.Listing.{name_of}
-use Rattle.thorin_c.specs.declared.types.ThorinName.{ThorinName}
-use Rattle.thorin_c.proofs.Writing.{put-next, pass-next}
 use Rattle.thorin_c.proofs.listing.list.Goals as goal
-use Rattle.thorin_c.proofs.listing.list.Goals.{then-place-names, else-place-names}
+use Rattle.std.proofs.Common.{arith, length, map, refl, ◌∙◌, ◌≡◌}
+use Rattle.std.proofs.lemmas.List.{append_assoc, length-map, length_push}
+use Rattle.thorin_c.specs.{declared.types.ThorinName.ThorinName, Listing.name_of}
+use Rattle.thorin_c.proofs.Writing.{pass-next, put-next}
+use Rattle.thorin_c.proofs.listing.list.Goals.{else-place-names, then-place-names}
 
 pub loop-entry-preserved : goal.loop-entry-preserved
 loop-entry-preserved c =

@@ -1,12 +1,9 @@
-use Rattle.std.proofs.Common.{refl, ap, ◌∙◌, arith}
-use Rattle.std.specs.Prelude.{slice_set}
-use Rattle.std.proofs.lemmas.Option.{slice_get-get_or}
-use Rattle.dwp_base.specs.Sections.{all_kinds}
-use Rattle.dwp_base.proofs.KindsRead.{read-more}
-use Rattle.dwp_elf_read.specs.View.{elf, bytes_of}
-use Rattle.dwp_elf_read.specs.declared.error.ReadError.{ReadError}
-use Rattle.thorin_c.proofs.PlacesRead.{IsPlaceOf, contents_read, contents_stop, inside_each}
-use Rattle.thorin_c.proofs.PlacesRead.{package_by, none_by}
+use Rattle.std.proofs.Common.{ap, arith, refl, ◌∙◌}
+use Rattle.thorin_c.proofs.PlacesRead.{contents_read, contents_stop, inside_each, package_by}
+use Rattle.thorin_c.proofs.PlacesRead.{IsPlaceOf, none_by}
+use Rattle.std.{proofs.lemmas.Option.slice_get-get_or, specs.Prelude.slice_set}
+use Rattle.dwp_base.{proofs.KindsRead.read-more, specs.Sections.all_kinds}
+use Rattle.dwp_elf_read.specs.{declared.error.ReadError.ReadError, View.bytes_of, View.elf}
 use Rattle.thorin_c.proofs.opening.placed.Goals as goal
 
 pub loop-kind-init : goal.loop-kind-init

@@ -1,6 +1,5 @@
-use Rattle.std.proofs.Common.{refl, ap}
-use Rattle.thorin_c.specs.declared.types.ThorinReport.{ThorinReport}
-use Rattle.thorin_c.proofs.SkeletonLists.{lists}
+use Rattle.std.proofs.Common.{ap, refl}
+use Rattle.thorin_c.{proofs.SkeletonLists.lists, specs.declared.types.ThorinReport.ThorinReport}
 use Rattle.thorin_c.proofs.skeletons.told.Goals as goal
 
 pub returns-in-None-clause-lists : goal.returns-in-None-clause-lists

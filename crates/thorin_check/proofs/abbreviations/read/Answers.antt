@@ -1,5 +1,4 @@
-use Rattle.thorin_check.proofs.Terms.{sym}
-use Rattle.thorin_check.proofs.Own.{abbreviations_inside, own_read, own_unread}
+use Rattle.thorin_check.proofs.{Own.abbreviations_inside, Own.own_read, Own.own_unread, Terms.sym}
 use Rattle.thorin_check.proofs.abbreviations.read.Goals as goal
 
 pub read_behind-requires : goal.read_behind-requires

@@ -1,5 +1,4 @@
-use Rattle.thorin_check.proofs.Terms.{err_from_is_err_and}
-use Rattle.thorin_check.proofs.Checked.{of_printing, reading_one}
+use Rattle.thorin_check.proofs.{Checked.of_printing, Checked.reading_one, Terms.err_from_is_err_and}
 use Rattle.thorin_check.proofs.Told.{in_turn, stopped_behind, told_all, told_next, told_then}
 use Rattle.thorin_check.proofs.checking.check_all.Goals as goal
 

@@ -1,6 +1,5 @@
-use Rattle.thorin_check.proofs.Terms.{err_from_is_err_and}
 use Rattle.thorin_check.proofs.Checked.{file_checked, file_malformed, file_without_index}
-use Rattle.thorin_check.proofs.Checked.{not_checked}
+use Rattle.thorin_check.proofs.{Checked.not_checked, Terms.err_from_is_err_and}
 use Rattle.thorin_check.proofs.checking.check_by.Goals as goal
 
 pub returns-in_err-bytes : goal.returns-in_err-bytes

@@ -1,5 +1,4 @@
-use Rattle.thorin_check.proofs.Terms.{grown, refl}
-use Rattle.thorin_check.proofs.Checked.{checked, printed_some}
+use Rattle.thorin_check.proofs.{Checked.checked, Checked.printed_some, Terms.grown, Terms.refl}
 use Rattle.thorin_check.proofs.checking.check_indexed.Goals as goal
 
 pub returns-in-Ok : goal.returns-in-Ok

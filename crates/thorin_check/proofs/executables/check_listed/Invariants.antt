@@ -1,5 +1,4 @@
-use Rattle.thorin_check.proofs.Terms.{Told, length, so_far}
-use Rattle.thorin_check.proofs.Checked.{GoesOn}
+use Rattle.thorin_check.proofs.{Checked.GoesOn, Terms.length, Terms.so_far, Terms.Told}
 use Rattle.thorin_check.proofs.executables.check_listed.Given as goal
 
 abbrev pub decreases-loop-unit : goal.decreases-loop-unit

@@ -1,9 +1,8 @@
-use Rattle.thorin_check.proofs.Terms.{All, IsOfUnit, Ok, err_from_is_err_and, none_grown, sym, ◌∙◌}
+use Rattle.thorin_check.proofs.Terms.{All, err_from_is_err_and, IsOfUnit, none_grown, Ok, sym, ◌∙◌}
+use Rattle.thorin_check.proofs.Distinct.{first_again, first_more, first_none, listed_before}
 use Rattle.std.proofs.lemmas.List.Sorted.{All-permutation}
-use Rattle.thorin_check.proofs.Distinct.{first_again, first_all, first_more, first_none}
-use Rattle.thorin_check.proofs.Distinct.{listed_before}
-use Rattle.thorin_check.proofs.SharedStrings.{same_range}
-use Rattle.thorin_check.proofs.Told.{none_told, told_then, told_as, stopped_behind}
+use Rattle.thorin_check.proofs.{Distinct.first_all, SharedStrings.same_range}
+use Rattle.thorin_check.proofs.Told.{none_told, stopped_behind, told_as, told_then}
 use Rattle.thorin_check.proofs.strings.check_strings.Goals as goal
 
 pub loop-i-init : goal.loop-i-init

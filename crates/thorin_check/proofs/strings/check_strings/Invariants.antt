@@ -1,5 +1,4 @@
-use Rattle.thorin_check.proofs.Terms.{Told, so_far}
-use Rattle.thorin_check.proofs.Distinct.{TellsFirst}
+use Rattle.thorin_check.proofs.{Distinct.TellsFirst, Terms.so_far, Terms.Told}
 use Rattle.thorin_check.proofs.strings.check_strings.Given as goal
 
 -- the faults of the units so far

@@ -1,8 +1,7 @@
-use Rattle.thorin_check.proofs.Terms.{Ok, arith, err_from_is_err_and, refl, string_of}
+use Rattle.thorin_check.proofs.Terms.{arith, err_from_is_err_and, Ok, refl, string_of}
 use Rattle.std.proofs.lemmas.List.FromFn.{map-range_with_len_more}
-use Rattle.thorin_check.specs.Faults.{TellsNumbered}
-use Rattle.thorin_check.proofs.Told.{text_told, text_stopped, strings_some, none_told, told_more}
-use Rattle.thorin_check.proofs.SharedStrings.{of_found}
+use Rattle.thorin_check.{proofs.SharedStrings.of_found, specs.Faults.TellsNumbered}
+use Rattle.thorin_check.proofs.Told.{none_told, strings_some, text_stopped, text_told, told_more}
 use Rattle.thorin_check.proofs.strings.check_strings_of.Goals as goal
 
 pub returns-in-Ok-None : goal.returns-in-Ok-None

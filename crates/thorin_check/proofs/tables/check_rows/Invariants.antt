@@ -1,5 +1,4 @@
-use Rattle.thorin_check.proofs.Terms.{Told, so_far}
-use Rattle.thorin_check.proofs.NamedRows.{Covers}
+use Rattle.thorin_check.proofs.{NamedRows.Covers, Terms.so_far, Terms.Told}
 use Rattle.thorin_check.proofs.tables.check_rows.Given as goal
 
 -- the faults of the rows before the next

@@ -1,8 +1,7 @@
-use Rattle.thorin_check.proofs.Terms.{contribution_kinds, err_from_is_err_and, not, rules, ◌&&◌}
-use Rattle.thorin_check.proofs.Terms.{◌≡◌}
+use Rattle.thorin_check.proofs.Terms.{contribution_kinds, err_from_is_err_and, not, ◌&&◌, ◌≡◌}
+use Rattle.thorin_check.proofs.Told.{in_turn_or, stopped_behind, told_all, told_next, told_then}
+use Rattle.thorin_check.proofs.{Terms.rules, Told.in_turn}
 use Rattle.thorin_check.specs.Faults.{lacks_abbreviations, lacks_strings}
-use Rattle.thorin_check.proofs.Told.{in_turn, in_turn_or, stopped_behind, told_all, told_next}
-use Rattle.thorin_check.proofs.Told.{told_then}
 use Rattle.thorin_check.proofs.tables.check_tables.Goals as goal
 
 pub returns-in_err-check_section : goal.returns-in_err-check_section

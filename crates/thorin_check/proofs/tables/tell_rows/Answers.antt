@@ -1,6 +1,5 @@
-use Rattle.thorin_check.proofs.Terms.{Err, Ok, arith, err_from_is_err_and, rules, ◌≡◌}
-use Rattle.thorin_check.specs.Faults.{row_text}
-use Rattle.thorin_check.proofs.NamedRows.{row_or}
+use Rattle.thorin_check.proofs.Terms.{arith, Err, err_from_is_err_and, Ok, rules, ◌≡◌}
+use Rattle.thorin_check.{proofs.NamedRows.row_or, specs.Faults.row_text}
 use Rattle.thorin_check.proofs.tables.tell_rows.Goals as goal
 
 pub loop-row-preserved : goal.loop-row-preserved

@@ -1,7 +1,6 @@
 use Rattle.thorin_commands.proofs.Terms.{declines, Ok, on_ok_weaker, reads, rules, ◌≡◌}
-use Rattle.thorin_commands.proofs.Causes.{archive, bytes_refused, err_by, plain, reason_by}
-use Rattle.thorin_commands.proofs.Causes.{unread_told}
-use Rattle.thorin_commands.proofs.Opened.{took_archive, took_object}
+use Rattle.thorin_commands.proofs.Causes.{archive, bytes_refused, err_by, reason_by, unread_told}
+use Rattle.thorin_commands.proofs.{Causes.plain, Opened.took_archive, Opened.took_object}
 use Rattle.thorin_commands.proofs.archives.take_opened.Goals as goal
 
 pub returns-in_ok-tell_refused-in-Err-clause-told :

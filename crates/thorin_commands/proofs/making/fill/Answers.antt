@@ -1,7 +1,6 @@
-use Rattle.thorin_commands.proofs.Terms.{err_from_is_err_and, Input, rules, take_all, take_more, []}
-use Rattle.thorin_commands.proofs.Terms.{◌≡◌}
+use Rattle.thorin_commands.proofs.Terms.{err_from_is_err_and, Input, rules, take_all, [], ◌≡◌}
+use Rattle.thorin_commands.proofs.{Causes.refuses_by, Causes.stops_at, Terms.take_more}
 use Rattle.thorin.specs.declared.packing.Input.TheVariants.{Object}
-use Rattle.thorin_commands.proofs.Causes.{refuses_by, stops_at}
 use Rattle.thorin_commands.proofs.Warned.{lack_count, taken_told, taking_begins, taking_more}
 use Rattle.thorin_commands.proofs.making.fill.Goals as goal
 

@@ -1,10 +1,8 @@
-use Rattle.thorin_commands.proofs.Terms.{ap, Bool, declines, differing_in, false, left, manner_of}
-use Rattle.thorin_commands.proofs.Terms.{reads, refl, State, true, units_in, ◌∙◌, ◌≡◌}
+use Rattle.thorin_commands.proofs.Terms.{ap, Bool, declines, differing_in, false, left, ◌∙◌, ◌≡◌}
+use Rattle.thorin_commands.proofs.Terms.{manner_of, reads, refl, State, true, units_in}
+use Rattle.thorin_commands.proofs.Made.{differing_left, if_refused, never_empty, none_began}
 use Rattle.thorin_commands.proofs.Causes.{err_by, finishing, refuses_by, taking}
-use Rattle.thorin_commands.proofs.Made.{differing_left, if_made, if_refused, never_empty}
-use Rattle.thorin_commands.proofs.Made.{none_began}
-use Rattle.thorin_commands.proofs.Opened.{all_joined}
-use Rattle.thorin_commands.proofs.Warned.{printed_as}
+use Rattle.thorin_commands.proofs.{Made.if_made, Opened.all_joined, Warned.printed_as}
 use Rattle.thorin_commands.proofs.making.packed_inputs.Goals as goal
 
 -- a package without the list of units that executables refer to has the same units

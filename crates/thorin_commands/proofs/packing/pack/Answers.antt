@@ -1,6 +1,5 @@
 use Rattle.thorin_commands.proofs.Terms.{inr, out_of, rules, Some, ◌≡◌}
-use Rattle.thorin_commands.proofs.Made.{packs_telling}
-use Rattle.thorin_commands.proofs.Whys.{begun, packs, why_writing}
+use Rattle.thorin_commands.proofs.{Made.packs_telling, Whys.begun, Whys.packs, Whys.why_writing}
 use Rattle.thorin_commands.proofs.packing.pack.Goals as goal
 
 pub returns-in-Ok-write_then_warn-clause-packed : goal.returns-in-Ok-write_then_warn-clause-packed

@@ -1,8 +1,7 @@
-use Rattle.thorin_commands.proofs.Terms.{asked, asks, declines, IfOk-weaker, inl, map, reads, refl}
-use Rattle.thorin_commands.proofs.Terms.{rules, string_bytes, TellsInputs, true, [], ◌≡◌}
-use Rattle.thorin_commands.proofs.Causes.{empty_for}
+use Rattle.thorin_commands.proofs.Terms.{asked, asks, declines, IfOk-weaker, inl, map, [], ◌≡◌}
+use Rattle.thorin_commands.proofs.Terms.{reads, refl, rules, string_bytes, TellsInputs, true}
+use Rattle.thorin_commands.proofs.{Causes.empty_for, Warned.no_macros}
 use Rattle.thorin_commands.proofs.Made.{made_for, made_ready, made_twice}
-use Rattle.thorin_commands.proofs.Warned.{no_macros}
 use Rattle.thorin_commands.proofs.packing.packed.Goals as goal
 
 pub returns-in-Ok-clause-ready : goal.returns-in-Ok-clause-ready

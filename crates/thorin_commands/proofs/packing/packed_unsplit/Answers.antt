@@ -1,9 +1,7 @@
-use Rattle.thorin_commands.proofs.Terms.{arith, asked, asks, declines, false, IfOk-weaker, inr, map}
-use Rattle.thorin_commands.proofs.Terms.{None, paths_in, reads, Some, TellsTaken, [], ◌++◌, ◌∷◌}
-use Rattle.thorin_commands.proofs.Terms.{◌≡◌}
+use Rattle.thorin_commands.proofs.Terms.{arith, asked, asks, declines, false, [], ◌++◌, ◌∷◌, ◌≡◌}
+use Rattle.thorin_commands.proofs.Terms.{IfOk-weaker, inr, None, paths_in, reads, Some, TellsTaken}
+use Rattle.thorin_commands.proofs.{Causes.first_of, Causes.told_unsplit, Made.made_for, Terms.map}
 use Rattle.std.proofs.lemmas.Grind.{common_steps}
-use Rattle.thorin_commands.proofs.Causes.{first_of, told_unsplit}
-use Rattle.thorin_commands.proofs.Made.{made_for}
 use Rattle.thorin_commands.proofs.packing.packed_unsplit.Goals as goal
 
 pub returns-clause-made : goal.returns-clause-made

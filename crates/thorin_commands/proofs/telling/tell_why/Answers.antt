@@ -1,5 +1,4 @@
-use Rattle.thorin_commands.specs.Cause.{refusal_text}
-use Rattle.thorin_commands.proofs.Lines.{followed}
+use Rattle.thorin_commands.{proofs.Lines.followed, specs.Cause.refusal_text}
 use Rattle.thorin_commands.proofs.telling.tell_why.Goals as goal
 
 pub returns-clause-told : goal.returns-clause-told

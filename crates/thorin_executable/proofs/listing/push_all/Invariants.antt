@@ -1,6 +1,5 @@
-use Rattle.std.proofs.Common.{◌≡◌, map, length}
-use Rattle.thorin_executable.specs.View.{named}
-use Rattle.thorin_executable.proofs.NamedSteps.{put}
+use Rattle.std.proofs.Common.{length, map, ◌≡◌}
+use Rattle.thorin_executable.{proofs.NamedSteps.put, specs.View.named}
 use Rattle.thorin_executable.proofs.listing.push_all.Given as goal
 
 -- those listed and those that are left are all

@@ -1,7 +1,6 @@
 use Rattle.dwp_dwarf.proofs.Terms.{ap, attribute_of, attributes_of, rules, Some, ◌≡◌}
 use Rattle.std.proofs.Common.{option_map}
-use Rattle.thorin_executable.specs.Paths.{base_of}
-use Rattle.thorin_executable.proofs.SamePaths.{path_with}
+use Rattle.thorin_executable.{proofs.SamePaths.path_with, specs.Paths.base_of}
 use Rattle.thorin_executable.proofs.paths.path_places.Goals as goal
 
 pub returns-in_ok-string_place-in-Some : goal.returns-in_ok-string_place-in-Some

@@ -1,5 +1,4 @@
-use Rattle.std.proofs.Common.{arith}
-use Rattle.std.proofs.lemmas.Grind.{common_steps}
+use Rattle.std.proofs.{Common.arith, lemmas.Grind.common_steps}
 use Rattle.thorin_executable.proofs.ByPlace.{ascends_pairs}
 use Rattle.thorin_executable.proofs.relocations.add_relocations.Goals as goal
 

@@ -1,5 +1,4 @@
-use Rattle.std.proofs.Common.{rules, append_assoc}
-use Rattle.std.proofs.lemmas.Result.{IfOk-equal}
+use Rattle.std.proofs.{Common.append_assoc, Common.rules, lemmas.Result.IfOk-equal}
 use Rattle.thorin_find.specs.Finding.{all_text, json_encoding}
 use Rattle.thorin_find.proofs.finding.put_all.Goals as goal
 

@@ -1,5 +1,4 @@
-use Rattle.std.proofs.Common.{rules}
-use Rattle.std.proofs.lemmas.List.Sorted.{answers_always}
+use Rattle.std.proofs.{Common.rules, lemmas.List.Sorted.answers_always}
 use Rattle.thorin_find.specs.Listing.{place_of_line}
 use Rattle.thorin_find.proofs.listing.entries_by_row.Goals as goal
 

@@ -1,6 +1,5 @@
 use Rattle.std.proofs.Common.{drop, string_bytes}
-use Rattle.thorin_find.specs.Listing.{view_of}
-use Rattle.thorin_find.proofs.Listed.{PrintedSoFar}
+use Rattle.thorin_find.{proofs.Listed.PrintedSoFar, specs.Listing.view_of}
 use Rattle.thorin_find.proofs.listing.print_lines.Given as goal
 
 -- the lines of the slots so far

@@ -1,7 +1,6 @@
-use Rattle.std.proofs.Common.{◌≡◌, ◌∙◌, ◌+◌, Ok, Some, length, min, rules, arith, ap, sym}
-use Rattle.dwp_units.specs.AbbreviationCodes.{root_code_at}
-use Rattle.dwp_units.specs.Units.{unit_of}
-use Rattle.thorin_identity.specs.Identity.{root_identity, part_between}
+use Rattle.std.proofs.Common.{ap, arith, length, min, Ok, rules, Some, sym, ◌+◌, ◌∙◌, ◌≡◌}
+use Rattle.dwp_units.specs.{AbbreviationCodes.root_code_at, Units.unit_of}
+use Rattle.thorin_identity.specs.Identity.{part_between, root_identity}
 use Rattle.thorin_identity.proofs.Parts.{part_min, root_within}
 use Rattle.thorin_identity.proofs.identity.offset_within.Goals as goal
 

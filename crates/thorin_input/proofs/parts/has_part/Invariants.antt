@@ -1,6 +1,5 @@
-use Rattle.std.proofs.Common.{◌≡◌, map, drop}
-use Rattle.thorin_input.specs.Parts.{has_part}
-use Rattle.thorin_input.specs.View.{part}
+use Rattle.std.proofs.Common.{drop, map, ◌≡◌}
+use Rattle.thorin_input.specs.{Parts.has_part, View.part}
 use Rattle.thorin_input.proofs.parts.has_part.Given as goal
 
 -- those that are left have one just where all have one

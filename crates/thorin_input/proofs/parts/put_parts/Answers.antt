@@ -1,9 +1,7 @@
-use Rattle.std.proofs.Common.{◌≡◌, ◌∙◌, ◌∷◌, [], sym, rules, length, arith, ap}
-use Rattle.std.proofs.lemmas.List.{nil_from_length}
-use Rattle.std.specs.Vec.Iter.{into_iter_items}
+use Rattle.std.proofs.Common.{ap, arith, length, rules, sym, [], ◌∙◌, ◌∷◌, ◌≡◌}
+use Rattle.std.{proofs.lemmas.List.nil_from_length, specs.Vec.Iter.into_iter_items}
 use Rattle.dwp_elf.specs.Growing.{with_bytes}
-use Rattle.thorin_input.specs.Parts.{with_parts}
-use Rattle.thorin_input.specs.View.{part}
+use Rattle.thorin_input.specs.{Parts.with_parts, View.part}
 use Rattle.thorin_input.proofs.parts.put_parts.Goals as goal
 
 pub loop-part-preserved : goal.loop-part-preserved

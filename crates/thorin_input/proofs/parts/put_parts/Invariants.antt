@@ -1,9 +1,7 @@
-use Rattle.std.proofs.Common.{◌≡◌, map, length}
+use Rattle.std.proofs.Common.{length, map, ◌≡◌}
 use Rattle.std.specs.Vec.Iter.{into_iter_items, into_iter_len}
-use Rattle.dwp_elf.specs.FileText.{Object}
-use Rattle.dwp_elf.specs.Growing.{IsGrown}
-use Rattle.thorin_input.specs.Parts.{with_parts}
-use Rattle.thorin_input.specs.View.{part}
+use Rattle.dwp_elf.specs.{FileText.Object, Growing.IsGrown}
+use Rattle.thorin_input.specs.{Parts.with_parts, View.part}
 use Rattle.thorin_input.proofs.parts.put_parts.Given as goal
 
 -- the parts that are left, added to what there is, give what all give; and nothing was lost

@@ -1,6 +1,5 @@
-use Rattle.std.proofs.Common.{◌≡◌, ◌+◌, map, drop, length}
-use Rattle.thorin_input.specs.Parts.{joined_parts}
-use Rattle.thorin_input.specs.View.{part}
+use Rattle.std.proofs.Common.{drop, length, map, ◌+◌, ◌≡◌}
+use Rattle.thorin_input.specs.{Parts.joined_parts, View.part}
 use Rattle.thorin_input.proofs.rows.whole_contribution.Given as goal
 
 -- the size so far and that of the parts that are left are that of all

@@ -1,6 +1,5 @@
-use Rattle.std.proofs.Common.{◌≡◌, find, drop}
-use Rattle.dwp_elf_read.specs.Elf.{holds}
-use Rattle.dwp_elf_read.specs.View.{elf}
+use Rattle.std.proofs.Common.{drop, find, ◌≡◌}
+use Rattle.dwp_elf_read.specs.{Elf.holds, View.elf}
 use Rattle.thorin_inputs.proofs.overlaps.first_size.Given as goal
 
 -- the first of those that are left is the first of all

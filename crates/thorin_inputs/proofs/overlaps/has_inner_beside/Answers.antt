@@ -1,22 +1,19 @@
-use Rattle.std.proofs.Common.{drop, ◌||◌, ◌&&◌, arith, sym, ◌∙◌, refl}
-use Rattle.std.proofs.lemmas.Bool.{ltb-false}
+use Rattle.dwp_elf_read.specs.View as view
+use Rattle.thorin_inputs.proofs.overlaps.has_inner_beside.Goals as goal
+use Rattle.std.proofs.Common.{arith, drop, refl, sym, ◌&&◌, ◌||◌, ◌∙◌}
+use Rattle.thorin_inputs.specs.InnerStrings.{begins_inside, first_content, most_inner, or_nothing}
+use Rattle.thorin_inputs.specs.InnerStrings.{has_word, is_inner, names, step_of}
+use Rattle.thorin_inputs.proofs.InnerPlaces.{among, not_too_large, section_counted, section_passed}
+use Rattle.thorin_inputs.proofs.InnerPlaces.{named_here, names_filled, nothing_left, sizes_none}
+use Rattle.thorin_inputs.proofs.overlaps.has_inner_beside.Goals.{else-holds-via-then-holds+in_ok-count+else-branch}
+use Rattle.thorin_inputs.proofs.overlaps.has_inner_beside.Goals.{in_default, in-Some+else-holds}
+use Rattle.thorin_inputs.proofs.overlaps.has_inner_beside.Goals.{else-holds-via-else-holds}
+use Rattle.std.{proofs.lemmas.Bool.ltb-false, specs.List.list_any}
 use Rattle.dwp_base.proofs.Finds.{slice_get_none}
 use Rattle.dwp_base.specs.declared.section.SectionKind.TheVariants.{Str}
-use Rattle.dwp_elf_read.specs.View as view
 use Rattle.dwp_elf_read.specs.View.{elf}
-use Rattle.thorin_inputs.specs.InnerPlaces.{is_counted}
-use Rattle.thorin_inputs.specs.InnerStrings.{begins_inside, first_content, has_word, is_inner}
-use Rattle.thorin_inputs.specs.InnerStrings.{most_inner, names, or_nothing, step_of}
-use Rattle.thorin_inputs.proofs.InnerPlaces.{among, named_here, section_counted, section_passed}
-use Rattle.thorin_inputs.proofs.InnerPlaces.{names_filled, not_too_large, nothing_left}
-use Rattle.thorin_inputs.proofs.InnerPlaces.{sizes_none, too_large}
+use Rattle.thorin_inputs.{proofs.InnerPlaces.too_large, specs.InnerPlaces.is_counted}
 use Rattle.thorin_inputs.proofs.UsedSections.{any_behind, any_further, any_less, is_offsets}
-use Rattle.std.specs.List.{list_any}
-use Rattle.thorin_inputs.proofs.overlaps.has_inner_beside.Goals as goal
-use Rattle.thorin_inputs.proofs.overlaps.has_inner_beside.Goals.{in-Some+else-holds}
-use Rattle.thorin_inputs.proofs.overlaps.has_inner_beside.Goals.{else-holds-via-then-holds+in_ok-count+else-branch}
-use Rattle.thorin_inputs.proofs.overlaps.has_inner_beside.Goals.{else-holds-via-else-holds}
-use Rattle.thorin_inputs.proofs.overlaps.has_inner_beside.Goals.{in_default}
 
 pub loop-i-init : goal.loop-i-init
 loop-i-init c =

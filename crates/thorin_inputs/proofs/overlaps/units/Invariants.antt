@@ -1,7 +1,6 @@
-use Rattle.std.proofs.Common.{◌≡◌, find, drop}
+use Rattle.std.proofs.Common.{drop, find, ◌≡◌}
 use Rattle.dwp_base.specs.declared.section.SectionKind.TheVariants.{Info}
-use Rattle.dwp_elf_read.specs.Elf.{is_of}
-use Rattle.dwp_elf_read.specs.View.{elf}
+use Rattle.dwp_elf_read.specs.{Elf.is_of, View.elf}
 use Rattle.thorin_inputs.proofs.overlaps.units.Given as goal
 
 -- the first of those that are left is the first of all

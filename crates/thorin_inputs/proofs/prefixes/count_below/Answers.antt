@@ -1,6 +1,5 @@
-use Rattle.std.proofs.Common.{rules, of_calls}
-use Rattle.std.proofs.lemmas.Bool.{ltb-true, ltb-false}
-use Rattle.std.proofs.lemmas.List.Sorted.{IsPartitionPoint-from_clause, IsPartitionedBy-ltb}
+use Rattle.std.proofs.{Common.of_calls, Common.rules, lemmas.Bool.ltb-false, lemmas.Bool.ltb-true}
+use Rattle.std.proofs.lemmas.List.Sorted.{IsPartitionedBy-ltb, IsPartitionPoint-from_clause}
 use Rattle.std.specs.Prelude.{nat_lt}
 use Rattle.thorin_inputs.specs.Mapped.{key_at}
 use Rattle.thorin_inputs.proofs.prefixes.count_below.Goals as goal

@@ -1,6 +1,5 @@
-use Rattle.thorin_join.proofs.Sizes.{bytes-grow, carried-used, input-most, inputs-most}
-use Rattle.thorin_join.proofs.Sizes.{lengths-within}
-use Rattle.thorin_join.proofs.Terms.{arith}
+use Rattle.thorin_join.proofs.Sizes.{bytes-grow, carried-used, inputs-most, lengths-within}
+use Rattle.thorin_join.proofs.{Sizes.input-most, Terms.arith}
 use Rattle.thorin_join.proofs.laws.packages_grow_by_used_sections.Goals as goal
 
 pub returns : goal.returns

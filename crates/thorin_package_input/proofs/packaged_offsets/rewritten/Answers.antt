@@ -1,8 +1,7 @@
-use Rattle.std.proofs.Common.{◌++◌, ap₂, refl, ◌∙◌, arith}
-use Rattle.std.proofs.lemmas.List.{take_rest}
-use Rattle.std.proofs.lemmas.Result.{err_from_is_err_and}
+use Rattle.std.proofs.Common.{ap₂, arith, refl, ◌++◌, ◌∙◌}
+use Rattle.std.proofs.{lemmas.List.take_rest, lemmas.Result.err_from_is_err_and}
 use Rattle.dwp_base.specs.declared.section.Contribution.{Contribution}
-use Rattle.thorin_package_input.proofs.RewriteSteps.{next, all_written, one_refused, one_more}
+use Rattle.thorin_package_input.proofs.RewriteSteps.{all_written, next, one_more, one_refused}
 use Rattle.thorin_package_input.proofs.packaged_offsets.rewritten.Goals as goal
 
 abbrev zero_range : Contribution

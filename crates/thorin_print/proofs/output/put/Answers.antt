@@ -1,9 +1,8 @@
-use Rattle.std.proofs.Common.{take, arith, take-append-drop, refl}
-use Rattle.std.proofs.KnownBytes.{Keeps-refl}
-use Rattle.std.proofs.lemmas.List.{take_rest}
-use Rattle.thorin_print.proofs.Printed.{so_far_kept, so_far_more, part, none_taken}
 use Rattle.thorin_print.proofs.output.put.Goals as goal
 use Rattle.thorin_print.proofs.output.put.Goals.{in-Ok, in-Err+else-ne}
+use Rattle.std.proofs.Common.{arith, refl, take, take-append-drop}
+use Rattle.std.proofs.{KnownBytes.Keeps-refl, lemmas.List.take_rest}
+use Rattle.thorin_print.proofs.Printed.{none_taken, part, so_far_kept, so_far_more}
 
 pub loop-turn-preserved : goal.loop-turn-preserved
 loop-turn-preserved g c = elim c.match-write.branch [

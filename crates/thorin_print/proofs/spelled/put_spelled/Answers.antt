@@ -1,7 +1,6 @@
-use Rattle.std.proofs.Common.{arith, map-id, take_all}
-use Rattle.std.proofs.lemmas.Iterator.{YieldsList-from_chars}
-use Rattle.std.proofs.lemmas.Iterator.Consumers.{YieldsList-end}
-use Rattle.thorin_print.proofs.Spelling.{spelled_text, spelled_bytes}
+use Rattle.std.proofs.{Common.map-id, Common.take_all, lemmas.Iterator.Consumers.YieldsList-end}
+use Rattle.std.proofs.{Common.arith, lemmas.Iterator.YieldsList-from_chars}
+use Rattle.thorin_print.proofs.Spelling.{spelled_bytes, spelled_text}
 use Rattle.thorin_print.proofs.spelled.put_spelled.Goals as goal
 
 pub returns-in-Ok : goal.returns-in-Ok

@@ -1,5 +1,4 @@
-use Rattle.std.proofs.Common.{map-id}
-use Rattle.std.proofs.lemmas.Iterator.{YieldsList-from_chars}
+use Rattle.std.proofs.{Common.map-id, lemmas.Iterator.YieldsList-from_chars}
 use Rattle.std.proofs.lemmas.Iterator.Consumers.{YieldsList-end}
 use Rattle.thorin_words.specs.Printed.{printed}
 use Rattle.thorin_words.proofs.printing.printed.Goals as goal

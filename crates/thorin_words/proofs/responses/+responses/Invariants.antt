@@ -1,6 +1,5 @@
-use Rattle.std.proofs.Common.{◌≡◌, ◌≤◌, ◌+◌, ◌-◌, ◌*◌, length, drop}
-use Rattle.thorin_words.specs.Responses.{words_in, Leaves}
-use Rattle.thorin_words.specs.Words.{words_of}
+use Rattle.std.proofs.Common.{drop, length, ◌*◌, ◌+◌, ◌-◌, ◌≡◌, ◌≤◌}
+use Rattle.thorin_words.specs.{Responses.Leaves, Responses.words_in, Words.words_of}
 use Rattle.thorin_words.proofs.responses.+responses.Given as goal
 
 abbrev pub decreases-add_text : goal.decreases-add_text

@@ -1,7 +1,6 @@
-use Rattle.std.proofs.Common.{◌≡◌, ◌∙◌, ◌||◌, Bool, List, [], ◌∷◌, map, refl, ap, sym, rules, tests}
-use Rattle.std.proofs.Common.{string_bytes, bytes_eq, String, Global}
-use Rattle.std.specs.List.{list_any}
-use Rattle.std.proofs.lemmas.Iterator.{YieldsList-from_slice}
+use Rattle.std.proofs.Common.{ap, Bool, List, map, refl, rules, sym, tests, [], ◌||◌, ◌∙◌, ◌∷◌, ◌≡◌}
+use Rattle.std.proofs.Common.{bytes_eq, Global, String, string_bytes}
+use Rattle.std.{proofs.lemmas.Iterator.YieldsList-from_slice, specs.List.list_any}
 use Rattle.std.proofs.lemmas.Iterator.Search.{any_from_yields_List}
 use Rattle.thorin_words.proofs.responses.has_name.Goals as goal
 

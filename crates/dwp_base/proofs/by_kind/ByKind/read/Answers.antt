@@ -1,8 +1,6 @@
-use Rattle.std.proofs.Common.{arith}
-use Rattle.std.proofs.lemmas.Option.{slice_get-get_or}
-use Rattle.dwp_base.specs.ByKind.{values_of}
-use Rattle.dwp_base.specs.Sections.{all_kinds}
-use Rattle.dwp_base.proofs.KindsRead.{read-more, read-all}
+use Rattle.std.proofs.{Common.arith, lemmas.Option.slice_get-get_or}
+use Rattle.dwp_base.specs.{ByKind.values_of, Sections.all_kinds}
+use Rattle.dwp_base.proofs.KindsRead.{read-all, read-more}
 use Rattle.dwp_base.proofs.by_kind.ByKind.read.Goals as goal
 
 pub returns-in-Err : goal.returns-in-Err

@@ -1,6 +1,5 @@
-use Rattle.std.proofs.Common.{◌≡◌, length}
-use Rattle.dwp_base.specs.ByKind.{values_of}
-use Rattle.dwp_base.proofs.KindsRead.{ReadBelow}
+use Rattle.std.proofs.Common.{length, ◌≡◌}
+use Rattle.dwp_base.{proofs.KindsRead.ReadBelow, specs.ByKind.values_of}
 use Rattle.dwp_base.proofs.by_kind.ByKind.read.Given as goal
 
 abbrev pub invariant-loop-kind : goal.invariant-loop-kind

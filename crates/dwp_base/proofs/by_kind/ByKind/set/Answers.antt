@@ -1,5 +1,4 @@
-use Rattle.std.proofs.Common.{arith}
-use Rattle.std.proofs.lemmas.Grind.{elements}
+use Rattle.std.proofs.{Common.arith, lemmas.Grind.elements}
 use Rattle.dwp_base.proofs.by_kind.ByKind.set.Goals as goal
 
 pub returns-clause-values : goal.returns-clause-values

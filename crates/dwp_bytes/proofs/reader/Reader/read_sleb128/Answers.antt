@@ -1,8 +1,7 @@
-use Rattle.std.proofs.Common.{◌≡◌, ◌-◌, ◌*◌, ◌<◌, ◌^◌, ap, arith}
-use Rattle.std.proofs.lemmas.Int.{ints}
-use Rattle.std.proofs.lemmas.Result.{err_from_is_err_and}
-use Rattle.dwp_bytes.proofs.Lebs.{fits, signed_more, sleb_low, sleb_high, sleb_fails, sleb_big}
-use Rattle.dwp_bytes.proofs.Lebs.{cast_less, cast_lowest}
+use Rattle.std.proofs.Common.{ap, arith, ◌*◌, ◌-◌, ◌<◌, ◌^◌, ◌≡◌}
+use Rattle.dwp_bytes.proofs.Lebs.{cast_less, cast_lowest, fits, signed_more, sleb_fails, sleb_high}
+use Rattle.dwp_bytes.proofs.Lebs.{sleb_big, sleb_low}
+use Rattle.std.proofs.{lemmas.Int.ints, lemmas.Result.err_from_is_err_and}
 use Rattle.dwp_bytes.proofs.reader.Reader.read_sleb128.Goals as goal
 
 pub returns-in_err-byte : goal.returns-in_err-byte

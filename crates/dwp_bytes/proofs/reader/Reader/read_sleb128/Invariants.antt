@@ -1,6 +1,5 @@
 use Rattle.std.proofs.Common.{◌≡◌}
-use Rattle.dwp_bytes.specs.Leb.{signed_leb_at}
-use Rattle.dwp_bytes.proofs.Lebs.{SoFar, signed}
+use Rattle.dwp_bytes.{proofs.Lebs.signed, proofs.Lebs.SoFar, specs.Leb.signed_leb_at}
 use Rattle.dwp_bytes.proofs.reader.Reader.read_sleb128.Given as goal
 
 abbrev pub invariant-loop : goal.invariant-loop

@@ -1,6 +1,5 @@
 use Rattle.std.proofs.Common.{◌≡◌}
-use Rattle.dwp_bytes.specs.Leb.{leb_at}
-use Rattle.dwp_bytes.proofs.Lebs.{SoFar, unsigned}
+use Rattle.dwp_bytes.{proofs.Lebs.SoFar, proofs.Lebs.unsigned, specs.Leb.leb_at}
 use Rattle.dwp_bytes.proofs.reader.Reader.read_uleb128.Given as goal
 
 abbrev pub invariant-loop : goal.invariant-loop

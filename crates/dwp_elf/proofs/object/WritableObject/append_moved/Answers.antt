@@ -1,9 +1,7 @@
 use Rattle.dwp_elf.proofs.Terms
 use Terms.{appended, arith, common_steps, contents_of, refl, rules, sym, ◌≡◌}
-use Rattle.dwp_elf.specs.Growing.{with_bytes}
-use Rattle.dwp_elf.proofs.Changes.{absent}
-use Rattle.dwp_elf.proofs.Growth.{is_grown-with_bytes}
-use Rattle.dwp_elf.proofs.KindCounts.{KindsDiffer-appended}
+use Rattle.dwp_elf.{proofs.Changes.absent, specs.Growing.with_bytes}
+use Rattle.dwp_elf.proofs.{Growth.is_grown-with_bytes, KindCounts.KindsDiffer-appended}
 use Rattle.dwp_elf.proofs.object.WritableObject.append_moved.Goals as goal
 
 pub invariant_of-self-in-None : goal.invariant_of-self-in-None

@@ -1,10 +1,8 @@
 use Rattle.dwp_elf.proofs.Terms
 use Terms.{List, ap, arith, common_steps, contents_of, refl, sym, truncated, ℕ, ◌∙◌, ◌≡◌}
-use Rattle.dwp_elf.specs.Object.{object_of}
-use Rattle.dwp_elf.specs.declared.object.WritableObject.TheInside.{Inside}
-use Rattle.dwp_elf.proofs.Changes.{cut_more, cut_all, length-contents_of, truncated-contents_of}
-use Rattle.dwp_elf.proofs.Growth.{truncated-begins}
-use Rattle.dwp_elf.proofs.KindCounts.{KindsDiffer-truncated}
+use Rattle.dwp_elf.specs.{declared.object.WritableObject.TheInside.Inside, Object.object_of}
+use Rattle.dwp_elf.proofs.Changes.{cut_all, cut_more, length-contents_of, truncated-contents_of}
+use Rattle.dwp_elf.proofs.{Growth.truncated-begins, KindCounts.KindsDiffer-truncated}
 use Rattle.dwp_elf.proofs.object.WritableObject.truncate.Goals as goal
 
 -- all but the contents is as it was

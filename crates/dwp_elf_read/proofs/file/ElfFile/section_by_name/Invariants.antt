@@ -1,6 +1,5 @@
-use Rattle.std.proofs.Common.{◌≡◌, find}
-use Rattle.dwp_elf_read.specs.Elf.{is_named}
-use Rattle.dwp_elf_read.specs.View.{sections_after}
+use Rattle.std.proofs.Common.{find, ◌≡◌}
+use Rattle.dwp_elf_read.specs.{Elf.is_named, View.sections_after}
 use Rattle.dwp_elf_read.proofs.file.ElfFile.section_by_name.Given as goal
 
 abbrev pub invariant-loop-i : goal.invariant-loop-i

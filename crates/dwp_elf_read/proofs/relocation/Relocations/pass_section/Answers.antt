@@ -1,7 +1,6 @@
-use Rattle.std.proofs.Common.{◌≡◌, ◌+◌, true, sym, ◌∙◌, arith}
-use Rattle.dwp_elf_read.specs.Relocation.{relocates}
-use Rattle.dwp_elf_read.specs.View.{section}
-use Rattle.dwp_elf_read.proofs.Places.{others, left_entered, left_done}
+use Rattle.std.proofs.Common.{arith, sym, true, ◌+◌, ◌∙◌, ◌≡◌}
+use Rattle.dwp_elf_read.specs.{Relocation.relocates, View.section}
+use Rattle.dwp_elf_read.proofs.Places.{left_done, left_entered, others}
 use Rattle.dwp_elf_read.proofs.relocation.Relocations.pass_section.Goals as goal
 
 pub returns-in-Err-clause-error : goal.returns-in-Err-clause-error

@@ -1,6 +1,5 @@
 use Rattle.std.proofs.Common.{refl, ◌∙◌}
-use Rattle.dwp_elf_read.specs.View.{entries_left}
-use Rattle.dwp_elf_read.proofs.Places.{entries_more}
+use Rattle.dwp_elf_read.{proofs.Places.entries_more, specs.View.entries_left}
 use Rattle.dwp_elf_read.proofs.relocation.Table.next_entry.Goals as goal
 
 pub returns : goal.returns

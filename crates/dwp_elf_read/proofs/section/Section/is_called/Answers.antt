@@ -1,6 +1,4 @@
-use Rattle.dwp_elf_read.specs.Elf.{section_of}
-use Rattle.dwp_elf_read.specs.View.{section}
-use Rattle.dwp_elf_read.proofs.ShortNames.{without_zero}
+use Rattle.dwp_elf_read.{proofs.ShortNames.without_zero, specs.Elf.section_of, specs.View.section}
 use Rattle.dwp_elf_read.proofs.section.Section.is_called.Goals as goal
 
 pub returns-then-stands_at : goal.returns-then-stands_at

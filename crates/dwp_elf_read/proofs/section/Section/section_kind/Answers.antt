@@ -1,7 +1,6 @@
-use Rattle.std.proofs.Common.{◌≡◌, ◌∙◌, find, rules}
+use Rattle.std.proofs.Common.{find, rules, ◌∙◌, ◌≡◌}
 use Rattle.dwp_base.specs.Sections.{all_kinds}
-use Rattle.dwp_elf_read.specs.Elf.{is_of, section_of}
-use Rattle.dwp_elf_read.specs.View.{section}
+use Rattle.dwp_elf_read.specs.{Elf.is_of, Elf.section_of, View.section}
 use Rattle.dwp_elf_read.proofs.ShortNames.{kinds_are}
 use Rattle.dwp_elf_read.proofs.section.Section.section_kind.Goals as goal
 

@@ -1,9 +1,6 @@
-use Rattle.std.proofs.Common.{List, arith, ne_eqb, refl, sym, ℕ}
-use Rattle.dwp_index.proofs.Terms.{NO_COLUMN}
-use Rattle.dwp_index.specs.RowFields.{ranges_in}
-use Rattle.dwp_index.proofs.Columns.{says_none, says_some}
-use Rattle.dwp_index.proofs.NumberLists.{get_or-numbers}
-use Rattle.dwp_index.proofs.Views.{range-by}
+use Rattle.std.proofs.Common.{arith, List, ne_eqb, refl, sym, ℕ}
+use Rattle.dwp_index.proofs.{Columns.says_none, Columns.says_some, Terms.NO_COLUMN, Views.range-by}
+use Rattle.dwp_index.{proofs.NumberLists.get_or-numbers, specs.RowFields.ranges_in}
 use Rattle.dwp_index.proofs.unit_index.Row.range.Goals as goal
 
 pub returns-then-place : goal.returns-then-place

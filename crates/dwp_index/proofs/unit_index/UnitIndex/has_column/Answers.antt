@@ -1,6 +1,5 @@
 use Rattle.std.proofs.Common.{sym}
-use Rattle.dwp_index.proofs.Terms.{NO_COLUMN}
-use Rattle.dwp_index.proofs.Columns.{says_whether}
+use Rattle.dwp_index.proofs.{Columns.says_whether, Terms.NO_COLUMN}
 use Rattle.dwp_index.proofs.unit_index.UnitIndex.has_column.Goals as goal
 
 pub returns : goal.returns

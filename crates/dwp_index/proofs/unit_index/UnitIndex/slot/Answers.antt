@@ -1,6 +1,5 @@
 use Rattle.std.proofs.Common.{arith, length-drop, sym, ◌*◌, ◌∙◌}
-use Rattle.dwp_index.proofs.NumberLists.{get_or-numbers}
-use Rattle.dwp_index.proofs.Views.{slots-length}
+use Rattle.dwp_index.proofs.{NumberLists.get_or-numbers, Views.slots-length}
 use Rattle.dwp_index.proofs.unit_index.UnitIndex.slot.Goals as goal
 
 pub tail-requires : goal.tail-requires

@@ -1,6 +1,5 @@
 use Rattle.dwp_strings.proofs.Terms.{ap₂, arith, elements, refl, ◌++◌, ◌+◌, ◌∙◌}
-use Rattle.dwp_strings.proofs.CopyLemmas.{in_room}
-use Rattle.dwp_strings.proofs.LaneLemmas.{same_fronts}
+use Rattle.dwp_strings.proofs.{CopyLemmas.in_room, LaneLemmas.same_fronts}
 use Rattle.dwp_strings.proofs.buffer.Buffer.append_guessed.Goals as goal
 
 pub returns-clause-appended : goal.returns-clause-appended

@@ -1,7 +1,6 @@
-use Rattle.dwp_strings.proofs.Terms.{arith, concat, get_or, get_or_read, length, pieces, sym, ◌-◌}
-use Rattle.dwp_strings.proofs.Terms.{◌<◌, ◌∙◌, ◌≡◌}
-use Rattle.dwp_strings.proofs.ChunkLemmas.{counts, first_start, length-starts_from, piece_read}
-use Rattle.dwp_strings.proofs.ChunkLemmas.{placed, some_piece}
+use Rattle.dwp_strings.proofs.Terms.{arith, concat, get_or, get_or_read, length, ◌-◌, ◌<◌, ◌∙◌, ◌≡◌}
+use Rattle.dwp_strings.proofs.ChunkLemmas.{first_start, length-starts_from, piece_read, some_piece}
+use Rattle.dwp_strings.proofs.{ChunkLemmas.counts, ChunkLemmas.placed, Terms.pieces, Terms.sym}
 use Rattle.dwp_strings.proofs.positions.Positions.get_near.Goals.{After-index}
 use Rattle.dwp_strings.proofs.positions.Positions.get_near.Goals as goal
 

@@ -1,8 +1,7 @@
-use Rattle.dwp_strings.proofs.Terms.{IsChunked, ap, arith, common_steps, concat, get_or_default}
-use Rattle.dwp_strings.proofs.Terms.{get_or_read, insert, length, pieces, sym, with_items_is, ◌+◌}
-use Rattle.dwp_strings.proofs.Terms.{◌∙◌, ◌≡◌}
-use Rattle.dwp_strings.proofs.ChunkLemmas.{chunk_inserted, length-starts_from, placed, raised}
-use Rattle.dwp_strings.proofs.ChunkLemmas.{start_within}
+use Rattle.dwp_strings.proofs.Terms.{ap, arith, common_steps, concat, IsChunked, sym, ◌+◌, ◌∙◌, ◌≡◌}
+use Rattle.dwp_strings.proofs.Terms.{get_or_default, get_or_read, insert, length, with_items_is}
+use Rattle.dwp_strings.proofs.ChunkLemmas.{chunk_inserted, length-starts_from, placed, start_within}
+use Rattle.dwp_strings.proofs.{ChunkLemmas.raised, Terms.pieces}
 use Rattle.dwp_strings.proofs.positions.Positions.insert.Goals.{After-raise}
 use Rattle.dwp_strings.proofs.positions.Positions.insert.Goals as goal
 

@@ -1,5 +1,4 @@
-use Rattle.dwp_strings.proofs.Terms.{arith}
-use Rattle.dwp_strings.proofs.ChunkLemmas.{concat-filter}
+use Rattle.dwp_strings.proofs.{ChunkLemmas.concat-filter, Terms.arith}
 use Rattle.dwp_strings.proofs.positions.Positions.keep_below.Goals as goal
 
 pub returns : goal.returns

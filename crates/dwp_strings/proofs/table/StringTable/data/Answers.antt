@@ -1,5 +1,4 @@
-use Rattle.dwp_strings.proofs.Terms.{rules}
-use Rattle.dwp_strings.proofs.HashedLemmas.{findable_table}
+use Rattle.dwp_strings.proofs.{HashedLemmas.findable_table, Terms.rules}
 use Rattle.dwp_strings.proofs.table.StringTable.data.Goals as goal
 
 pub returns-clause-table : goal.returns-clause-table

@@ -1,5 +1,4 @@
-use Rattle.dwp_strings.proofs.Terms.{arith}
-use Rattle.dwp_strings.proofs.HashedLemmas.{findable_take}
+use Rattle.dwp_strings.proofs.{HashedLemmas.findable_take, Terms.arith}
 use Rattle.dwp_strings.proofs.table.StringTable.truncate.Goals as goal
 
 pub invariant_of-self : goal.invariant_of-self

@@ -1,6 +1,5 @@
 use Rattle.thorin_builder.proofs.Terms.{AreTaken, length, ◌≡◌}
-use Rattle.thorin_builder.proofs.Running.{TakenUpTo}
-use Rattle.thorin_builder.specs.Taking.{IsUnread}
+use Rattle.thorin_builder.{proofs.Running.TakenUpTo, specs.Taking.IsUnread}
 use Rattle.thorin_builder.proofs.package.DwarfPackage.add_each.Given as goal
 
 -- the units so far were taken; what is known of the path that came last, and of those before

@@ -1,5 +1,4 @@
-use Rattle.thorin_check.proofs.Terms.{contribution_kinds, take_all}
-use Rattle.thorin_check.proofs.Apart.{apart_on}
+use Rattle.thorin_check.proofs.{Apart.apart_on, Terms.contribution_kinds, Terms.take_all}
 use Rattle.thorin_check.proofs.overlaps.Overlaps.find.Goals as goal
 
 pub loop-kind-preserved : goal.loop-kind-preserved

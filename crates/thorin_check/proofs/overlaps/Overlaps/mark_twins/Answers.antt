@@ -1,5 +1,4 @@
-use Rattle.thorin_check.proofs.Terms.{arith}
-use Rattle.thorin_check.proofs.Apart.{gone_on, is_behind}
+use Rattle.thorin_check.proofs.{Apart.gone_on, Apart.is_behind, Terms.arith}
 use Rattle.thorin_check.proofs.overlaps.Overlaps.mark_twins.Goals as goal
 
 pub loop-range-preserved : goal.loop-range-preserved

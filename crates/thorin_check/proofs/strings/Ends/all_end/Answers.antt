@@ -1,5 +1,4 @@
-use Rattle.thorin_check.proofs.Terms.{arith}
-use Rattle.thorin_check.proofs.SharedStrings.{all_read}
+use Rattle.thorin_check.proofs.{SharedStrings.all_read, Terms.arith}
 use Rattle.thorin_check.proofs.strings.Ends.all_end.Goals as goal
 
 pub returns : goal.returns

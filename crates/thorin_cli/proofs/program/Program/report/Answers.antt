@@ -1,5 +1,4 @@
-use Rattle.thorin_cli.specs.Programs.{system}
-use Rattle.thorin_cli.proofs.Told.{reported}
+use Rattle.thorin_cli.{proofs.Told.reported, specs.Programs.system}
 use Rattle.thorin_cli.proofs.program.Program.report.Goals as goal
 
 pub returns-in_default-clause-has : goal.returns-in_default-clause-has

@@ -1,5 +1,4 @@
-use Rattle.thorin_cli.specs.Programs.{system}
-use Rattle.thorin_cli.proofs.Told.{noted}
+use Rattle.thorin_cli.{proofs.Told.noted, specs.Programs.system}
 use Rattle.thorin_cli.proofs.program.Program.status.Goals as goal
 
 pub returns-in-Err-clause-has : goal.returns-in-Err-clause-has

@@ -1,7 +1,6 @@
 use Rattle.std.proofs.Common.{refl}
 use Rattle.thorin_print.specs.declared.output.Failure.TheVariants.{Memory}
-use Rattle.thorin_cli.specs.Programs.{system}
-use Rattle.thorin_cli.proofs.Told.{reported}
+use Rattle.thorin_cli.{proofs.Told.reported, specs.Programs.system}
 use Rattle.thorin_cli.proofs.program.ProgramCommands.lack_memory.Goals as goal
 
 pub returns-clause-does : goal.returns-clause-does

@@ -1,6 +1,5 @@
-use Rattle.std.proofs.Common.{◌≡◌, Ok, Err, false, refl, rules}
-use Rattle.thorin_cli.specs.Doing.{DoesPacking}
-use Rattle.thorin_cli.specs.Programs.{state_of, system}
+use Rattle.std.proofs.Common.{Err, false, Ok, refl, rules, ◌≡◌}
+use Rattle.thorin_cli.specs.{Doing.DoesPacking, Programs.state_of, Programs.system}
 use Rattle.thorin_cli.proofs.Told.{noted, refused, stopped}
 use Rattle.thorin_cli.proofs.program.ProgramCommands.pack.Goals as goal
 

@@ -1,6 +1,5 @@
 use Rattle.thorin_commands.proofs.Terms.{path_bytes, paths_in, rules, ◌≡◌}
-use Rattle.thorin_commands.specs.Taken.{MayRepeat}
-use Rattle.thorin_commands.proofs.Taken.{through_given}
+use Rattle.thorin_commands.{proofs.Taken.through_given, specs.Taken.MayRepeat}
 use Rattle.thorin_commands.proofs.reading.InputFiles.read.Goals as goal
 
 pub returns-then-is_given-clause-offered : goal.returns-then-is_given-clause-offered

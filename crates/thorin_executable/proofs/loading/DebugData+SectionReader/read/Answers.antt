@@ -1,8 +1,6 @@
 use Rattle.dwp_dwarf.proofs.Terms.{err_from_is_err_and, Ok, refl, rules, ◌≡◌}
-use Rattle.dwp_elf_read.specs.Elf.{elf_of}
-use Rattle.dwp_elf_read.specs.View.{elf}
-use Rattle.thorin_errors.specs.Answers.{as_error}
-use Rattle.thorin_errors.specs.Errors.{ParseObjectFile}
+use Rattle.dwp_elf_read.specs.{Elf.elf_of, View.elf}
+use Rattle.thorin_errors.specs.{Answers.as_error, Errors.ParseObjectFile}
 use Rattle.thorin_executable.specs.Sections.{debug_data_of}
 use Rattle.thorin_executable.proofs.loading.DebugData+SectionReader.read.Goals as goal
 

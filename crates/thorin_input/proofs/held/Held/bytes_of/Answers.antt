@@ -1,12 +1,10 @@
-use Rattle.std.proofs.Common.{[], ap, Bool, get_or, List, map, None, Option, option_map, position}
-use Rattle.std.proofs.Common.{refl, rules, Some, sym, ℕ, ◌∙◌, ◌∷◌, ◌≡◌}
+use Rattle.std.proofs.Common.{ap, Bool, get_or, List, map, None, Option, refl, [], ℕ, ◌∙◌, ◌∷◌, ◌≡◌}
+use Rattle.std.proofs.Common.{option_map, position, rules, Some, sym}
 use Rattle.std.specs.Map.{lookup}
 use Rattle.dwp_elf.specs.Growing.{Contents}
 use Rattle.dwp_table.specs.declared.object.DwarfObject.{DwarfObject}
-use Rattle.thorin_index.specs.Rows.{blank}
-use Rattle.thorin_index.specs.declared.entry.IndexEntry.{IndexEntry}
-use Rattle.thorin_input.specs.Held.{held_units, unit_bytes}
-use Rattle.thorin_input.specs.Names.{same_name}
+use Rattle.thorin_index.specs.{declared.entry.IndexEntry.IndexEntry, Rows.blank}
+use Rattle.thorin_input.specs.{Held.held_units, Held.unit_bytes, Names.same_name}
 use Rattle.thorin_input.proofs.NewUnitLemmas.{same_name-is}
 use Rattle.dwp_table.specs.contracts.object.DwarfObjectPartialEq.TheImpl as derived
 use Rattle.thorin_input.proofs.held.Held.bytes_of.Goals as goal

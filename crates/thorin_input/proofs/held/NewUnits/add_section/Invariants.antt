@@ -3,8 +3,7 @@ use Rattle.std.specs.List.{list_all}
 use Rattle.dwp_bytes.specs.Input.{section}
 use Rattle.dwp_units.specs.Units.{units, units_left}
 use Rattle.thorin_input.specs.Encodings.{all_have, has_encoding}
-use Rattle.thorin_input.specs.NewUnits.{with_each_read}
-use Rattle.thorin_input.specs.View.{used}
+use Rattle.thorin_input.specs.{NewUnits.with_each_read, View.used}
 use Rattle.thorin_input.specs.UnitView.{adding_of, left_in, met_of, new_of}
 use Rattle.thorin_input.proofs.held.NewUnits.add_section.Given as goal
 

@@ -1,10 +1,9 @@
 use Rattle.std.proofs.Common.{ap, rules, sym, ◌∙◌}
+use Rattle.thorin_input.proofs.NewUnitLemmas.{AreNumbered, not_added, numbered_last, numbered_still}
+use Rattle.thorin_input.proofs.NewUnitLemmas.{added_last, either_way}
 use Rattle.dwp_table.specs.declared.object.DwarfObject.{DwarfObject}
-use Rattle.thorin_input.specs.NewUnits.{with_first, with_unit}
+use Rattle.thorin_input.specs.{NewUnits.with_first, NewUnits.with_unit, UnitView.adding_of}
 use Rattle.indexmap.proofs.CallerLemmas.{insert_entry-new}
-use Rattle.thorin_input.specs.UnitView.{adding_of}
-use Rattle.thorin_input.proofs.NewUnitLemmas.{added_last, AreNumbered, either_way, not_added}
-use Rattle.thorin_input.proofs.NewUnitLemmas.{numbered_last, numbered_still}
 use Rattle.thorin_input.proofs.held.NewUnits.add_unit.Goals as goal
 
 pub invariant_of-self-2 : goal.invariant_of-self-2

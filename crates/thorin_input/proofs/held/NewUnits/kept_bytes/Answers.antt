@@ -1,6 +1,5 @@
 use Rattle.std.proofs.Common.{None, Some, ◌∙◌}
-use Rattle.thorin_input.specs.UnitView.{held_in}
-use Rattle.thorin_input.proofs.NewUnitLemmas.{kept-are}
+use Rattle.thorin_input.{proofs.NewUnitLemmas.kept-are, specs.UnitView.held_in}
 use Rattle.thorin_input.proofs.held.NewUnits.kept_bytes.Goals as goal
 
 pub returns-in-Some : goal.returns-in-Some

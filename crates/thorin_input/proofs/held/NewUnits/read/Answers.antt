@@ -1,14 +1,12 @@
-use Rattle.dwp_dwarf.proofs.Terms.{ap, drop, drop_more, Err, err_from_is_err_and, length, List, map}
-use Rattle.dwp_dwarf.proofs.Terms.{refl, sym, [], ℕ, ◌<◌, ◌∙◌, ◌≡◌}
+use Rattle.dwp_dwarf.proofs.Terms.{ap, drop, drop_more, Err, length, List, [], ℕ, ◌<◌, ◌∙◌, ◌≡◌}
+use Rattle.dwp_dwarf.proofs.Terms.{err_from_is_err_and, map, refl, sym}
+use Rattle.thorin_input.specs.NewUnits.{new_units, SeenSections, with_each_section, with_section}
+use Rattle.thorin_input.specs.NewUnits.{New, none_met}
 use Rattle.std.proofs.Common.{get_or}
 use Rattle.dwp_base.proofs.Steps.{bind-err}
 use Rattle.thorin_errors.specs.Errors.{ErrorValue}
-use Rattle.thorin_input.specs.NewUnits.{SeenSections, New, new_units, none_met, with_each_section}
-use Rattle.thorin_input.specs.NewUnits.{with_section}
-use Rattle.thorin_input.specs.View.{used}
+use Rattle.thorin_input.specs.{declared.units.Adding.Adding, UnitView.adding_of, View.used}
 use Rattle.thorin_input.specs.declared.object.UsedSection.{UsedSection}
-use Rattle.thorin_input.specs.UnitView.{adding_of}
-use Rattle.thorin_input.specs.declared.units.Adding.{Adding}
 use Rattle.thorin_input.proofs.held.NewUnits.read.Goals as goal
 
 -- the first error of a section is that of all

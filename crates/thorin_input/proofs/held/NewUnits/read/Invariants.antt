@@ -1,8 +1,7 @@
-use Rattle.std.proofs.Common.{[], drop, map, ◌&&◌, ◌≡◌}
+use Rattle.std.proofs.Common.{drop, map, [], ◌&&◌, ◌≡◌}
 use Rattle.std.specs.List.{list_all}
-use Rattle.thorin_input.specs.Encodings.{are_alike, section_has}
-use Rattle.thorin_input.specs.NewUnits.{none_met, with_each_section}
-use Rattle.thorin_input.specs.View.{source, tables_in, used}
+use Rattle.thorin_input.specs.{Encodings.section_has, NewUnits.none_met, NewUnits.with_each_section}
+use Rattle.thorin_input.specs.{Encodings.are_alike, View.source, View.tables_in, View.used}
 use Rattle.thorin_input.specs.UnitView.{adding_of, met_of, new_of}
 use Rattle.thorin_input.proofs.held.NewUnits.read.Given as goal
 

@@ -1,6 +1,5 @@
-use Rattle.std.proofs.Common.{◌≡◌, map, drop, find}
-use Rattle.thorin_input.specs.Used.{has_kind}
-use Rattle.thorin_input.specs.View.{used}
+use Rattle.std.proofs.Common.{drop, find, map, ◌≡◌}
+use Rattle.thorin_input.specs.{Used.has_kind, View.used}
 use Rattle.thorin_input.proofs.object.InputObject.find.Given as goal
 
 -- the first of those that are left is the first of all

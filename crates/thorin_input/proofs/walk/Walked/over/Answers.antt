@@ -1,11 +1,10 @@
-use Rattle.std.proofs.Common.{refl, not, ◌≡◌, ◌∙◌, ap, rules, [], ◌∷◌}
+use Rattle.std.proofs.Common.{ap, not, refl, rules, [], ◌∙◌, ◌∷◌, ◌≡◌}
+use Rattle.thorin_input.proofs.Walking.{either-index, map-placed, used-next, walk-fails, walk-gives}
+use Rattle.thorin_input.proofs.Walking.{any-end, any-step, those, used-kept}
 use Rattle.std.specs.List.{list_any}
-use Rattle.dwp_base.specs.declared.section.SectionKind.TheVariants.{Info, Abbrev, Str}
+use Rattle.dwp_base.specs.declared.section.SectionKind.TheVariants.{Abbrev, Info, Str}
 use Rattle.dwp_base.specs.Sections.{name_of}
-use Rattle.dwp_elf_read.specs.Elf.{is_named, is_of}
-use Rattle.dwp_elf_read.specs.View.{placed, sections_left, elf}
-use Rattle.thorin_input.proofs.Walking.{those, any-step, any-end, either-index, map-placed}
-use Rattle.thorin_input.proofs.Walking.{used-next, used-kept, walk-gives, walk-fails}
+use Rattle.dwp_elf_read.specs.{Elf.is_named, Elf.is_of, View.elf, View.placed, View.sections_left}
 use Rattle.thorin_input.proofs.walk.Walked.over.Goals as goal
 
 pub loop-section-init : goal.loop-section-init

@@ -1,11 +1,9 @@
-use Rattle.std.proofs.Common.{◌≡◌, ◌||◌, []}
+use Rattle.std.proofs.Common.{[], ◌||◌, ◌≡◌}
 use Rattle.std.specs.List.{list_any}
-use Rattle.dwp_base.specs.declared.section.SectionKind.TheVariants.{Info, Abbrev, Str}
+use Rattle.dwp_base.specs.declared.section.SectionKind.TheVariants.{Abbrev, Info, Str}
 use Rattle.dwp_base.specs.Sections.{name_of}
-use Rattle.dwp_elf_read.specs.Elf.{is_named, is_of}
-use Rattle.dwp_elf_read.specs.View.{elf, sections_left}
-use Rattle.thorin_input.specs.Used.{used_from}
-use Rattle.thorin_input.proofs.Walking.{GoesOn, those}
+use Rattle.dwp_elf_read.specs.{Elf.is_named, Elf.is_of, View.elf, View.sections_left}
+use Rattle.thorin_input.{proofs.Walking.GoesOn, proofs.Walking.those, specs.Used.used_from}
 use Rattle.thorin_input.proofs.walk.Walked.over.Given as goal
 
 -- what is there among the sections so far and those that are left is what is there among all; so

@@ -1,13 +1,12 @@
-use Rattle.std.proofs.Common.{◌*◌, ◌||◌, ◌&&◌, length, drop, arith, sym, ◌∙◌}
-use Rattle.std.proofs.lemmas.Bool.{ltb-false}
-use Rattle.std.proofs.lemmas.List.{take_rest}
+use Rattle.thorin_inputs.proofs.overlaps.InnerStrings.count_by.Goals as goal
+use Rattle.std.proofs.Common.{arith, drop, length, sym, ◌&&◌, ◌*◌, ◌||◌, ◌∙◌}
+use Rattle.thorin_inputs.proofs.overlaps.InnerStrings.count_by.Goals.{else-begins_inside-via-then-begins_inside+in_ok-add+else-branch}
+use Rattle.thorin_inputs.proofs.overlaps.InnerStrings.count_by.Goals.{else-begins_inside-via-else-begins_inside}
+use Rattle.std.proofs.{lemmas.Bool.ltb-false, lemmas.List.take_rest}
 use Rattle.dwp_base.specs.Numbers.{number}
 use Rattle.thorin_inputs.specs.InnerPlaces.{is_counted}
 use Rattle.thorin_inputs.specs.InnerStrings.{begins_inside, has_word, word_count}
 use Rattle.thorin_inputs.proofs.InnerPlaces.{among, word_counted, word_passed}
-use Rattle.thorin_inputs.proofs.overlaps.InnerStrings.count_by.Goals as goal
-use Rattle.thorin_inputs.proofs.overlaps.InnerStrings.count_by.Goals.{else-begins_inside-via-then-begins_inside+in_ok-add+else-branch}
-use Rattle.thorin_inputs.proofs.overlaps.InnerStrings.count_by.Goals.{else-begins_inside-via-else-begins_inside}
 
 pub returns-then-branch : goal.returns-then-branch
 returns-then-branch c =

@@ -1,10 +1,8 @@
-use Rattle.std.proofs.Common.{◌≡◌, ◌≤◌, false, take, drop}
-use Rattle.std.specs.List.{list_any}
-use Rattle.std.specs.Option.{option_copied, option_or}
+use Rattle.std.proofs.Common.{drop, false, take, ◌≡◌, ◌≤◌}
+use Rattle.std.specs.{List.list_any, Option.option_copied, Option.option_or}
 use Rattle.dwp_base.specs.declared.section.SectionKind.TheVariants.{CuIndex, Str, TuIndex}
 use Rattle.dwp_elf_read.specs.View.{elf}
-use Rattle.thorin_inputs.specs.InnerStrings.{first_content}
-use Rattle.thorin_inputs.proofs.UsedSections.{is_offsets}
+use Rattle.thorin_inputs.{proofs.UsedSections.is_offsets, specs.InnerStrings.first_content}
 use Rattle.thorin_inputs.proofs.overlaps.UsedSections.of.Given as goal
 
 -- what was met, with what is left

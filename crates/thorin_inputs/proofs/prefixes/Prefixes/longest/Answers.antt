@@ -1,8 +1,7 @@
-use Rattle.std.proofs.Common.{◌≡◌, refl, rules}
+use Rattle.std.proofs.Common.{refl, rules, ◌≡◌}
 use Rattle.std.specs.Prelude.{None}
 use Rattle.thorin_inputs.specs.Prefixes.{replaced}
-use Rattle.thorin_inputs.proofs.Folding.{counted}
-use Rattle.thorin_inputs.proofs.Prefixing.{behind-prefix, not_stripped}
+use Rattle.thorin_inputs.proofs.{Folding.counted, Prefixing.behind-prefix, Prefixing.not_stripped}
 use Rattle.thorin_inputs.proofs.prefixes.Prefixes.longest.Goals as goal
 
 pub returns-in_err-from : goal.returns-in_err-from
