@@ -124,8 +124,7 @@ fn added_size(asked: Asked, section: &Section<'_>) -> usize
 /// How many it gets for all of them.
 #[tactic(auto, using(crate::proofs::Sums::added_step, crate::proofs::Sums::added_end))]
 fn added_sizes(asked: Asked, file: &ElfFile<'_>) -> Option<u64>
-    ensures { IfSome result (λ size. size
-        ≡ length (added_names asked (elf file.now).sections)) }
+    ensures { IfSome result (λ size. size ≡ length (added_names asked (elf file.now).sections)) }
 {
     let mut added = 0u64;
     for i in 0..file.section_count() {
@@ -155,10 +154,8 @@ fn tells_more(asked: Asked, bytes: &[u8], file: &ElfFile<'_>, told: u64) -> bool
 /// How many bytes the file has once there are so many plain ones.
 #[tactic(auto, unfolding(crate::specs::Sizes::length_with))]
 fn length_with(asked: Asked, bytes: &[u8], file: &ElfFile<'_>, told: u64) -> Option<u64>
-    ensures size { IfSome result (λ size. size
-        ≡ length_with asked bytes.now (elf file.now) told) }
-    ensures limit { IfSome result (λ _. tells_more asked bytes.now (elf file.now) told
-        ≡ false) }
+    ensures size { IfSome result (λ size. size ≡ length_with asked bytes.now (elf file.now) told) }
+    ensures limit { IfSome result (λ _. tells_more asked bytes.now (elf file.now) told ≡ false) }
 {
     let table = size_of(file, names_number(bytes, file)?);
     let most = (bytes.len() as u64).saturating_mul(MOST_TIMES);

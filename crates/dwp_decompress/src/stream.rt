@@ -62,8 +62,7 @@ fn packed_in<'a>(
     section: &Section<'_>,
     content: &'a [u8],
 ) -> Result<CompressedStream<'a>, DecompressError>
-    ensures { Answers packed result
-        (packed_in class order (view.section section.now) content.now) }
+    ensures { Answers packed result (packed_in class order (view.section section.now) content.now) }
 {
     if section.is_compressed() {
         let word = word_size_of(class);

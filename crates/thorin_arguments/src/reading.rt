@@ -50,10 +50,9 @@ fn run_as<C: Commands>(
     words: &[String],
     commands: &mut C,
 ) -> u8
-    ensures { (line : List Text)
-        → AreReadAs (option_map (λ s. s.now) peer.entry) line (words_in words.now)
-        → Does C.does (IsCallBy (option_map (λ s. s.now) peer.entry) line) commands.old result
-        commands.new }
+    ensures { (line : List Text) → AreReadAs (option_map (λ s. s.now) peer.entry) line
+        (words_in words.now) → Does C.does (IsCallBy (option_map (λ s. s.now) peer.entry) line)
+        commands.old result commands.new }
 {
     let is_peer = peer.is_some();
     let Ok(mut command) = command_line(alloc, peer, version) else {

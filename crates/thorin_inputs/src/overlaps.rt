@@ -326,12 +326,10 @@ struct UsedSections<'a> {
 impl<'a> UsedSections<'a> {
     /// Those of a file.
     fn of(file: &ElfFile<'a>) -> UsedSections<'a>
-        ensures strings { option_copied result.strings
-            ≡ first_content Str (elf file.now).sections }
+        ensures strings { option_copied result.strings ≡ first_content Str (elf file.now).sections }
         ensures compilations { option_copied result.compilations
             ≡ first_content CuIndex (elf file.now).sections }
-        ensures types { option_copied result.types
-            ≡ first_content TuIndex (elf file.now).sections }
+        ensures types { option_copied result.types ≡ first_content TuIndex (elf file.now).sections }
         ensures before { list_any (holds StrOffsets)
             (take result.first_offsets (elf file.now).sections) ≡ false }
         ensures behind { list_any (holds StrOffsets)
@@ -362,11 +360,9 @@ impl<'a> UsedSections<'a> {
             ≡ met CuIndex (option_copied self.old.compilations) (view.section section.now) }
         ensures types { option_copied self.new.types
             ≡ met TuIndex (option_copied self.old.types) (view.section section.now) }
-        ensures first { self.new.first_offsets
-            ≡ (if holds StrOffsets (view.section section.now) && self.old.behind_offsets == 0
-            then number else self.old.first_offsets) }
-        ensures behind { self.new.behind_offsets
-            ≡ (if holds StrOffsets (view.section section.now)
+        ensures first { self.new.first_offsets ≡ (if holds StrOffsets (view.section section.now)
+            && self.old.behind_offsets == 0 then number else self.old.first_offsets) }
+        ensures behind { self.new.behind_offsets ≡ (if holds StrOffsets (view.section section.now)
             then number + 1 else self.old.behind_offsets) }
     {
         // (an object has one of these for each type unit)

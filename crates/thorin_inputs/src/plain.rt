@@ -102,9 +102,8 @@ pub fn decompress(
     allows_overlap: bool,
 ) -> Result<Compression, AllocError>
     ensures plain { OnOk result (IsPlainOf file.old.items file.new.items) }
-    ensures apart { allows_overlap ≡ false
-        → overlaps OfUnits file.old.items (elf_of file.old.items) ≡ true
-        → file.new.items ≡ file.old.items }
+    ensures apart { allows_overlap ≡ false → overlaps OfUnits file.old.items (elf_of file.old.items)
+        ≡ true → file.new.items ≡ file.old.items }
 {
     if !allows_overlap && has_compressed_overlap(file) {
         return Ok(Compression::Overlaps);

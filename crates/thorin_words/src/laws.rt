@@ -18,9 +18,8 @@ pub fn quoted_words_are_read()
 /// memory runs out, or these are more than 2,097,152.
 #[tactic(auto, using(crate::proofs::Bare::told))]
 pub fn words_without_files_are_told<F: ResponseFiles>(files: &F)
-    ensures { (line : List (List ℕ)) → AreBare line → length line ≤ 2097152
-        → (e : ResponseError) → CannotBeTold (F.offer files.now) (F.fails files.now) line e
-        → e ≡ errors.Memory }
+    ensures { (line : List (List ℕ)) → AreBare line → length line ≤ 2097152 → (e : ResponseError)
+        → CannotBeTold (F.offer files.now) (F.fails files.now) line e → e ≡ errors.Memory }
 {
     let _ = files;
 }

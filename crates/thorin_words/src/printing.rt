@@ -46,8 +46,7 @@ pub fn is_control(c: char) -> bool
 /// Want of memory.
 pub fn push_control(text: &mut String, short: &str, c: char) -> Result<(), AllocError>
     requires { IsTrue (spec.is_control c) }
-    ensures { OnOk result (string_bytes text.new ≡ string_bytes text.old
-        ++ control short.now c) }
+    ensures { OnOk result (string_bytes text.new ≡ string_bytes text.old ++ control short.now c) }
 {
     let number = u32::from(c);
     if is_short_control(number) {
@@ -72,8 +71,7 @@ fn is_short_control(number: u32) -> bool
 /// Want of memory.
 pub fn push_digits(text: &mut String, number: u32) -> Result<(), AllocError>
     requires { number < 256 }
-    ensures { OnOk result (string_bytes text.new ≡ string_bytes text.old
-        ++ two_digits number) }
+    ensures { OnOk result (string_bytes text.new ≡ string_bytes text.old ++ two_digits number) }
 {
     push_digit(text, number / 16)?;
     push_digit(text, number % 16)
@@ -82,8 +80,7 @@ pub fn push_digits(text: &mut String, number: u32) -> Result<(), AllocError>
 /// Adds a hexadecimal digit.
 fn push_digit(text: &mut String, digit: u32) -> Result<(), AllocError>
     requires { digit < 16 }
-    ensures { OnOk result (string_bytes text.new ≡ string_bytes text.old
-        ++ hex_digit digit ∷ []) }
+    ensures { OnOk result (string_bytes text.new ≡ string_bytes text.old ++ hex_digit digit ∷ []) }
 {
     let digit = digit as u8;
     let byte = if digit < 10 {
