@@ -104,11 +104,8 @@ impl Repetitions {
 
     /// Begins an input.
     pub fn begin(&mut self)
-        ensures { self.new ≡ record self.old {
-          input = plus self.old.input 1;
-          counts = begun
-              self.old.counts;
-        } }
+        ensures { self.new
+            ≡ record self.old { input = plus self.old.input 1; counts = begun self.old.counts } }
     {
         self.input = self.input.saturating_add(1);
         self.read = 0;
@@ -174,10 +171,8 @@ impl Repetitions {
     /// Whether an object may be added once more that isn't read again: how many bytes of sections
     /// it adds, and how many type units it has that differ from those kept.
     pub fn admits(&mut self, bytes: usize, differing: usize) -> bool
-        ensures counted { self.new ≡ record self.old {
-          counts = with_added self.old.counts
-              (bytes_more bytes differing);
-        } }
+        ensures counted { self.new
+            ≡ record self.old { counts = with_added self.old.counts (bytes_more bytes differing) } }
         ensures admitted { result ≡ is_added_within self.new.counts }
     {
         let differing = differing.saturating_mul(DIFFERING_SIZE);
