@@ -1,7 +1,7 @@
-mod Folding
+mod Best
+mod Fronts
 mod InnerPlaces
-mod Marking
-mod Narrowing
+mod Nested
 mod Noting
 mod Prefixing
 mod Sizes

@@ -2,12 +2,11 @@
 //! prefixes stay.
 
 ghost use Rattle.thorin_inputs.specs.Prefixes as spec;
-ghost use Rattle.std.specs.Prelude.{false, IfOk, MatchOption, option_map, true, ◌+◌, ◌<◌, ◌≡◌, ◌≤◌};
-ghost use Rattle.std.specs.Prelude.{IfSome, length, string_bytes, take};
-ghost use Rattle.std.specs.List.Sorted.{IsNonDecreasingBy, IsStrictlySortedBy-prop};
-ghost use Rattle.std.specs.List.Sorted.{IsPartitionPoint};
-ghost use Rattle.thorin_inputs.specs.Mapped.{beginning, Counts, IsOrdered, key_at, last_word};
-ghost use Rattle.thorin_inputs.specs.{Given.StandsAt, Mapped.AreOf};
+ghost use Rattle.std.specs.Prelude.{false, IfOk, MatchOption, nat_le, true, ◌≡◌, ◌≤◌};
+ghost use Rattle.std.specs.Prelude.{IfSome, length, string_bytes};
+ghost use Rattle.std.specs.List.{AllWithin, Sorted.IsStrictlySortedBy-prop};
+ghost use Rattle.thorin_inputs.specs.Mapped.{AreNested, AreOf, begins, IsOrdered, IsPastLast};
+ghost use Rattle.thorin_inputs.specs.{Given.StandsAt, Mapped.is_upto};
 
 use std::alloc::{AllocError, Global};
 use std::collections::BTreeMap;
@@ -18,10 +17,13 @@ pub struct Prefixes<'a> {
     alloc: Global,
     /// The words.
     pub words: &'a [&'a str],
-    /// Each FROM and the last word that has it, in the order of the FROMs.
-    last: Vec<(&'a [u8], &'a str)>,
+    /// Each FROM with its last TO, in the order of the FROMs.
+    last: Vec<(&'a str, &'a str)>,
+    /// For each FROM the place behind the last of those before it with which it begins.
+    inner: Vec<usize>,
     ghost are: { AreOf words.now last.items },
     ghost ordered: { IsOrdered last.items } by { IsStrictlySortedBy-prop _ _ },
+    ghost nested: { AreNested last.items inner.items (length last.items) },
 }
 
 impl<'a> Prefixes<'a> {
@@ -32,14 +34,24 @@ impl<'a> Prefixes<'a> {
     pub fn new(alloc: Global, words: &'a [&'a str]) -> Result<Prefixes<'a>, AllocError>
         ensures { IfOk result (λ prefixes. prefixes.words.now ≡ words.now) }
     {
-        let mut last = BTreeMap::new(alloc);
+        let mut sorted = BTreeMap::new(alloc);
         for word in words {
-            if let Some((from, _to)) = parts(*word) {
-                last.insert(from.as_bytes(), *word)?;
+            if let Some((from, to)) = parts(*word) {
+                sorted.insert(from, to)?;
             }
         }
-        let last = last.into_iter().collect(alloc)?;
-        Ok(Prefixes { alloc, words, last })
+        let last: Vec<(&str, &str)> = sorted.into_iter().collect(alloc)?;
+        let mut inner = Vec::with_capacity(alloc, last.len())?;
+        for place in 0..last.len() {
+            let past = past_last(&last, &inner, place, last[place].0);
+            inner.push(past)?;
+        }
+        Ok(Prefixes {
+            alloc,
+            words,
+            last,
+            inner,
+        })
     }
 
     /// A path in which the longest FROM of the words that it begins with is replaced by its TO; of
@@ -58,82 +70,56 @@ impl<'a> Prefixes<'a> {
         }
     }
 
-    /// What takes the place of the longest FROM of a path, and what stands behind that.
-    #[tactic(auto, using(crate::proofs::Folding::none_counted))]
+    /// What takes the place of the longest FROM of a path, and what stands behind that: it is the
+    /// last FROM that isn't above the path, or this begins with it, since it stands between both.
     fn longest<'p>(&'p self, path: &'p str) -> Option<(&'p str, &'p str)>
         ensures { spec.nows result ≡ spec.longest self.now.words.now path.now }
     {
-        let (from, to) = parts(self.counted(path.as_bytes())?)?;
+        let count = self.last.partition_point(|entry| is_upto(entry.0, path));
+        let place = past_last(&self.last, &self.inner, count, path);
+        let (from, to) = *self.last.get(place.checked_sub(1)?)?;
         Some((to, path.strip_prefix(from)?))
     }
-
-    /// The last word of the longest FROM that a path begins with: of those that go on as the path
-    /// does, fewer are left with each byte.
-    fn counted(&self, path: &[u8]) -> Option<&'a str>
-        ensures { Counts self.now.words.now path.now (length path.now + 1) result }
-    {
-        let mut best = None;
-        let mut left = self.last.as_slice();
-        for length in 0..path.len() + 1 {
-            best = self.word_of(left, path, length).or(best);
-            left = self.narrowed(left, path, length);
-        }
-        best
-    }
-
-    /// The last word whose FROM is the beginning of a path up to a place, of those that begin so.
-    #[tactic(auto, using(crate::proofs::Narrowing::none_left, crate::proofs::Narrowing::first_is, crate::proofs::Narrowing::first_longer))]
-    fn word_of(&self, left: &[(&'a [u8], &'a str)], path: &[u8], place: usize) -> Option<&'a str>
-        requires inside { place ≤ length path.now }
-        requires left { left.now ≡ beginning (take place path.now) self.now.last.items }
-        ensures { option_map (λ word. word.now) result
-            ≡ last_word self.now.words.now (take place path.now) }
-    {
-        match left.first() {
-            Some(entry) if entry.0.len() == place => Some(entry.1),
-            _ => None,
-        }
-    }
-
-    /// Those that also have the next byte of the path.
-    #[tactic(auto, using(crate::proofs::Narrowing::at_end))]
-    fn narrowed<'l>(
-        &self,
-        left: &'l [(&'a [u8], &'a str)],
-        path: &[u8],
-        place: usize,
-    ) -> &'l [(&'a [u8], &'a str)]
-        requires inside { place ≤ length path.now }
-        requires left { left.now ≡ beginning (take place path.now) self.now.last.items }
-        ensures { result.now ≡ beginning (take (place + 1) path.now) self.now.last.items }
-    {
-        match path.get(place) {
-            Some(byte) => {
-                let key = u16::from(*byte) + 1;
-                let first = count_below(left, place, key);
-                let end = count_below(left, place, key + 1);
-                &left[first..end]
-            }
-            None => left,
-        }
-    }
 }
 
-/// How many FROMs have less than a key at a place, of some that rise there.
-fn count_below(left: &[(&[u8], &str)], place: usize, key: u16) -> usize
-    ensures bound { result ≤ length left.now }
-    ensures point { IsNonDecreasingBy (λ entry. key_at place entry.0.now) left.now
-        → IsPartitionPoint (λ entry. key_at place entry.0.now < key)
-        (λ entry. key ≤ key_at place entry.0.now) left.now result }
+/// The place behind the last of so many FROMs, none above a text, with which the text begins.
+fn past_last(last: &[(&str, &str)], inner: &[usize], count: usize, text: &str) -> usize
+    requires ordered { IsOrdered last.now }
+    requires inside { count ≤ length last.now }
+    requires nested { AreNested last.now inner.now count }
+    requires before { AllWithin (λ entry. is_upto entry.0.now text.now ≡ true) last.now 0 count }
+    ensures { IsPastLast last.now count text.now result }
 {
-    left.partition_point(|entry| key_of(entry.0, place) < key)
+    if count == 0 {
+        return 0;
+    }
+    let common = common_length(last[count - 1].0.as_bytes(), text.as_bytes());
+    let mut place = count;
+    while place > 0 && last[place - 1].0.len() > common {
+        place = inner[place - 1];
+    }
+    place
 }
 
-/// What stands at a place of a text: 0 behind its end, else a number above that of each lower byte.
-fn key_of(text: &[u8], place: usize) -> u16
-    ensures { result ≡ key_at place text.now }
+/// How many bytes two texts have alike at their beginnings.
+fn common_length(a: &[u8], b: &[u8]) -> usize
+    ensures { (front : List ℕ) → begins front a.now ≡ true
+        → begins front b.now ≡ nat_le (length front) result }
 {
-    text.get(place).map_or(0, |byte| u16::from(*byte) + 1)
+    let shorter = a.len().min(b.len());
+    for i in 0..shorter {
+        if a[i] != b[i] {
+            return i;
+        }
+    }
+    shorter
+}
+
+/// Whether a text is no higher than another.
+fn is_upto(a: &str, b: &str) -> bool
+    ensures { result ≡ is_upto a.now b.now }
+{
+    a <= b
 }
 
 /// The two sides of the first `=` of a word.

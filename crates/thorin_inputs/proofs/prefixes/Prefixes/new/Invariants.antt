@@ -1,7 +1,12 @@
-use Rattle.std.proofs.Common.{take}
-use Rattle.thorin_inputs.specs.Mapped.{AreOf}
+use Rattle.std.proofs.Common.{◌≡◌, length, take}
+use Rattle.thorin_inputs.specs.Mapped.{AreNested, AreOf}
 use Rattle.thorin_inputs.proofs.prefixes.Prefixes.new.Given as goal
 
 -- those of the words so far
 abbrev pub invariant-loop-word : goal.invariant-loop-word
-invariant-loop-word l = AreOf (take l.word-index l.words) l.last.entries
+invariant-loop-word l = AreOf (take l.word-index l.words) l.sorted.entries
+
+-- what is known of the FROMs so far
+abbrev pub invariant-loop-place : goal.invariant-loop-place
+invariant-loop-place l =
+    (length l.inner.items ≡ l.place) × AreNested l.last.items l.inner.items l.place

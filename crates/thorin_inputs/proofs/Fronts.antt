@@ -1,0 +1,112 @@
+-- Texts that others begin with, and the order of texts.
+use Rattle.std.proofs.Common.{◌≡◌, ◌∙◌, ◌≤◌, ℕ, zero, suc, List, [], ◌∷◌, true, refl, sym}
+use Rattle.std.proofs.Common.{ap, arith, drop, length, Ordering, take}
+use Rattle.std.specs.Prelude.{◌==◌, nat_le, None, Option, Some, slice_get}
+use Rattle.std.specs.{Cmp.Lexicographic.slice_cmp, declared.cmp.Ordering.TheVariants.Less}
+use Rattle.std.specs.Ordering.{is_le, nat_cmp}
+use Rattle.std.proofs.lemmas.{Bool.Decides.nat_tests, Bool.eq-eqb, Bool.eqb-true}
+use Rattle.std.proofs.lemmas.Cmp.{same_from_slice_cmp}
+use Rattle.dwp_base.proofs.Bools.{by-bool}
+use Rattle.thorin_inputs.specs.{Mapped.begins, Mapped.is_upto, Prefixes.behind}
+
+-- what stands behind a front is the rest
+pub behind-some : (prefix path rest : List ℕ) → behind prefix path ≡ Some rest
+    → (length prefix ≤ length path) × (prefix ≡ take (length prefix) path)
+    × (rest ≡ drop (length prefix) path)
+behind-some [] path rest h = (omega arith, refl, cc h)
+behind-some (x ∷ xs) [] rest h = absurd (cc h)
+behind-some (x ∷ xs) (y ∷ ys) rest h =
+    by-bool _ (x == y)
+    (λ e.
+    let more = behind-some xs ys rest (rw e at h) in
+    (omega (arith, more.0), rw (eqb-true x y e, ← more.1) refl, more.2))
+    (λ e. absurd (cc (rw e at h)))
+
+-- ---- fronts
+
+pub begun : (front text : List ℕ) → begins front text ≡ true → length front ≤ length text
+begun [] text b = omega arith
+begun (x ∷ xs) [] b = absurd (cc b)
+begun (x ∷ xs) (y ∷ ys) b =
+    by-bool _ (x == y) (λ e. omega (arith, begun xs ys (rw e at b))) (λ e. absurd (cc (rw e at b)))
+
+pub begins-trans : (f g t : List ℕ) → begins f g ≡ true → begins g t ≡ true → begins f t ≡ true
+begins-trans [] g t a b = refl
+begins-trans (x ∷ f) [] t a b = absurd (cc a)
+begins-trans (x ∷ f) (y ∷ g) [] a b = absurd (cc b)
+begins-trans (x ∷ f) (y ∷ g) (z ∷ t) a b =
+    by-bool _ (x == y)
+    (λ e. by-bool _ (y == z)
+    (λ s. rw (eqb-true x y e, s) (begins-trans f g t (rw e at a) (rw s at b)))
+    (λ s. absurd (cc (rw s at b))))
+    (λ e. absurd (cc (rw e at a)))
+
+pub begins-itself : (text : List ℕ) → begins text text ≡ true
+begins-itself [] = refl
+begins-itself (x ∷ xs) = rw (eq-eqb x x refl) (begins-itself xs)
+
+-- texts that have so many bytes alike, and no more, begin with the same fronts of no more
+pub alike : (a b : List ℕ) (i : ℕ) → take i a ≡ take i b → i ≤ length a → i ≤ length b
+    → (slice_get a i ≡ slice_get b i → slice_get a i ≡ None) → (front : List ℕ)
+    → begins front a ≡ true → begins front b ≡ nat_le (length front) i
+alike a b i same la lb end [] f = refl
+alike [] b i same la lb end (x ∷ xs) f = absurd (cc f)
+alike (y ∷ ys) [] zero same la lb end (x ∷ xs) f = refl
+alike (y ∷ ys) [] (suc i) same la lb end (x ∷ xs) f = absurd (omega (arith, lb))
+alike (y ∷ ys) (z ∷ zs) zero same la lb end (x ∷ xs) f =
+    by-bool _ (x == y)
+    (λ e. by-bool _ (x == z)
+    (λ s.
+    let one : y ≡ z = sym (eqb-true x y e) ∙ eqb-true x z s in
+    absurd (cc (end (ap (λ (n : ℕ). Some n) one))))
+    (λ s. rw s refl))
+    (λ e. absurd (cc (rw e at f)))
+alike (y ∷ ys) (z ∷ zs) (suc i) same la lb end (x ∷ xs) f =
+    let one : y ≡ z = cc same in
+    let more : take i ys ≡ take i zs = cc same in
+    by-bool _ (x == y)
+    (λ e. rw (← one, e)
+    (alike ys zs i more (omega (arith, la)) (omega (arith, lb)) end xs (rw e at f)))
+    (λ e. absurd (cc (rw e at f)))
+
+-- ---- the order of texts
+
+pub is_upto-cmp : (xs ys : List ℕ) (o : Ordering) → o ≡ slice_cmp nat_cmp xs ys
+    → is_le o ≡ is_upto xs ys
+is_upto-cmp = same_from_slice_cmp nat_cmp is_le is_upto refl (λ _ _. refl) (λ _ _. refl)
+    (λ x y xs ys o h. grind (arith, nat_tests))
+
+pub upto-less : (xs ys : List ℕ) → slice_cmp nat_cmp xs ys ≡ Less → is_upto xs ys ≡ true
+upto-less xs ys h = sym (is_upto-cmp xs ys Less (sym h))
+
+pub upto-itself : (xs : List ℕ) → is_upto xs xs ≡ true
+upto-itself [] = refl
+upto-itself (x ∷ xs) = rw (eq-eqb x x refl) (upto-itself xs)
+
+pub upto-trans : (xs ys zs : List ℕ) → is_upto xs ys ≡ true → is_upto ys zs ≡ true
+    → is_upto xs zs ≡ true
+upto-trans [] ys zs a b = refl
+upto-trans (x ∷ xs) [] zs a b = absurd (cc a)
+upto-trans (x ∷ xs) (y ∷ ys) [] a b = absurd (cc b)
+upto-trans (x ∷ xs) (y ∷ ys) (z ∷ zs) a b = grind (arith, nat_tests, upto-trans xs ys zs)
+
+pub begins-upto : (front text : List ℕ) → begins front text ≡ true → is_upto front text ≡ true
+begins-upto [] text b = refl
+begins-upto (x ∷ xs) [] b = absurd (cc b)
+begins-upto (x ∷ xs) (y ∷ ys) b =
+    by-bool _ (x == y) (λ e. rw e (begins-upto xs ys (rw e at b))) (λ e. absurd (cc (rw e at b)))
+
+-- what stands between a text and a front of it begins with the front
+pub between : (front text other : List ℕ) → begins front text ≡ true → is_upto front other ≡ true
+    → is_upto other text ≡ true → begins front other ≡ true
+between [] text other b x y = refl
+between (f ∷ fs) [] other b x y = absurd (cc b)
+between (f ∷ fs) (t ∷ ts) [] b x y = absurd (cc x)
+between (f ∷ fs) (t ∷ ts) (o ∷ os) b x y =
+    by-bool _ (f == t)
+    (λ e. by-bool _ (f == o)
+    (λ s.
+    let last : (o == t) ≡ true = rw (← eqb-true f o s) e in
+    rw s (between fs ts os (rw e at b) (rw s at x) (rw last at y)))
+    (λ s. absurd (grind (arith, nat_tests, eqb-true f t e, x, y))))
+    (λ e. absurd (cc (rw e at b)))
