@@ -1,9 +1,9 @@
 //! What a command line asks for: the commands with the settings of each, and which of them the
 //! matches of a line call.
 
-ghost use Rattle.std.specs.Prelude.{◌≡◌, ℕ, codes};
+ghost use Rattle.std.specs.Prelude.{◌≡◌, ℕ};
 ghost use Rattle.clap.specs.Words.{found_of, rows_of, subcommand_rows_of};
-ghost use Rattle.thorin_arguments.specs.Asked.{AreValues, Asks, AsksBy, AsksFind, AsksPack, Call};
+ghost use Rattle.thorin_arguments.specs.Asked.{AreValues, Asks, AsksFind, AsksPack, Call};
 ghost use Rattle.thorin_arguments.specs.Asked.{Checks, Does, Finds, IsStatusOf, IsValue, IsWord};
 ghost use Rattle.thorin_arguments.specs.Asked.{LacksMemory, Lists, Packs, Refuses, Shows};
 ghost use Rattle.thorin_arguments.specs.Flags.{is_set};
@@ -166,7 +166,13 @@ pub fn dispatch<C: Commands>(matches: &ArgMatches<'_>, is_peer: bool, commands: 
             };
             commands.list(word_of(matches, "file"), arguments)
         }
-        "check" => check(matches, commands),
+        "check" => commands.check(CheckArguments {
+            file: word_of(matches, "file"),
+            executables: values_of(matches, "exec").unwrap_or(&[]),
+            skips_nameless: has_flag(matches, "skip-nameless"),
+            decompresses: has_flag(matches, "decompress"),
+            json: has_flag(matches, "json"),
+        }),
         _ => commands.refuse_words(),
     }
 }
@@ -184,20 +190,6 @@ fn find_arguments<'a>(matches: &ArgMatches<'a>) -> FindArguments<'a>
         decompresses: has_flag(matches, "decompress"),
         json: has_flag(matches, "json"),
     }
-}
-
-/// Checks the package that the words name, for the executables that they name.
-fn check<C: Commands>(matches: &ArgMatches<'_>, commands: &mut C) -> u8
-    ensures { Does C.does (AsksBy (codes "check") (rows_of (found_of matches.now))) commands.old
-        result commands.new }
-{
-    commands.check(CheckArguments {
-        file: word_of(matches, "file"),
-        executables: values_of(matches, "exec").unwrap_or(&[]),
-        skips_nameless: has_flag(matches, "skip-nameless"),
-        decompresses: has_flag(matches, "decompress"),
-        json: has_flag(matches, "json"),
-    })
 }
 
 /// A word that a command line must have, by its name.
