@@ -62,7 +62,7 @@ fn with_plain(
         → result ≡ Err Unrepresentable }
 {
     let length = length(asked, bytes, file)?;
-    let contents = contents(alloc, asked, file.class(), file.endianness(), file)?;
+    let contents = contents(alloc, asked, file)?;
     let added = added_names(alloc, asked, file)?;
     let names = names_number(bytes, file).ok_or(DecompressError::Unrepresentable)?;
     let expected = Expected {

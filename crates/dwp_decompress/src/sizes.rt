@@ -15,7 +15,6 @@ ghost use Rattle.dwp_decompress.specs.declared.error.DecompressError.TheVariants
 use crate::asked::{Asked, has_compressed, is_compressed, is_older};
 use crate::error::DecompressError;
 use crate::stream::{told_size, word_size_of};
-use dwp_base::{Class, Endianness};
 use dwp_elf_read::{ElfFile, Section};
 use std::alloc::{AllocError, Global};
 
@@ -88,21 +87,17 @@ fn reads_more(file: &ElfFile<'_>, table: u64, most: u64) -> bool {
 }
 
 /// How many bytes the plain contents of all sections are said to have together.
-fn told_sizes(
-    asked: Asked,
-    class: Class,
-    order: Endianness,
-    file: &ElfFile<'_>,
-) -> Result<u64, DecompressError>
+fn told_sizes(asked: Asked, file: &ElfFile<'_>) -> Result<u64, DecompressError>
     ensures sum { GivesFile (λ size. size) result
-        (told_sizes asked class order (elf file.now).sections) }
-    ensures error { (n : ℕ) → told_sizes asked class order (elf file.now).sections ≡ Ok n
+        (told_sizes asked (elf file.now).class (elf file.now).order (elf file.now).sections) }
+    ensures error { (n : ℕ)
+        → told_sizes asked (elf file.now).class (elf file.now).order (elf file.now).sections ≡ Ok n
         → IfErr result (λ e. e ≡ Unrepresentable) }
 {
     let mut told = 0u64;
     for i in 0..file.section_count() {
         let section = file.section(i).ok_or(DecompressError::Unrepresentable)?;
-        let size = told_size(asked, class, order, &section)?;
+        let size = told_size(asked, file.class(), file.endianness(), &section)?;
         told = told
             .checked_add(size)
             .ok_or(DecompressError::Unrepresentable)?;
@@ -184,7 +179,7 @@ pub(crate) fn length(asked: Asked, bytes: &[u8], file: &ElfFile<'_>) -> Result<u
         (told_sizes asked (elf file.now).class (elf file.now).order (elf file.now).sections))
         → result ≡ Err Unrepresentable }
 {
-    let told = told_sizes(asked, file.class(), file.endianness(), file)?;
+    let told = told_sizes(asked, file)?;
     length_with(asked, bytes, file, told).ok_or(DecompressError::Unrepresentable)
 }
 

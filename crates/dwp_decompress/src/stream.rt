@@ -138,21 +138,19 @@ fn content(
     Ok(Some(plain))
 }
 
-/// The plain contents of all sections, in order, of a file of that class and byte order.
+/// The plain contents of all sections, in order.
 pub fn contents(
     alloc: Global,
     asked: Asked,
-    class: Class,
-    order: Endianness,
     file: &ElfFile<'_>,
 ) -> Result<Vec<Option<Vec<u8>>>, DecompressError>
     ensures { Gives (λ contents. plain_contents contents.items) result
-        (contents_of asked class order (elf file.now).sections) }
+        (contents_of asked (elf file.now).class (elf file.now).order (elf file.now).sections) }
 {
     let mut contents = Vec::new(alloc);
     for i in 0..file.section_count() {
         if let Some(section) = file.section(i) {
-            let content = content(alloc, asked, class, order, &section)?;
+            let content = content(alloc, asked, file.class(), file.endianness(), &section)?;
             contents.push(content)?;
         }
     }

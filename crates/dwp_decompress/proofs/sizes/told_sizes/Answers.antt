@@ -6,15 +6,18 @@ use Rattle.dwp_decompress.proofs.Sums.{none_plus, told_step, told_fail, told_end
 use Rattle.dwp_decompress.proofs.sizes.told_sizes.Goals as goal
 
 pub loop-i-init : goal.loop-i-init
-loop-i-init c = none_plus (told_sizes c.args.asked c.args.class c.args.order
-    (elf c.args.file.now).sections)
+loop-i-init c =
+    let file = elf c.args.file.now in
+    none_plus (told_sizes c.args.asked file.class file.order file.sections)
 
 pub returns-in_err-size : goal.returns-in_err-size
 returns-in_err-size c =
+    let file = elf c.args.file.now in
     let at = sym c.section.ensures.found ∙ ap (option_map section)
     c.in_ok-section.ensures.ok_part in
-    let fails = sym c.loop-i.invariant ∙ told_fail c.args.asked c.args.class c.args.order
-    _ c.loop-i.i c.loop-i.told _ _ at c.in_err-size.ensures in
+    let is = rw (c.class.ensures, c.endianness.ensures) at c.in_err-size.ensures in
+    let fails = sym c.loop-i.invariant ∙ told_fail c.args.asked file.class file.order
+    file.sections c.loop-i.i c.loop-i.told _ _ at is in
     let p = err_from_is_err_and c.from_residual-in_err-size.result
     c.from_residual-in_err-size.ensures.1 in
     record {
@@ -24,12 +27,16 @@ returns-in_err-size c =
 
 pub loop-i-preserved : goal.loop-i-preserved
 loop-i-preserved c =
+    let file = elf c.args.file.now in
     let at = sym c.section.ensures.found ∙ ap (option_map section)
     c.in_ok-section.ensures.ok_part in
+    let is = rw (c.class.ensures, c.endianness.ensures) at c.in_ok-size.ensures in
     let more = (rw c.in_ok-told.ensures.ok_part at c.checked_add.ensures).1 in
-    rw more (sym (told_step c.args.asked c.args.class c.args.order _ c.loop-i.i c.loop-i.told _ _ at
-    c.in_ok-size.ensures) ∙ c.loop-i.invariant)
+    rw more (sym (told_step c.args.asked file.class file.order file.sections c.loop-i.i
+    c.loop-i.told _ _ at is) ∙ c.loop-i.invariant)
 
 pub returns-clause-sum : goal.returns-clause-sum
-returns-clause-sum c = sym c.loop-i.invariant ∙ told_end c.args.asked c.args.class c.args.order
-    (elf c.args.file.now).sections c.loop-i.i c.loop-i.told (omega arith)
+returns-clause-sum c =
+    let file = elf c.args.file.now in
+    sym c.loop-i.invariant ∙ told_end c.args.asked file.class file.order file.sections c.loop-i.i
+    c.loop-i.told (omega arith)

@@ -9,32 +9,38 @@ use Rattle.dwp_decompress.proofs.{Sections.plain_more, stream.contents.Goals.in_
 use Rattle.dwp_base.proofs.Finds.{slice_get_none}
 
 pub loop-i-init : goal.loop-i-init
-loop-i-init c = rw c.new-contents.ensures.items
-    (behind_none (contents_of c.args.asked c.args.class c.args.order
-    (elf c.args.file.now).sections))
+loop-i-init c =
+    let file = elf c.args.file.now in
+    rw c.new-contents.ensures.items
+    (behind_none (contents_of c.args.asked file.class file.order file.sections))
 
 pub returns-in_err-content : goal.returns-in_err-content
 returns-in_err-content c =
+    let file = elf c.args.file.now in
     let p = err_from_is_err_and c.from_residual.result c.from_residual.ensures.1 in
-    rw (p.1, p.2) (λ h. sym c.loop-i.invariant ∙ contents_fail c.args.asked c.args.class
-    c.args.order _ c.loop-i.i (plain_contents c.loop-i.contents.items) _ _
-    (sym c.in-Some.ensures.found) (c.in_err-content.ensures h))
+    rw (p.1, p.2) (λ h. sym c.loop-i.invariant ∙ contents_fail c.args.asked file.class file.order
+    file.sections c.loop-i.i (plain_contents c.loop-i.contents.items) _ _
+    (sym c.in-Some.ensures.found)
+    (rw (c.class.ensures, c.endianness.ensures) at (c.in_err-content.ensures h)))
 
 pub loop-i-preserved : goal.loop-i-preserved
 loop-i-preserved c =
-    let xs = (elf c.args.file.now).sections in
+    let file = elf c.args.file.now in
     elim c.match-section.branch [
       | in-Some+in_ok-content+in_ok-push w ↦
           let more = ap (λ (v : Vec (Option (Vec ℕ))). v.items) w.contents-is
           ∙ w.in_ok-push.ensures.items in
           rw (plain_more _ c.loop-i.contents.items w.in_ok-content.content more)
-          (sym (contents_step c.args.asked c.args.class c.args.order xs c.loop-i.i
+          (sym (contents_step c.args.asked file.class file.order file.sections c.loop-i.i
           (plain_contents c.loop-i.contents.items) _ _ (sym w.in-Some.ensures.found)
-          w.in_ok-content.ensures) ∙ c.loop-i.invariant)
-      | in_default w ↦ absurd (slice_get_none xs c.loop-i.i (omega arith)
+          (rw (w.class.ensures, w.endianness.ensures) at w.in_ok-content.ensures))
+          ∙ c.loop-i.invariant)
+      | in_default w ↦ absurd (slice_get_none file.sections c.loop-i.i (omega arith)
           (sym w.in_default.ensures.found))
     ]
 
 pub returns : goal.returns
-returns c = sym c.loop-i.invariant ∙ contents_end c.args.asked c.args.class c.args.order
-    (elf c.args.file.now).sections c.loop-i.i (plain_contents c.loop-i.contents.items) (omega arith)
+returns c =
+    let file = elf c.args.file.now in
+    sym c.loop-i.invariant ∙ contents_end c.args.asked file.class file.order file.sections
+    c.loop-i.i (plain_contents c.loop-i.contents.items) (omega arith)

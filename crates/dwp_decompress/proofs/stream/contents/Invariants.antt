@@ -6,5 +6,8 @@ use Rattle.dwp_decompress.proofs.stream.contents.Given as goal
 
 -- those so far and those that are left are all
 abbrev pub invariant-loop-i : goal.invariant-loop-i
-invariant-loop-i l = behind (plain_contents l.contents.items) (contents_of l.asked l.class l.order
-    (drop l.i (elf l.file).sections)) ≡ contents_of l.asked l.class l.order (elf l.file).sections
+invariant-loop-i l =
+    let file = elf l.file in
+    behind (plain_contents l.contents.items)
+    (contents_of l.asked file.class file.order (drop l.i file.sections))
+    ≡ contents_of l.asked file.class file.order file.sections
