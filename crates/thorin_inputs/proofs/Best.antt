@@ -3,8 +3,7 @@ use Rattle.std.proofs.Common.{◌≡◌, ◌∙◌, ◌+◌, ◌-◌, ◌<◌, �
 use Rattle.std.proofs.Common.{ap, arith, drop, false, length, length-drop, Ordering, refl, sym, take}
 use Rattle.std.specs.Prelude.{fold, is_some, nat_le, None, Option, slice_get, slice_index_or, Some}
 use Rattle.std.specs.declared.cmp.Ordering.TheVariants.{Equal, Greater, Less}
-use Rattle.std.specs.{Borrow.Bor, BTreeMap.insert_entry, Cmp.Lexicographic.slice_cmp}
-use Rattle.std.specs.{List.AllByRecursion, Map.keys_of, Ordering.nat_cmp}
+use Rattle.std.specs.{Borrow.Bor, BTreeMap.insert_entry, List.AllByRecursion, Map.keys_of}
 use Rattle.std.specs.List.Sorted.{IsStrictlySortedBy}
 use Rattle.std.proofs.lemmas.Bool.{le-leb}
 use Rattle.std.proofs.lemmas.Bool.Decides.{nat_tests}
@@ -19,7 +18,7 @@ use Rattle.thorin_inputs.specs.Prefixes.{replaced, to_of, with_to}
 use Rattle.thorin_inputs.specs.Mapped.{AreOf, begins, by_entry, Entries, Entry, IsOrdered}
 use Rattle.thorin_inputs.specs.Mapped.{IsPastLast, is_upto}
 use Rattle.thorin_inputs.proofs.Fronts.{behind-some, begins-upto, begun, between}
-use Rattle.thorin_inputs.proofs.Nested.{From, rising}
+use Rattle.thorin_inputs.proofs.Nested.{From, order, rising}
 
 pub longer-none : (r : Replaced) → longer r None ≡ r
 longer-none None = refl
@@ -34,8 +33,8 @@ Apart (Some x) (Some y) = length x.1 ≡ length y.1 → ⊥
 swap : (best a b : Replaced) → Apart a b → longer (longer best a) b ≡ longer (longer best b) a
 swap best None b h = rw (longer-none best, longer-none (longer best b)) refl
 swap best (Some x) None h = rw (longer-none (longer best (Some x)), longer-none best) refl
-swap None (Some x) (Some y) h = grind (arith, nat_tests)
-swap (Some p) (Some x) (Some y) h = grind (arith, nat_tests)
+swap None (Some x) (Some y) h = grind (arith, nat_tests, h)
+swap (Some p) (Some x) (Some y) h = grind (arith, nat_tests, h)
 
 tie : (best : Replaced) (s t : List ℕ) (rest : Option (List ℕ))
     → longer (longer best (with_to s rest)) (with_to t rest) ≡ longer best (with_to t rest)
@@ -44,9 +43,6 @@ tie None s t (Some r) = rw (le-leb (length r) (length r) (omega arith)) refl
 tie (Some p) s t (Some r) =
     by-bool _ (nat_le (length r) (length p.1))
     (λ e. rw (e, le-leb (length r) (length r) (omega arith)) refl) (λ e. rw e refl)
-
-abbrev pub order : Bor (List ℕ) → Bor (List ℕ) → Ordering
-order x y = slice_cmp nat_cmp x.now y.now
 
 module _ (path : List ℕ) where
   abbrev With : Replaced → Entry → Replaced
@@ -104,7 +100,7 @@ module _ (path : List ℕ) where
       rw (is, same) (ap (λ (b : Replaced). fold With b es)
       (sym (tie best e.1.now to.now (behind e.0.now path)))
       ∙ through (λ k. order e.0 k ≡ Less) e.0.now to.now (λ k less same.
-      cc (sym (tied_itself nat_list_cmp_total e.0.now) ∙ rw same less))
+      cc (sym (tied_itself nat_list_cmp_total e.0.now) ∙ rw (← same) at less))
       es (longer best (by_entry path e)) above)
   insert_step from to e es best Greater is above more = rw is more
 

@@ -4,7 +4,7 @@ use Rattle.std.proofs.Common.{ap, arith, drop, length, Ordering, take}
 use Rattle.std.specs.Prelude.{◌==◌, nat_le, None, Option, Some, slice_get}
 use Rattle.std.specs.{Cmp.Lexicographic.slice_cmp, declared.cmp.Ordering.TheVariants.Less}
 use Rattle.std.specs.Ordering.{is_le, nat_cmp}
-use Rattle.std.proofs.lemmas.{Bool.Decides.nat_tests, Bool.eq-eqb, Bool.eqb-true}
+use Rattle.std.proofs.lemmas.{Bool.Decides.nat_tests, Bool.eq-eqb, Bool.eqb-true, Bool.lt-leb}
 use Rattle.std.proofs.lemmas.Cmp.{same_from_slice_cmp}
 use Rattle.dwp_base.proofs.Bools.{by-bool}
 use Rattle.thorin_inputs.specs.{Mapped.begins, Mapped.is_upto, Prefixes.behind}
@@ -51,7 +51,8 @@ pub alike : (a b : List ℕ) (i : ℕ) → take i a ≡ take i b → i ≤ lengt
     → begins front a ≡ true → begins front b ≡ nat_le (length front) i
 alike a b i same la lb end [] f = refl
 alike [] b i same la lb end (x ∷ xs) f = absurd (cc f)
-alike (y ∷ ys) [] zero same la lb end (x ∷ xs) f = refl
+alike (y ∷ ys) [] zero same la lb end (x ∷ xs) f =
+    sym (lt-leb (suc (length xs)) 0 (omega arith))
 alike (y ∷ ys) [] (suc i) same la lb end (x ∷ xs) f = absurd (omega (arith, lb))
 alike (y ∷ ys) (z ∷ zs) zero same la lb end (x ∷ xs) f =
     by-bool _ (x == y)
@@ -59,14 +60,15 @@ alike (y ∷ ys) (z ∷ zs) zero same la lb end (x ∷ xs) f =
     (λ s.
     let one : y ≡ z = sym (eqb-true x y e) ∙ eqb-true x z s in
     absurd (cc (end (ap (λ (n : ℕ). Some n) one))))
-    (λ s. rw s refl))
+    (λ s. rw s (sym (lt-leb (suc (length xs)) 0 (omega arith)))))
     (λ e. absurd (cc (rw e at f)))
 alike (y ∷ ys) (z ∷ zs) (suc i) same la lb end (x ∷ xs) f =
     let one : y ≡ z = cc same in
     let more : take i ys ≡ take i zs = cc same in
+    let up : nat_le (length xs) i ≡ nat_le (suc (length xs)) (suc i) = grind (arith, nat_tests) in
     by-bool _ (x == y)
     (λ e. rw (← one, e)
-    (alike ys zs i more (omega (arith, la)) (omega (arith, lb)) end xs (rw e at f)))
+    (alike ys zs i more (omega (arith, la)) (omega (arith, lb)) end xs (rw e at f) ∙ up))
     (λ e. absurd (cc (rw e at f)))
 
 -- ---- the order of texts

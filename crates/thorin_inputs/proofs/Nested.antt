@@ -1,8 +1,9 @@
 -- FROMs in order, each with the longest other that it begins with.
 use Rattle.std.proofs.Common.{◌≡◌, ◌∙◌, ◌+◌, ◌-◌, ◌<◌, ◌≤◌, ◌++◌, ◌∷◌, ℕ, List, [], true, false}
-use Rattle.std.proofs.Common.{ap, arith, eqb, length, sym}
+use Rattle.std.proofs.Common.{ap, arith, eqb, length, Ordering, sym}
 use Rattle.std.specs.Prelude.{nat_le, nat_lt, slice_index_or}
-use Rattle.std.specs.{List.AllWithin, Map.keys_of}
+use Rattle.std.specs.{Borrow.Bor, Cmp.Lexicographic.slice_cmp, List.AllWithin, Map.keys_of}
+use Rattle.std.specs.Ordering.{nat_cmp}
 use Rattle.std.proofs.lemmas.Bool.{eqb-false, eqb-true, false_from_ne_true, le-leb, lt-leb}
 use Rattle.std.proofs.lemmas.{Bool.ltb-false, Bool.ltb-true}
 use Rattle.std.proofs.lemmas.List.{get_or_append_left, get_or_default, get_or_push, get_or-map}
@@ -13,6 +14,9 @@ use Rattle.thorin_inputs.specs.Mapped.{AreNested, begins, Entries, Entry, IsOrde
 use Rattle.thorin_inputs.specs.Mapped.{is_upto}
 use Rattle.thorin_inputs.proofs.Fronts.{begins-itself, begins-trans, between, upto-itself}
 use Rattle.thorin_inputs.proofs.Fronts.{upto-less}
+
+abbrev pub order : Bor (List ℕ) → Bor (List ℕ) → Ordering
+order x y = slice_cmp nat_cmp x.now y.now
 
 abbrev pub From : Entries → ℕ → Entry → List ℕ
 From es i d = (slice_index_or es i d).0.now
@@ -25,7 +29,7 @@ rising es ordered i j d le lt =
     (λ apart.
     let other = eqb-false i j apart in
     let key = λ (k : ℕ) (less : k < length es). get_or-map (λ (e : Entry). e.0) es k d d.0 less in
-    let less = Less-from_sorted _ (keys_of es) i j d.0 ordered (omega (arith, le, other))
+    let less = Less-from_sorted order (keys_of es) i j d.0 ordered (omega (arith, le, other))
     (rw (length-map es (λ (e : Entry). e.0)) lt) in
     upto-less (From es i d) (From es j d) (rw (key i (omega (arith, le, lt)), key j lt) at less))
 
@@ -34,15 +38,18 @@ pub nested-none : (es : Entries) (inner : List ℕ) → AreNested es inner 0
 nested-none es inner = record { known = omega arith; past = λ i d lt. absurd (omega (arith, lt)) }
 
 -- one more
-pub nested-more : (es : Entries) (inner : List ℕ) (count place : ℕ) → AreNested es inner count
-    → length inner ≡ count
-    → ((d : Entry) → IsPastLast es count (From es count d) place)
-    → AreNested es (inner ++ place ∷ []) (count + 1)
-nested-more es inner count place nested long past = record {
+pub nested-more : (es : Entries) (inner : List ℕ) (count place : ℕ) (e : Entry)
+    → AreNested es inner count → length inner ≡ count → count < length es
+    → IsPastLast es count (From es count e) place → AreNested es (inner ++ place ∷ []) (count + 1)
+nested-more es inner count place e nested long short past = record {
   known = omega (arith, long, length_push inner place);
   past = λ i d lt.
       by-bool _ (eqb i count)
-      (λ same. rw (eqb-true i count same, get_or_push inner place 0 count long) (past d))
+      (λ same. rw (
+        eqb-true i count same,
+        get_or_push inner place 0 count long,
+        get_or_default es count d e short,
+      ) past)
       (λ apart.
       let other = eqb-false i count apart in
       let below : i < count = omega (arith, lt, other) in
