@@ -2,6 +2,7 @@
 use Rattle.std.proofs.Common.{◌≡◌, ◌∙◌, ◌+◌, ◌-◌, ◌<◌, ◌≤◌, ◌++◌, ℕ, suc, List, [], ◌∷◌, true}
 use Rattle.std.proofs.Common.{ap, arith, drop, false, length, length-drop, Ordering, refl, sym, take}
 use Rattle.std.specs.Prelude.{fold, is_some, nat_le, None, Option, slice_get, slice_index_or, Some}
+use Rattle.std.specs.Prelude.{⊤}
 use Rattle.std.specs.declared.cmp.Ordering.TheVariants.{Equal, Greater, Less}
 use Rattle.std.specs.{Borrow.Bor, BTreeMap.insert_entry, List.AllByRecursion, Map.keys_of}
 use Rattle.std.specs.List.Sorted.{IsStrictlySortedBy}
@@ -42,7 +43,7 @@ tie best s t None = longer-none (longer best None)
 tie None s t (Some r) = rw (le-leb (length r) (length r) (omega arith)) refl
 tie (Some p) s t (Some r) =
     by-bool _ (nat_le (length r) (length p.1))
-    (λ e. rw (e, le-leb (length r) (length r) (omega arith)) refl) (λ e. rw e refl)
+    (λ e. rw (e, le-leb (length r) (length r) (omega arith)) refl) (λ e. rw (e, e) refl)
 
 module _ (path : List ℕ) where
   abbrev With : Replaced → Entry → Replaced
@@ -85,13 +86,11 @@ module _ (path : List ℕ) where
       → fold With best (insert_entry order (e ∷ es) from to)
       ≡ longer (fold With best (e ∷ es)) (by_entry path (from, to))
   insert_step from to e es best Less is above more =
-      rw (
-        is,
-        swap best (by_entry path (from, to)) (by_entry path e)
-            (apart from.now e.0.now to.now e.1.now (λ same.
-            cc (sym (tied_itself nat_list_cmp_total e.0.now) ∙ rw same at is))),
-      )
-      (through (λ k. order e.0 k ≡ Less) from.now to.now (λ k less same.
+      rw is (ap (λ (b : Replaced). fold With b es)
+      (swap best (by_entry path (from, to)) (by_entry path e)
+      (apart from.now e.0.now to.now e.1.now (λ same.
+      cc (sym (tied_itself nat_list_cmp_total e.0.now) ∙ rw same at is))))
+      ∙ through (λ k. order e.0 k ≡ Less) from.now to.now (λ k less same.
       cc (sym (tied_itself nat_list_cmp_total e.0.now)
       ∙ nat_list_cmp_total.trans e.0.now from.now e.0.now (rw same less) is))
       es (longer best (by_entry path e)) above)
@@ -190,7 +189,8 @@ module _ (path : List ℕ) where
             go None e = tt
             go (Some x) e =
                 let short : place - 1 < length es = omega (arith, lt, past.inside) in
-                let own = get_or_from_slice_get es (place - 1) entry d at in
+                let own : From es (place - 1) d ≡ entry.0.now =
+                ap (λ (e : Entry). e.0.now) (get_or_from_slice_get es (place - 1) entry d at) in
                 let high : is_upto (From es k d) entry.0.now ≡ true =
                 rw own at (rising es ordered k (place - 1) d (omega (arith, lt)) short) in
                 let front = between (From es k d) path entry.0.now (rw e refl) high

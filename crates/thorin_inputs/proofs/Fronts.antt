@@ -1,10 +1,11 @@
 -- Texts that others begin with, and the order of texts.
-use Rattle.std.proofs.Common.{◌≡◌, ◌∙◌, ◌≤◌, ℕ, zero, suc, List, [], ◌∷◌, true, refl, sym}
-use Rattle.std.proofs.Common.{ap, arith, drop, length, Ordering, take}
-use Rattle.std.specs.Prelude.{◌==◌, nat_le, None, Option, Some, slice_get}
+use Rattle.std.proofs.Common.{◌≡◌, ◌∙◌, ◌<◌, ◌≤◌, ℕ, zero, suc, List, [], ◌∷◌, true, refl, sym}
+use Rattle.std.proofs.Common.{ap, arith, drop, get_or, length, take}
+use Rattle.std.specs.Prelude.{◌==◌, nat_le, Some}
 use Rattle.std.specs.{Cmp.Lexicographic.slice_cmp, declared.cmp.Ordering.TheVariants.Less}
 use Rattle.std.specs.Ordering.{is_le, nat_cmp}
-use Rattle.std.proofs.lemmas.{Bool.Decides.nat_tests, Bool.eq-eqb, Bool.eqb-true, Bool.lt-leb}
+use Rattle.std.proofs.lemmas.Bool.{eq-eqb, eqb-true, le-leb, lt-leb}
+use Rattle.std.proofs.lemmas.Bool.Decides.{nat_tests}
 use Rattle.std.proofs.lemmas.Cmp.{same_from_slice_cmp}
 use Rattle.dwp_base.proofs.Bools.{by-bool}
 use Rattle.thorin_inputs.specs.{Mapped.begins, Mapped.is_upto, Prefixes.behind}
@@ -47,9 +48,9 @@ begins-itself (x ∷ xs) = rw (eq-eqb x x refl) (begins-itself xs)
 
 -- texts that have so many bytes alike, and no more, begin with the same fronts of no more
 pub alike : (a b : List ℕ) (i : ℕ) → take i a ≡ take i b → i ≤ length a → i ≤ length b
-    → (slice_get a i ≡ slice_get b i → slice_get a i ≡ None) → (front : List ℕ)
+    → (i < length a → i < length b → get_or a i 0 ≡ get_or b i 0 → ⊥) → (front : List ℕ)
     → begins front a ≡ true → begins front b ≡ nat_le (length front) i
-alike a b i same la lb end [] f = refl
+alike a b i same la lb end [] f = sym (le-leb 0 i (omega arith))
 alike [] b i same la lb end (x ∷ xs) f = absurd (cc f)
 alike (y ∷ ys) [] zero same la lb end (x ∷ xs) f =
     sym (lt-leb (suc (length xs)) 0 (omega arith))
@@ -57,9 +58,7 @@ alike (y ∷ ys) [] (suc i) same la lb end (x ∷ xs) f = absurd (omega (arith, 
 alike (y ∷ ys) (z ∷ zs) zero same la lb end (x ∷ xs) f =
     by-bool _ (x == y)
     (λ e. by-bool _ (x == z)
-    (λ s.
-    let one : y ≡ z = sym (eqb-true x y e) ∙ eqb-true x z s in
-    absurd (cc (end (ap (λ (n : ℕ). Some n) one))))
+    (λ s. absurd (end (omega arith) (omega arith) (sym (eqb-true x y e) ∙ eqb-true x z s)))
     (λ s. rw s (sym (lt-leb (suc (length xs)) 0 (omega arith)))))
     (λ e. absurd (cc (rw e at f)))
 alike (y ∷ ys) (z ∷ zs) (suc i) same la lb end (x ∷ xs) f =
@@ -67,19 +66,18 @@ alike (y ∷ ys) (z ∷ zs) (suc i) same la lb end (x ∷ xs) f =
     let more : take i ys ≡ take i zs = cc same in
     let up : nat_le (length xs) i ≡ nat_le (suc (length xs)) (suc i) = grind (arith, nat_tests) in
     by-bool _ (x == y)
-    (λ e. rw (← one, e)
-    (alike ys zs i more (omega (arith, la)) (omega (arith, lb)) end xs (rw e at f) ∙ up))
+    (λ e. rw (← one, e) (alike ys zs i more (omega (arith, la)) (omega (arith, lb))
+    (λ p q. end (omega (arith, p)) (omega (arith, q))) xs (rw e at f) ∙ up))
     (λ e. absurd (cc (rw e at f)))
 
 -- ---- the order of texts
 
-pub is_upto-cmp : (xs ys : List ℕ) (o : Ordering) → o ≡ slice_cmp nat_cmp xs ys
-    → is_le o ≡ is_upto xs ys
-is_upto-cmp = same_from_slice_cmp nat_cmp is_le is_upto refl (λ _ _. refl) (λ _ _. refl)
-    (λ x y xs ys o h. grind (arith, nat_tests))
+pub upto_cmp : (xs ys : List ℕ) → is_le (slice_cmp nat_cmp xs ys) ≡ is_upto xs ys
+upto_cmp xs ys = same_from_slice_cmp nat_cmp is_le is_upto refl (λ _ _. refl) (λ _ _. refl)
+    (λ x y xs ys o h. grind (arith, nat_tests)) xs ys (slice_cmp nat_cmp xs ys) refl
 
 pub upto-less : (xs ys : List ℕ) → slice_cmp nat_cmp xs ys ≡ Less → is_upto xs ys ≡ true
-upto-less xs ys h = sym (is_upto-cmp xs ys Less (sym h))
+upto-less xs ys h = sym (upto_cmp xs ys) ∙ ap is_le h
 
 pub upto-itself : (xs : List ℕ) → is_upto xs xs ≡ true
 upto-itself [] = refl

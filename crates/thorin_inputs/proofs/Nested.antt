@@ -3,8 +3,8 @@ use Rattle.std.proofs.Common.{◌≡◌, ◌∙◌, ◌+◌, ◌-◌, ◌<◌, �
 use Rattle.std.proofs.Common.{ap, arith, eqb, length, Ordering, sym}
 use Rattle.std.specs.Prelude.{nat_le, nat_lt, slice_index_or}
 use Rattle.std.specs.{Borrow.Bor, Cmp.Lexicographic.slice_cmp, List.AllWithin, Map.keys_of}
-use Rattle.std.specs.Ordering.{nat_cmp}
-use Rattle.std.proofs.lemmas.Bool.{eqb-false, eqb-true, false_from_ne_true, le-leb, lt-leb}
+use Rattle.std.specs.{List.Sorted.IsPartitionedBy, Ordering.nat_cmp}
+use Rattle.std.proofs.lemmas.Bool.{eqb-false, eqb-true, false_from_ne_true, lt-leb}
 use Rattle.std.proofs.lemmas.{Bool.ltb-false, Bool.ltb-true}
 use Rattle.std.proofs.lemmas.List.{get_or_append_left, get_or_default, get_or_push, get_or-map}
 use Rattle.std.proofs.lemmas.List.{length-map, length_push}
@@ -13,7 +13,7 @@ use Rattle.dwp_base.proofs.Bools.{by-bool}
 use Rattle.thorin_inputs.specs.Mapped.{AreNested, begins, Entries, Entry, IsOrdered, IsPastLast}
 use Rattle.thorin_inputs.specs.Mapped.{is_upto}
 use Rattle.thorin_inputs.proofs.Fronts.{begins-itself, begins-trans, between, upto-itself}
-use Rattle.thorin_inputs.proofs.Fronts.{upto-less}
+use Rattle.thorin_inputs.proofs.Fronts.{begins-upto, upto-less, upto-trans}
 
 abbrev pub order : Bor (List ℕ) → Bor (List ℕ) → Ordering
 order x y = slice_cmp nat_cmp x.now y.now
@@ -33,9 +33,18 @@ rising es ordered i j d le lt =
     (rw (length-map es (λ (e : Entry). e.0)) lt) in
     upto-less (From es i d) (From es j d) (rw (key i (omega (arith, le, lt)), key j lt) at less))
 
--- the first is nested in none
-pub nested-none : (es : Entries) (inner : List ℕ) → AreNested es inner 0
-nested-none es inner = record { known = omega arith; past = λ i d lt. absurd (omega (arith, lt)) }
+pub parted : (es : Entries) → IsOrdered es → (text : List ℕ)
+    → IsPartitionedBy (λ e. is_upto e.0.now text) es
+parted es ordered text i j d le lt h =
+    upto-trans (From es i d) (From es j d) text (rising es ordered i j d le lt) h
+
+-- of fewer
+pub nested-fewer : (es : Entries) (inner : List ℕ) (count n : ℕ) → AreNested es inner count
+    → n ≤ count → AreNested es inner n
+nested-fewer es inner count n nested few = record {
+  known = omega (arith, nested.known, few);
+  past = λ i d lt. nested.past i d (omega (arith, lt, few));
+}
 
 -- one more
 pub nested-more : (es : Entries) (inner : List ℕ) (count place : ℕ) (e : Entry)
@@ -64,9 +73,21 @@ pub record Walked (es : Entries) (count : ℕ) (text top : List ℕ) (place : �
   pub chain : AllWithin (λ e. begins e.0.now top ≡ true) es (place - 1) place
   pub others : AllWithin (λ e. begins e.0.now text ≡ false) es place count
 
-module _ (es : Entries) (count : ℕ) (text : List ℕ) (short : count ≤ length es) (last : Entry)
-    (common : ℕ) (alike : (front : List ℕ) → begins front (From es (count - 1) last) ≡ true
-    → begins front text ≡ nat_le (length front) common) where
+-- none above the text is a front of it
+pub past-whole : (es : Entries) (count : ℕ) (text : List ℕ) (place : ℕ) → count ≤ length es
+    → AllWithin (λ e. is_upto e.0.now text ≡ false) es count (length es)
+    → IsPastLast es count text place → IsPastLast es (length es) text place
+past-whole es count text place short above past = record {
+  inside = omega (arith, past.inside, short);
+  fits = past.fits;
+  others = λ k d lo hi.
+      by-bool _ (nat_lt k count)
+      (λ b. past.others k d lo (ltb-true k count b))
+      (λ b. false_from_ne_true _ (λ front.
+      cc (sym (begins-upto (From es k d) text front) ∙ above k d (ltb-false k count b) hi)));
+}
+
+module _ (es : Entries) (count : ℕ) (text : List ℕ) (short : count ≤ length es) (last : Entry) where
   abbrev Top : List ℕ
   Top = From es (count - 1) last
 
@@ -82,20 +103,8 @@ module _ (es : Entries) (count : ℕ) (text : List ℕ) (short : count ≤ lengt
     others = λ k d lo hi. absurd (omega (arith, lo, hi));
   }
 
-  pub walked-last : (place : ℕ) → Walked es count text Top place
-      → (0 < place → length (From es (place - 1) last) ≤ common) → IsPastLast es count text place
-  walked-last place walked few = record {
-    inside = walked.inside;
-    fits = λ k d lo hi.
-        let at : k ≡ place - 1 = omega (arith, lo, hi) in
-        let long : length (From es k d) ≤ common =
-        rw (same k d (omega (arith, hi, walked.inside)), at) (few (omega (arith, hi))) in
-        alike (From es k d) (walked.chain k d lo hi)
-        ∙ le-leb (length (From es k d)) common long;
-    others = walked.others;
-  }
-
-  module _ (inner : List ℕ) (ordered : IsOrdered es) (nested : AreNested es inner count)
+  module _ (common : ℕ) (alike : (front : List ℕ) → begins front Top ≡ true
+      → begins front text ≡ nat_le (length front) common) (inner : List ℕ) (ordered : IsOrdered es) (nested : AreNested es inner count)
       (before : AllWithin (λ e. is_upto e.0.now text ≡ true) es 0 count) (place : ℕ)
       (walked : Walked es count text Top place) (some : 0 < place)
       (long : common < length (From es (place - 1) last)) where

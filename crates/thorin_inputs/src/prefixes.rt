@@ -3,8 +3,8 @@
 
 ghost use Rattle.thorin_inputs.specs.Prefixes as spec;
 ghost use Rattle.std.specs.Prelude.{false, IfOk, MatchOption, nat_le, true, ◌≡◌, ◌≤◌};
-ghost use Rattle.std.specs.Prelude.{IfSome, length, string_bytes};
-ghost use Rattle.std.specs.List.{AllWithin, Sorted.IsStrictlySortedBy-prop};
+ghost use Rattle.std.specs.Prelude.{IfSome, length, List, string_bytes, ℕ};
+ghost use Rattle.std.specs.List.{AllWithin, Sorted.IsPartitionPoint, Sorted.IsStrictlySortedBy-prop};
 ghost use Rattle.thorin_inputs.specs.Mapped.{AreNested, AreOf, begins, IsOrdered, IsPastLast};
 ghost use Rattle.thorin_inputs.specs.{Given.StandsAt, Mapped.is_upto};
 
@@ -75,7 +75,7 @@ impl<'a> Prefixes<'a> {
     fn longest<'p>(&'p self, path: &'p str) -> Option<(&'p str, &'p str)>
         ensures { spec.nows result ≡ spec.longest self.now.words.now path.now }
     {
-        let count = self.last.partition_point(|entry| is_upto(entry.0, path));
+        let count = count_upto(&self.last, path);
         let place = past_last(&self.last, &self.inner, count, path);
         let (from, to) = *self.last.get(place.checked_sub(1)?)?;
         Some((to, path.strip_prefix(from)?))
@@ -115,7 +115,18 @@ fn common_length(a: &[u8], b: &[u8]) -> usize
     shorter
 }
 
+/// How many FROMs aren't above a path.
+fn count_upto(last: &[(&str, &str)], path: &str) -> usize
+    requires { IsOrdered last.now }
+    ensures bound { result ≤ length last.now }
+    ensures point { IsPartitionPoint (λ entry. is_upto entry.0.now path.now ≡ true)
+        (λ entry. is_upto entry.0.now path.now ≡ false) last.now result }
+{
+    last.partition_point(|entry| is_upto(entry.0, path))
+}
+
 /// Whether a text is no higher than another.
+#[tactic(auto, using(crate::proofs::Fronts::upto_cmp))]
 fn is_upto(a: &str, b: &str) -> bool
     ensures { result ≡ is_upto a.now b.now }
 {

@@ -1,6 +1,7 @@
-use Rattle.std.proofs.Common.{add-one, arith, List, ℕ, [], take-suc}
+use Rattle.std.proofs.Common.{add-one, arith, length, List, rules, take-suc, [], ℕ, ◌≡◌}
 use Rattle.std.specs.Borrow.{Bor}
-use Rattle.thorin_inputs.proofs.Best.{passed, put}
+use Rattle.thorin_inputs.specs.Mapped.{IsOrdered}
+use Rattle.thorin_inputs.proofs.{Best.passed, Best.put, Nested.nested-more, Nested.rising}
 use Rattle.thorin_inputs.proofs.prefixes.Prefixes.new.Goals as goal
 use Rattle.thorin_inputs.proofs.prefixes.Prefixes.new.Goals.{in-Some+in_ok-insert, in_default}
 
@@ -13,7 +14,30 @@ loop-word-preserved c =
     (elim c.match-parts.branch [
       | in-Some+in_ok-insert w ↦ rw w.sorted-is (put _ _ c.loop-word.sorted.entries
           c.loop-word.invariant w.in-Some.from w.in-Some.to _ w.in-Some.ensures.0
-          w.in-Some.ensures.1 w.in-Some.ensures.2 ? w.in_ok-insert.ensures.entries)
+          w.in-Some.ensures.1 w.in-Some.ensures.2 w.in_ok-insert.ensures.was_ordered
+          w.in_ok-insert.ensures.entries)
       | in_default w ↦ rw w.sorted-is (passed _ _ c.loop-word.sorted.entries c.loop-word.invariant
           w.in_default.ensures)
     ])
+
+pub past_last-past-requires-clause-before : goal.past_last-past-requires-clause-before
+past_last-past-requires-clause-before c = λ k d lo hi.
+    let ordered : IsOrdered c.in_ok-last.last.items = search rules in
+    let h = c.index.ensures in
+    rw (c.deref.ensures.value, h)
+    (rising c.in_ok-last.last.items ordered k c.loop-place.place d (omega (arith, hi)) (omega arith))
+
+pub loop-place-preserved : goal.loop-place-preserved
+loop-place-preserved c =
+    let h = c.index.ensures in
+    let past = rw (c.deref.ensures.value, h) at c.past_last-past.ensures in
+    let more = nested-more c.in_ok-last.last.items c.loop-place.inner.items c.loop-place.place
+    c.past_last-past.result (none, none) c.loop-place.invariant.1 c.loop-place.invariant.0
+    (omega arith) past in
+    ?
+
+pub invariant_of-result-clause-nested : goal.invariant_of-result-clause-nested
+invariant_of-result-clause-nested c =
+    let whole : c.loop-place.place ≡ length c.in_ok-last.last.items =
+    omega (arith, c.loop-place-test.false, c.loop-place.auto.place-end, c.len-place-end.ensures) in
+    rw whole at c.loop-place.invariant.1

@@ -1,0 +1,10 @@
+use Rattle.std.proofs.{Common.of_calls, Common.rules}
+use Rattle.std.proofs.lemmas.List.Sorted.{IsPartitionPoint-from_clause}
+use Rattle.thorin_inputs.{proofs.Nested.parted, specs.Mapped.Entry, specs.Mapped.is_upto}
+use Rattle.thorin_inputs.proofs.prefixes.count_upto.Goals as goal
+
+pub returns-clause-point : goal.returns-clause-point
+returns-clause-point c =
+    IsPartitionPoint-from_clause (λ (e : Entry). is_upto e.0.now c.args.path.now) _ _
+    c.partition_point.ensures.partitioned
+    (parted c.args.last.now c.requires c.args.path.now) (λ a r q k. search (rules, of_calls))
