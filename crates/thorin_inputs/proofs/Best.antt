@@ -171,13 +171,16 @@ module _ (path : List ℕ) where
         let less : Leaves (length rest) before =
         leaves-all (length rest) (take (place - 1) es) None tt (λ k d lt. shorter k d
         (rw (length-take-le (place - 1) es (omega (arith, short))) at lt)) in
+        let behind-last = drop (place - 1 + 1) es in
+        let won = ap (λ (x : Option (List ℕ)). longer before (with_to entry.1.now x)) fits
+        ∙ wins before (entry.1.now, rest) less in
         ap (λ (l : Entries). fold With None l) split
-        ∙ fold-append With None (take (place - 1) es) (entry ∷ drop (place - 1 + 1) es)
-        ∙ rw (fits, wins before (entry.1.now, rest) less)
-        (none-fits (drop (place - 1 + 1) es) (Some (entry.1.now, rest)) (λ k d lt.
+        ∙ fold-append With None (take (place - 1) es) (entry ∷ behind-last)
+        ∙ ap (λ (b : Replaced). fold With b behind-last) won
+        ∙ none-fits behind-last (Some (entry.1.now, rest)) (λ k d lt.
         rw (get_or-drop (place - 1 + 1) es k d)
         (past.others (place - 1 + 1 + k) d (omega (arith, some))
-        (omega (arith, lt, length-drop (place - 1 + 1) es, short)))))
+        (omega (arith, lt, length-drop (place - 1 + 1) es, short))))
       where
         shorter : (k : ℕ) (d : Entry) → k < place - 1
             → Leaves (length rest) (by_entry path (slice_index_or (take (place - 1) es) k d))

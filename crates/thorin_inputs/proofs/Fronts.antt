@@ -1,5 +1,5 @@
 -- Texts that others begin with, and the order of texts.
-use Rattle.std.proofs.Common.{◌≡◌, ◌∙◌, ◌<◌, ◌≤◌, ℕ, zero, suc, List, [], ◌∷◌, true, refl, sym}
+use Rattle.std.proofs.Common.{◌≡◌, ◌∙◌, ◌<◌, ◌≤◌, ◌++◌, ℕ, zero, suc, List, [], ◌∷◌, true, refl, sym}
 use Rattle.std.proofs.Common.{ap, arith, drop, get_or, length, take}
 use Rattle.std.specs.Prelude.{◌==◌, nat_le, Some}
 use Rattle.std.specs.{Cmp.Lexicographic.slice_cmp, declared.cmp.Ordering.TheVariants.Less}
@@ -30,6 +30,17 @@ begun [] text b = omega arith
 begun (x ∷ xs) [] b = absurd (cc b)
 begun (x ∷ xs) (y ∷ ys) b =
     by-bool _ (x == y) (λ e. omega (arith, begun xs ys (rw e at b))) (λ e. absurd (cc (rw e at b)))
+
+pub begun-rest : (front text : List ℕ) → begins front text ≡ true
+    → (rest : List ℕ) × (text ≡ front ++ rest)
+begun-rest [] text b = (text, refl)
+begun-rest (x ∷ xs) [] b = absurd (cc b)
+begun-rest (x ∷ xs) (y ∷ ys) b =
+    by-bool _ (x == y)
+    (λ e.
+    let more = begun-rest xs ys (rw e at b) in
+    (more.0, rw (eqb-true x y e, ← more.1) refl))
+    (λ e. absurd (cc (rw e at b)))
 
 pub begins-trans : (f g t : List ℕ) → begins f g ≡ true → begins g t ≡ true → begins f t ≡ true
 begins-trans [] g t a b = refl

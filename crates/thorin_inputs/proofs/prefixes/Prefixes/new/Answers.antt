@@ -1,6 +1,6 @@
-use Rattle.std.proofs.Common.{add-one, arith, length, List, rules, take-suc, [], ℕ, ◌≡◌}
+use Rattle.std.proofs.Common.{add-one, arith, length, List, refl, rules, take-suc, [], ℕ, ◌≡◌}
+use Rattle.std.proofs.lemmas.List.{get_or_default, length_push}
 use Rattle.std.specs.Borrow.{Bor}
-use Rattle.thorin_inputs.specs.Mapped.{IsOrdered}
 use Rattle.thorin_inputs.proofs.{Best.passed, Best.put, Nested.nested-more, Nested.rising}
 use Rattle.thorin_inputs.proofs.prefixes.Prefixes.new.Goals as goal
 use Rattle.thorin_inputs.proofs.prefixes.Prefixes.new.Goals.{in-Some+in_ok-insert, in_default}
@@ -20,24 +20,40 @@ loop-word-preserved c =
           w.in_default.ensures)
     ])
 
+pub loop-place-init : goal.loop-place-init
+loop-place-init c = record {
+  ordered = search rules;
+  long = rw c.in_ok-inner.ensures.items refl;
+  nested = record { known = omega arith; past = λ i d lt. absurd (omega (arith, lt)) };
+}
+
 pub past_last-past-requires-clause-before : goal.past_last-past-requires-clause-before
 past_last-past-requires-clause-before c = λ k d lo hi.
-    let ordered : IsOrdered c.in_ok-last.last.items = search rules in
-    let h = c.index.ensures in
-    rw (c.deref.ensures.value, h)
-    (rising c.in_ok-last.last.items ordered k c.loop-place.place d (omega (arith, hi)) (omega arith))
+    let es = c.in_ok-last.last.items in
+    rw (
+      c.deref.ensures.value,
+      c.index.ensures,
+      get_or_default es k d c.index.result.now (omega (arith, hi, c.loop-place-test.true)),
+    )
+    (rising es c.loop-place.invariant.ordered k c.loop-place.place c.index.result.now
+    (omega (arith, hi)) (omega arith))
 
 pub loop-place-preserved : goal.loop-place-preserved
 loop-place-preserved c =
-    let h = c.index.ensures in
-    let past = rw (c.deref.ensures.value, h) at c.past_last-past.ensures in
-    let more = nested-more c.in_ok-last.last.items c.loop-place.inner.items c.loop-place.place
-    c.past_last-past.result (none, none) c.loop-place.invariant.1 c.loop-place.invariant.0
-    (omega arith) past in
-    ?
+    let past = rw (c.deref.ensures.value, c.index.ensures) at c.past_last-past.ensures in
+    let was = c.loop-place.invariant in
+    rw c.in_ok-push.ensures.items (record {
+      ordered = was.ordered;
+      long = omega (arith, was.long, length_push c.loop-place.inner.items c.past_last-past.result);
+      nested = nested-more c.in_ok-last.last.items c.loop-place.inner.items c.loop-place.place
+          c.past_last-past.result c.index.result.now was.nested was.long (omega arith) past;
+    })
+
+pub invariant_of-result-clause-ordered : goal.invariant_of-result-clause-ordered
+invariant_of-result-clause-ordered c = c.loop-place.invariant.ordered
 
 pub invariant_of-result-clause-nested : goal.invariant_of-result-clause-nested
 invariant_of-result-clause-nested c =
     let whole : c.loop-place.place ≡ length c.in_ok-last.last.items =
     omega (arith, c.loop-place-test.false, c.loop-place.auto.place-end, c.len-place-end.ensures) in
-    rw whole at c.loop-place.invariant.1
+    rw whole at c.loop-place.invariant.nested
