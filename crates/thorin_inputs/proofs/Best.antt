@@ -1,16 +1,18 @@
 -- The longest FROM that a path begins with: of words, as of entries in the order of their FROMs.
 use Rattle.std.proofs.Common.{◌≡◌, ◌∙◌, ◌+◌, ◌-◌, ◌<◌, ◌≤◌, ◌++◌, ℕ, suc, List, [], ◌∷◌, true}
-use Rattle.std.proofs.Common.{ap, arith, drop, false, length, length-drop, Ordering, refl, sym, take}
-use Rattle.std.specs.Prelude.{fold, is_some, nat_le, None, Option, slice_get, slice_index_or, Some}
-use Rattle.std.specs.Prelude.{⊤}
+use Rattle.std.proofs.Common.{ap, arith, drop, false, length, length-drop, Ordering, refl, sym}
+use Rattle.std.proofs.Common.{take}
+use Rattle.std.specs.Prelude.{fold, is_some, nat_le, nat_lt, None, Option, slice_get, Some, ⊤}
+use Rattle.std.specs.Prelude.{slice_index_or}
 use Rattle.std.specs.declared.cmp.Ordering.TheVariants.{Equal, Greater, Less}
-use Rattle.std.specs.{Borrow.Bor, BTreeMap.insert_entry, List.AllByRecursion, Map.keys_of}
+use Rattle.std.specs.{Borrow.Bor, BTreeMap.insert_entry, List.AllByRecursion, List.AllWithin}
+use Rattle.std.specs.Map.{keys_of}
 use Rattle.std.specs.List.Sorted.{IsStrictlySortedBy}
-use Rattle.std.proofs.lemmas.Bool.{le-leb}
+use Rattle.std.proofs.lemmas.Bool.{false_from_ne_true, le-leb, ltb-false, ltb-true}
 use Rattle.std.proofs.lemmas.Bool.Decides.{nat_tests}
 use Rattle.std.proofs.lemmas.Cmp.{nat_list_cmp_total, tied_itself}
 use Rattle.std.proofs.lemmas.List.{drop_more, get_or-drop, get_or-take, length-take-le}
-use Rattle.std.proofs.lemmas.List.{take-append-drop}
+use Rattle.std.proofs.lemmas.{List.Prefix.front_fits, List.take-append-drop}
 use Rattle.std.proofs.lemmas.{List.Sums.fold-append, Map.Lookups.exact_bytes}
 use Rattle.std.proofs.lemmas.Option.{get_or_from_slice_get}
 use Rattle.dwp_base.proofs.Bools.{by-bool}
@@ -154,16 +156,26 @@ module _ (path : List ℕ) where
       rw (missed e.1.now (behind e.0.now path) (h 0 e (omega arith)), longer-none best)
       (none-fits es best (λ k d lt. h (suc k) d (omega (arith, lt))))
 
-  module _ (es : Entries) (ordered : IsOrdered es) (place : ℕ)
-      (past : IsPastLast es (length es) path place) where
-    pub none : place ≡ 0 → fold With None es ≡ None
-    none first = none-fits es None (λ k d lt. past.others k d (omega (arith, first)) lt)
+  module _ (words : List (Bor (List ℕ))) (es : Entries) (are : AreOf words es)
+      (ordered : IsOrdered es) (count place : ℕ) (inside : count ≤ length es)
+      (above : AllWithin (λ e. is_upto e.0.now path ≡ false) es count (length es))
+      (past : IsPastLast es count path place) where
+    others : AllWithin (λ e. begins e.0.now path ≡ false) es place (length es)
+    others k d lo hi =
+        by-bool _ (nat_lt k count)
+        (λ b. past.others k d lo (ltb-true k count b))
+        (λ b. false_from_ne_true _ (λ front.
+        cc (sym (begins-upto (From es k d) path front) ∙ above k d (ltb-false k count b) hi)))
+
+    pub none : place ≡ 0 → None ≡ longest words path
+    none first = sym (are.alike path
+        ∙ none-fits es None (λ k d lt. others k d (omega (arith, first)) lt))
 
     pub last : (entry : Entry) (rest : List ℕ) → 0 < place → slice_get es (place - 1) ≡ Some entry
-        → behind entry.0.now path ≡ Some rest → fold With None es ≡ Some (entry.1.now, rest)
+        → behind entry.0.now path ≡ Some rest → Some (entry.1.now, rest) ≡ longest words path
     last entry rest some at fits =
         let own = get_or_from_slice_get es (place - 1) entry entry at in
-        let short : place - 1 < length es = omega (arith, some, past.inside) in
+        let short : place - 1 < length es = omega (arith, some, past.inside, inside) in
         let split = sym (take-append-drop (place - 1) es)
         ∙ ap (λ (l : Entries). take (place - 1) es ++ l)
         (rw own at (drop_more es (place - 1) entry short)) in
@@ -174,13 +186,13 @@ module _ (path : List ℕ) where
         let behind-last = drop (place - 1 + 1) es in
         let won = ap (λ (x : Option (List ℕ)). longer before (with_to entry.1.now x)) fits
         ∙ wins before (entry.1.now, rest) less in
-        ap (λ (l : Entries). fold With None l) split
+        sym (are.alike path ∙ ap (λ (l : Entries). fold With None l) split
         ∙ fold-append With None (take (place - 1) es) (entry ∷ behind-last)
         ∙ ap (λ (b : Replaced). fold With b behind-last) won
         ∙ none-fits behind-last (Some (entry.1.now, rest)) (λ k d lt.
         rw (get_or-drop (place - 1 + 1) es k d)
-        (past.others (place - 1 + 1 + k) d (omega (arith, some))
-        (omega (arith, lt, length-drop (place - 1 + 1) es, short))))
+        (others (place - 1 + 1 + k) d (omega (arith, some))
+        (omega (arith, lt, length-drop (place - 1 + 1) es, short)))))
       where
         shorter : (k : ℕ) (d : Entry) → k < place - 1
             → Leaves (length rest) (by_entry path (slice_index_or (take (place - 1) es) k d))
@@ -191,7 +203,7 @@ module _ (path : List ℕ) where
                 → Leaves (length rest) (with_to (slice_index_or es k d).1.now x)
             go None e = tt
             go (Some x) e =
-                let short : place - 1 < length es = omega (arith, lt, past.inside) in
+                let short : place - 1 < length es = omega (arith, lt, past.inside, inside) in
                 let own : From es (place - 1) d ≡ entry.0.now =
                 ap (λ (e : Entry). e.0.now) (get_or_from_slice_get es (place - 1) entry d at) in
                 let high : is_upto (From es k d) entry.0.now ≡ true =
@@ -204,7 +216,9 @@ module _ (path : List ℕ) where
                 ∙ length-drop (length (From es k d)) path in
                 let two = ap (λ (l : List ℕ). length l) b.2
                 ∙ length-drop (length entry.0.now) path in
-                omega (arith, one, two, a.0, b.0, begun (From es k d) entry.0.now front)
+                let more = begun (From es k d) entry.0.now front in
+                let few = front_fits entry.0.now (From es k d) more.0 more.1 in
+                omega (arith, one, two, a.0, b.0, few)
 
 -- ---- a word more
 

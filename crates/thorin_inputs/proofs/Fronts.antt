@@ -1,6 +1,6 @@
 -- Texts that others begin with, and the order of texts.
-use Rattle.std.proofs.Common.{◌≡◌, ◌∙◌, ◌<◌, ◌≤◌, ◌++◌, ℕ, zero, suc, List, [], ◌∷◌, true, refl, sym}
-use Rattle.std.proofs.Common.{ap, arith, drop, get_or, length, take}
+use Rattle.std.proofs.Common.{◌≡◌, ◌∙◌, ◌<◌, ◌≤◌, ◌++◌, ℕ, zero, suc, List, [], ◌∷◌, true, refl}
+use Rattle.std.proofs.Common.{ap, arith, drop, get_or, length, sym, take}
 use Rattle.std.specs.Prelude.{◌==◌, nat_le, Some}
 use Rattle.std.specs.{Cmp.Lexicographic.slice_cmp, declared.cmp.Ordering.TheVariants.Less}
 use Rattle.std.specs.Ordering.{is_le, nat_cmp}
@@ -23,22 +23,20 @@ behind-some (x ∷ xs) (y ∷ ys) rest h =
     (omega (arith, more.0), rw (eqb-true x y e, ← more.1) refl, more.2))
     (λ e. absurd (cc (rw e at h)))
 
+pub behind-prefix : (prefix rest : List ℕ) → behind prefix (prefix ++ rest) ≡ Some rest
+behind-prefix [] rest = refl
+behind-prefix (x ∷ xs) rest = rw (eq-eqb x x refl) (behind-prefix xs rest)
+
 -- ---- fronts
 
-pub begun : (front text : List ℕ) → begins front text ≡ true → length front ≤ length text
-begun [] text b = omega arith
+pub begun : (front text : List ℕ) → begins front text ≡ true
+    → (rest : List ℕ) × (text ≡ front ++ rest)
+begun [] text b = (text, refl)
 begun (x ∷ xs) [] b = absurd (cc b)
 begun (x ∷ xs) (y ∷ ys) b =
-    by-bool _ (x == y) (λ e. omega (arith, begun xs ys (rw e at b))) (λ e. absurd (cc (rw e at b)))
-
-pub begun-rest : (front text : List ℕ) → begins front text ≡ true
-    → (rest : List ℕ) × (text ≡ front ++ rest)
-begun-rest [] text b = (text, refl)
-begun-rest (x ∷ xs) [] b = absurd (cc b)
-begun-rest (x ∷ xs) (y ∷ ys) b =
     by-bool _ (x == y)
     (λ e.
-    let more = begun-rest xs ys (rw e at b) in
+    let more = begun xs ys (rw e at b) in
     (more.0, rw (eqb-true x y e, ← more.1) refl))
     (λ e. absurd (cc (rw e at b)))
 
@@ -46,12 +44,7 @@ pub begins-trans : (f g t : List ℕ) → begins f g ≡ true → begins g t ≡
 begins-trans [] g t a b = refl
 begins-trans (x ∷ f) [] t a b = absurd (cc a)
 begins-trans (x ∷ f) (y ∷ g) [] a b = absurd (cc b)
-begins-trans (x ∷ f) (y ∷ g) (z ∷ t) a b =
-    by-bool _ (x == y)
-    (λ e. by-bool _ (y == z)
-    (λ s. rw (eqb-true x y e, s) (begins-trans f g t (rw e at a) (rw s at b)))
-    (λ s. absurd (cc (rw s at b))))
-    (λ e. absurd (cc (rw e at a)))
+begins-trans (x ∷ f) (y ∷ g) (z ∷ t) a b = grind (arith, nat_tests, begins-trans f g t)
 
 pub begins-itself : (text : List ℕ) → begins text text ≡ true
 begins-itself [] = refl
@@ -104,8 +97,7 @@ upto-trans (x ∷ xs) (y ∷ ys) (z ∷ zs) a b = grind (arith, nat_tests, upto-
 pub begins-upto : (front text : List ℕ) → begins front text ≡ true → is_upto front text ≡ true
 begins-upto [] text b = refl
 begins-upto (x ∷ xs) [] b = absurd (cc b)
-begins-upto (x ∷ xs) (y ∷ ys) b =
-    by-bool _ (x == y) (λ e. rw e (begins-upto xs ys (rw e at b))) (λ e. absurd (cc (rw e at b)))
+begins-upto (x ∷ xs) (y ∷ ys) b = grind (arith, nat_tests, begins-upto xs ys)
 
 -- what stands between a text and a front of it begins with the front
 pub between : (front text other : List ℕ) → begins front text ≡ true → is_upto front other ≡ true
@@ -113,11 +105,4 @@ pub between : (front text other : List ℕ) → begins front text ≡ true → i
 between [] text other b x y = refl
 between (f ∷ fs) [] other b x y = absurd (cc b)
 between (f ∷ fs) (t ∷ ts) [] b x y = absurd (cc x)
-between (f ∷ fs) (t ∷ ts) (o ∷ os) b x y =
-    by-bool _ (f == t)
-    (λ e. by-bool _ (f == o)
-    (λ s.
-    let last : (o == t) ≡ true = rw (← eqb-true f o s) e in
-    rw s (between fs ts os (rw e at b) (rw s at x) (rw last at y)))
-    (λ s. absurd (grind (arith, nat_tests, eqb-true f t e, x, y))))
-    (λ e. absurd (cc (rw e at b)))
+between (f ∷ fs) (t ∷ ts) (o ∷ os) b x y = grind (arith, nat_tests, between fs ts os)

@@ -3,6 +3,5 @@ mod Fronts
 mod InnerPlaces
 mod Nested
 mod Noting
-mod Prefixing
 mod Sizes
 mod UsedSections

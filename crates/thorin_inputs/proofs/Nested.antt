@@ -13,7 +13,7 @@ use Rattle.dwp_base.proofs.Bools.{by-bool}
 use Rattle.thorin_inputs.specs.Mapped.{AreNested, begins, Entries, Entry, IsOrdered, IsPastLast}
 use Rattle.thorin_inputs.specs.Mapped.{is_upto}
 use Rattle.thorin_inputs.proofs.Fronts.{begins-itself, begins-trans, between, upto-itself}
-use Rattle.thorin_inputs.proofs.Fronts.{begins-upto, upto-less, upto-trans}
+use Rattle.thorin_inputs.proofs.Fronts.{upto-less, upto-trans}
 
 abbrev pub order : Bor (List ℕ) → Bor (List ℕ) → Ordering
 order x y = slice_cmp nat_cmp x.now y.now
@@ -73,20 +73,6 @@ pub record Walked (es : Entries) (count : ℕ) (text top : List ℕ) (place : �
   pub chain : AllWithin (λ e. begins e.0.now top ≡ true) es (place - 1) place
   pub others : AllWithin (λ e. begins e.0.now text ≡ false) es place count
 
--- none above the text is a front of it
-pub past-whole : (es : Entries) (count : ℕ) (text : List ℕ) (place : ℕ) → count ≤ length es
-    → AllWithin (λ e. is_upto e.0.now text ≡ false) es count (length es)
-    → IsPastLast es count text place → IsPastLast es (length es) text place
-past-whole es count text place short above past = record {
-  inside = omega (arith, past.inside, short);
-  fits = past.fits;
-  others = λ k d lo hi.
-      by-bool _ (nat_lt k count)
-      (λ b. past.others k d lo (ltb-true k count b))
-      (λ b. false_from_ne_true _ (λ front.
-      cc (sym (begins-upto (From es k d) text front) ∙ above k d (ltb-false k count b) hi)));
-}
-
 module _ (es : Entries) (count : ℕ) (text : List ℕ) (short : count ≤ length es) (last : Entry) where
   abbrev Top : List ℕ
   Top = From es (count - 1) last
@@ -104,7 +90,8 @@ module _ (es : Entries) (count : ℕ) (text : List ℕ) (short : count ≤ lengt
   }
 
   module _ (common : ℕ) (alike : (front : List ℕ) → begins front Top ≡ true
-      → begins front text ≡ nat_le (length front) common) (inner : List ℕ) (ordered : IsOrdered es) (nested : AreNested es inner count)
+      → begins front text ≡ nat_le (length front) common) (inner : List ℕ)
+      (ordered : IsOrdered es) (nested : AreNested es inner count)
       (before : AllWithin (λ e. is_upto e.0.now text ≡ true) es 0 count) (place : ℕ)
       (walked : Walked es count text Top place) (some : 0 < place)
       (long : common < length (From es (place - 1) last)) where

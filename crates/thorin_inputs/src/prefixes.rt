@@ -4,7 +4,8 @@
 ghost use Rattle.thorin_inputs.specs.Prefixes as spec;
 ghost use Rattle.std.specs.Prelude.{false, IfOk, MatchOption, nat_le, true, ◌≡◌, ◌≤◌};
 ghost use Rattle.std.specs.Prelude.{IfSome, length, List, string_bytes, ℕ};
-ghost use Rattle.std.specs.List.{AllWithin, Sorted.IsPartitionPoint, Sorted.IsStrictlySortedBy-prop};
+ghost use Rattle.std.specs.List.{AllWithin};
+ghost use Rattle.std.specs.List.Sorted.{IsPartitionPoint, IsStrictlySortedBy-prop};
 ghost use Rattle.thorin_inputs.specs.Mapped.{AreNested, AreOf, begins, IsOrdered, IsPastLast};
 ghost use Rattle.thorin_inputs.specs.{Given.StandsAt, Mapped.is_upto};
 
