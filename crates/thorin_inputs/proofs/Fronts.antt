@@ -1,8 +1,8 @@
 -- Texts that others begin with, and the order of texts.
 use Rattle.std.proofs.Common.{◌≡◌, ◌∙◌, ◌<◌, ◌≤◌, ◌++◌, ℕ, zero, suc, List, [], ◌∷◌, true, refl}
-use Rattle.std.proofs.Common.{ap, arith, drop, get_or, length, sym, take}
-use Rattle.std.specs.Prelude.{◌==◌, nat_le, Some}
-use Rattle.std.specs.{Cmp.Lexicographic.slice_cmp, declared.cmp.Ordering.TheVariants.Less}
+use Rattle.std.proofs.Common.{arith, drop, get_or, length, sym, take}
+use Rattle.std.specs.Prelude.{Bool, false, if◌then◌else◌, nat_le, nat_lt, Some, ◌==◌}
+use Rattle.std.specs.Cmp.Lexicographic.{slice_cmp}
 use Rattle.std.specs.Ordering.{is_le, nat_cmp}
 use Rattle.std.proofs.lemmas.Bool.{eq-eqb, eqb-true, le-leb, lt-leb}
 use Rattle.std.proofs.lemmas.Bool.Decides.{nat_tests}
@@ -76,33 +76,44 @@ alike (y ∷ ys) (z ∷ zs) (suc i) same la lb end (x ∷ xs) f =
 
 -- ---- the order of texts
 
-pub upto_cmp : (xs ys : List ℕ) → is_le (slice_cmp nat_cmp xs ys) ≡ is_upto xs ys
-upto_cmp xs ys = same_from_slice_cmp nat_cmp is_le is_upto refl (λ _ _. refl) (λ _ _. refl)
+-- byte by byte
+abbrev upto : List ℕ → List ℕ → Bool
+upto [] ys = true
+upto (x ∷ xs) [] = false
+upto (x ∷ xs) (y ∷ ys) = if x == y then upto xs ys else nat_lt x y
+
+same_upto : (xs ys : List ℕ) → is_upto xs ys ≡ upto xs ys
+same_upto xs ys = same_from_slice_cmp nat_cmp is_le upto refl (λ _ _. refl) (λ _ _. refl)
     (λ x y xs ys o h. grind (arith, nat_tests)) xs ys (slice_cmp nat_cmp xs ys) refl
 
-pub upto-less : (xs ys : List ℕ) → slice_cmp nat_cmp xs ys ≡ Less → is_upto xs ys ≡ true
-upto-less xs ys h = sym (upto_cmp xs ys) ∙ ap is_le h
-
-pub upto-itself : (xs : List ℕ) → is_upto xs xs ≡ true
-upto-itself [] = refl
-upto-itself (x ∷ xs) = rw (eq-eqb x x refl) (upto-itself xs)
+trans : (xs ys zs : List ℕ) → upto xs ys ≡ true → upto ys zs ≡ true → upto xs zs ≡ true
+trans [] ys zs a b = refl
+trans (x ∷ xs) [] zs a b = absurd (cc a)
+trans (x ∷ xs) (y ∷ ys) [] a b = absurd (cc b)
+trans (x ∷ xs) (y ∷ ys) (z ∷ zs) a b = grind (arith, nat_tests, trans xs ys zs)
 
 pub upto-trans : (xs ys zs : List ℕ) → is_upto xs ys ≡ true → is_upto ys zs ≡ true
     → is_upto xs zs ≡ true
-upto-trans [] ys zs a b = refl
-upto-trans (x ∷ xs) [] zs a b = absurd (cc a)
-upto-trans (x ∷ xs) (y ∷ ys) [] a b = absurd (cc b)
-upto-trans (x ∷ xs) (y ∷ ys) (z ∷ zs) a b = grind (arith, nat_tests, upto-trans xs ys zs)
+upto-trans xs ys zs a b =
+    same_upto xs zs ∙ trans xs ys zs (sym (same_upto xs ys) ∙ a) (sym (same_upto ys zs) ∙ b)
+
+first-upto : (front text : List ℕ) → begins front text ≡ true → upto front text ≡ true
+first-upto [] text b = refl
+first-upto (x ∷ xs) [] b = absurd (cc b)
+first-upto (x ∷ xs) (y ∷ ys) b = grind (arith, nat_tests, first-upto xs ys)
 
 pub begins-upto : (front text : List ℕ) → begins front text ≡ true → is_upto front text ≡ true
-begins-upto [] text b = refl
-begins-upto (x ∷ xs) [] b = absurd (cc b)
-begins-upto (x ∷ xs) (y ∷ ys) b = grind (arith, nat_tests, begins-upto xs ys)
+begins-upto front text b = same_upto front text ∙ first-upto front text b
 
 -- what stands between a text and a front of it begins with the front
+stands : (front text other : List ℕ) → begins front text ≡ true → upto front other ≡ true
+    → upto other text ≡ true → begins front other ≡ true
+stands [] text other b x y = refl
+stands (f ∷ fs) [] other b x y = absurd (cc b)
+stands (f ∷ fs) (t ∷ ts) [] b x y = absurd (cc x)
+stands (f ∷ fs) (t ∷ ts) (o ∷ os) b x y = grind (arith, nat_tests, stands fs ts os)
+
 pub between : (front text other : List ℕ) → begins front text ≡ true → is_upto front other ≡ true
     → is_upto other text ≡ true → begins front other ≡ true
-between [] text other b x y = refl
-between (f ∷ fs) [] other b x y = absurd (cc b)
-between (f ∷ fs) (t ∷ ts) [] b x y = absurd (cc x)
-between (f ∷ fs) (t ∷ ts) (o ∷ os) b x y = grind (arith, nat_tests, between fs ts os)
+between front text other b x y =
+    stands front text other b (sym (same_upto front other) ∙ x) (sym (same_upto other text) ∙ y)

@@ -3,7 +3,8 @@ use Rattle.std.proofs.Common.{◌≡◌, ◌∙◌, ◌+◌, ◌-◌, ◌<◌, �
 use Rattle.std.proofs.Common.{ap, arith, eqb, length, Ordering, sym}
 use Rattle.std.specs.Prelude.{nat_le, nat_lt, slice_index_or}
 use Rattle.std.specs.{Borrow.Bor, Cmp.Lexicographic.slice_cmp, List.AllWithin, Map.keys_of}
-use Rattle.std.specs.{List.Sorted.IsPartitionedBy, Ordering.nat_cmp}
+use Rattle.std.specs.{List.Sorted.IsPartitionedBy, Ordering.is_le, Ordering.nat_cmp}
+use Rattle.std.proofs.lemmas.Cmp.{nat_list_cmp_total, tied_itself}
 use Rattle.std.proofs.lemmas.Bool.{eqb-false, eqb-true, false_from_ne_true, lt-leb}
 use Rattle.std.proofs.lemmas.{Bool.ltb-false, Bool.ltb-true}
 use Rattle.std.proofs.lemmas.List.{get_or_append_left, get_or_default, get_or_push, get_or-map}
@@ -12,8 +13,7 @@ use Rattle.std.proofs.lemmas.Map.Keys.{Less-from_sorted}
 use Rattle.dwp_base.proofs.Bools.{by-bool}
 use Rattle.thorin_inputs.specs.Mapped.{AreNested, begins, Entries, Entry, IsOrdered, IsPastLast}
 use Rattle.thorin_inputs.specs.Mapped.{is_upto}
-use Rattle.thorin_inputs.proofs.Fronts.{begins-itself, begins-trans, between, upto-itself}
-use Rattle.thorin_inputs.proofs.Fronts.{upto-less, upto-trans}
+use Rattle.thorin_inputs.proofs.Fronts.{begins-itself, begins-trans, between, upto-trans}
 
 abbrev pub order : Bor (List ℕ) → Bor (List ℕ) → Ordering
 order x y = slice_cmp nat_cmp x.now y.now
@@ -25,13 +25,14 @@ pub rising : (es : Entries) → IsOrdered es → (i j : ℕ) (d : Entry) → i �
     → is_upto (From es i d) (From es j d) ≡ true
 rising es ordered i j d le lt =
     by-bool _ (eqb i j)
-    (λ same. rw (eqb-true i j same) (upto-itself (From es j d)))
+    (λ same.
+    rw (eqb-true i j same) (ap is_le (tied_itself nat_list_cmp_total (From es j d))))
     (λ apart.
     let other = eqb-false i j apart in
     let key = λ (k : ℕ) (less : k < length es). get_or-map (λ (e : Entry). e.0) es k d d.0 less in
     let less = Less-from_sorted order (keys_of es) i j d.0 ordered (omega (arith, le, other))
     (rw (length-map es (λ (e : Entry). e.0)) lt) in
-    upto-less (From es i d) (From es j d) (rw (key i (omega (arith, le, lt)), key j lt) at less))
+    ap is_le (rw (key i (omega (arith, le, lt)), key j lt) at less))
 
 pub parted : (es : Entries) → IsOrdered es → (text : List ℕ)
     → IsPartitionedBy (λ e. is_upto e.0.now text) es

@@ -1,12 +1,12 @@
 -- Words FROM=TO, looked up by their FROM.
-use Rattle.std.specs.Prelude.{◌≡◌, ℕ, ◌-◌, ◌<◌, ◌≤◌, List, [], ◌∷◌, fold, length, ◌==◌, nat_lt}
-use Rattle.std.specs.Prelude.{true, false, Bool, if◌then◌else◌, None, is_some, slice_index_or}
+use Rattle.std.specs.Prelude.{◌≡◌, ℕ, ◌-◌, ◌<◌, ◌≤◌, List, fold, length, true, false, Bool, None}
+use Rattle.std.specs.Prelude.{is_some, slice_index_or}
 use Rattle.std.specs.Borrow.{Bor}
 use Rattle.std.specs.Cmp.Lexicographic.{slice_cmp}
 use Rattle.std.specs.List.{AllWithin}
 use Rattle.std.specs.List.Sorted.{IsStrictlySortedBy}
 use Rattle.std.specs.Map.{keys_of}
-use Rattle.std.specs.Ordering.{nat_cmp}
+use Rattle.std.specs.Ordering.{is_le, nat_cmp}
 use Rattle.thorin_inputs.specs.Prefixes.{Replaced, behind, longer, longest, with_to}
 
 -- FROMs, and the TO of each
@@ -29,11 +29,9 @@ pub record AreOf (words : List (Bor (List ℕ))) (entries : Entries) : Type 0 wh
 abbrev pub IsOrdered : Entries → Type 0
 IsOrdered entries = IsStrictlySortedBy (λ x y. slice_cmp nat_cmp x.now y.now) (keys_of entries)
 
--- whether a text is no higher than another, byte by byte
+-- whether a text is no higher than another
 abbrev pub is_upto : List ℕ → List ℕ → Bool
-is_upto [] ys = true
-is_upto (x ∷ xs) [] = false
-is_upto (x ∷ xs) (y ∷ ys) = if x == y then is_upto xs ys else nat_lt x y
+is_upto xs ys = is_le (slice_cmp nat_cmp xs ys)
 
 -- whether a text begins with another
 abbrev pub begins : (front text : List ℕ) → Bool

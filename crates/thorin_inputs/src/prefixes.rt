@@ -123,15 +123,7 @@ fn count_upto(last: &[(&str, &str)], path: &str) -> usize
     ensures point { IsPartitionPoint (λ entry. is_upto entry.0.now path.now ≡ true)
         (λ entry. is_upto entry.0.now path.now ≡ false) last.now result }
 {
-    last.partition_point(|entry| is_upto(entry.0, path))
-}
-
-/// Whether a text is no higher than another.
-#[tactic(auto, using(crate::proofs::Fronts::upto_cmp))]
-fn is_upto(a: &str, b: &str) -> bool
-    ensures { result ≡ is_upto a.now b.now }
-{
-    a <= b
+    last.partition_point(|entry| entry.0 <= path)
 }
 
 /// The two sides of the first `=` of a word.
