@@ -1,8 +1,5 @@
 //! The units that executables refer to and that a package lacks.
 
-ghost use Rattle.std.specs.Prelude.{◌≡◌, ◌∷◌, [], drop, filter, MatchOption};
-ghost use Rattle.thorin_join.specs.Builder.{is_missing};
-
 use dwp_table::DwarfObject;
 use indexmap::IndexSet;
 
@@ -25,29 +22,14 @@ impl Iterator for MissingTargets<'_> {
     ghost remaining = { item_count missing_left };
 
     fn next(&mut self) -> Option<DwarfObject> {
-        let (target, next) = first_missing(self.contained, self.targets, self.next)?;
-        self.next = next;
-        Some(target)
-    }
-}
-
-/// The first unit from a place on that isn't contained, and the place after it.
-fn first_missing(
-    contained: &IndexSet<DwarfObject>,
-    targets: &IndexSet<DwarfObject>,
-    start: usize,
-) -> Option<(DwarfObject, usize)>
-    ensures { MatchOption result
-        (filter (is_missing contained.now.keys) (drop start targets.now.keys) ≡ []) (λ s.
-        filter (is_missing contained.now.keys) (drop start targets.now.keys)
-        ≡ s.0 ∷ filter (is_missing contained.now.keys) (drop s.1 targets.now.keys)) }
-{
-    for place in start..targets.len() {
-        if let Some(target) = targets.get_index(place) {
-            if !contained.contains(target) {
-                return Some((*target, place + 1));
+        for place in self.next..self.targets.len() {
+            if let Some(target) = self.targets.get_index(place) {
+                if !self.contained.contains(target) {
+                    self.next = place + 1;
+                    return Some(*target);
+                }
             }
         }
+        None
     }
-    None
 }

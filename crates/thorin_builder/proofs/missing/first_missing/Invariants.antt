@@ -1,8 +1,0 @@
-use Rattle.thorin_builder.proofs.Terms.{drop, filter, is_missing, ◌≡◌}
-use Rattle.thorin_builder.proofs.missing.first_missing.Given as goal
-
--- those that were passed over are contained
-abbrev pub invariant-loop-place : goal.invariant-loop-place
-invariant-loop-place l =
-    filter (is_missing l.contained.keys) (drop l.place l.targets.keys) ≡ filter
-    (is_missing l.contained.keys) (drop l.fn.start l.targets.keys)
