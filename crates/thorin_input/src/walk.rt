@@ -38,18 +38,6 @@ struct UsedSections<'a> {
         ≡ list_any (spec.has_kind kinds.TuIndex) (map view.used sections.items) },
 }
 
-/// The content of a section that is used: `DecompressData` where it is compressed, by its flag or
-/// by its name, `ObjectRead` where it is outside the file.
-#[tactic(auto, unfolding(crate::specs::Used::used_bytes, dwp_index::specs::Contents::used_bytes))]
-fn used_bytes<'a>(section: &Section<'a>, kind: SectionKind) -> Result<&'a [u8], Error>
-    ensures { Gives (λ bytes. bytes.now) result (spec.used_bytes kind (meaning section.now)) }
-{
-    if section.is_compressed() || section.has_older_name(kind) {
-        return Err(Error::DecompressData(ReadError::Compressed));
-    }
-    section.data().map_err(Error::ObjectRead)
-}
-
 impl<'a> UsedSections<'a> {
     /// Whether only the first section of a kind counts, and there was one.
     fn is_repeated(&self, kind: SectionKind) -> bool
@@ -64,8 +52,9 @@ impl<'a> UsedSections<'a> {
         }
     }
 
-    /// Adds a section, where it is used.
-    #[tactic(auto, using(crate::proofs::Walking::kinds_used))]
+    /// Adds a section, where it is used: `DecompressData` where it is compressed, by its flag or by
+    /// its name, `ObjectRead` where it is outside the file.
+    #[tactic(auto, using(crate::proofs::Walking::kinds_used), unfolding(crate::specs::Used::used_bytes, dwp_index::specs::Contents::used_bytes))]
     fn add(&mut self, section: &Section<'a>) -> Result<(), Error>
         ensures { Gives (λ _. map view.used self.new.sections.items) result
             (spec.with_used (map view.used self.old.sections.items) (meaning section.now)
@@ -80,7 +69,10 @@ impl<'a> UsedSections<'a> {
         if self.is_repeated(kind) {
             return Ok(());
         }
-        let bytes = used_bytes(section, kind)?;
+        if section.is_compressed() || section.has_older_name(kind) {
+            return Err(Error::DecompressData(ReadError::Compressed));
+        }
+        let bytes = section.data().map_err(Error::ObjectRead)?;
         self.sections.push(UsedSection {
             kind,
             bytes,
