@@ -316,7 +316,7 @@ impl<'output, 'session: 'output, Sess: Session<RelocationEntry>> DwarfPackage<
             named.entry.path.now taken.old.entries taken.new.entries) }
         ensures session { self.new.session ≡ self.old.session }
     {
-        self.add_bytes(bytes)?;
+        self.add_object_bytes(bytes)?;
         if !self.is_there(named.target) {
             if let Some(again) = self.again_of(bytes) {
                 remember(self.alloc, taken, named.path, again);

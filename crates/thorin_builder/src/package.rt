@@ -150,19 +150,8 @@ impl<'output, 'session: 'output, Sess: Session<RelocationEntry>> DwarfPackage<
     /// (`MultipleDebugInfoSection`, `MultipleDebugTypesSection`), `ParseUnitHeader`, what
     /// `dwo_identifier_of_unit` answers, `NotSplitUnit`, `DuplicateUnit`, `EmptyUnit`, and in a
     /// package `UnitNotInIndex`, `RowNotInIndex`, `BadContribution`, `SectionNotInRow`.
-    pub fn add_object_bytes(&mut self, bytes: &[u8]) -> Result<(), Error>
-        ensures meaning { Gives (λ _. self.new.state) result (spec.taken bytes.now self.old.state) }
-        ensures joins { OnOk result
-            (Joins bytes.now (units_in self.old.state) (units_in self.new.state)) }
-        ensures err { OnErr result (self.new.state ≡ self.old.state) }
-        ensures session { self.new.session ≡ self.old.session }
-    {
-        self.add_bytes(bytes)
-    }
-
-    /// Adds an object or a finished package. What the package had is kept.
     #[tactic(auto, unfolding(thorin_join::specs::Builder::taken))]
-    pub(crate) fn add_bytes(&mut self, bytes: &[u8]) -> Result<(), Error>
+    pub fn add_object_bytes(&mut self, bytes: &[u8]) -> Result<(), Error>
         ensures meaning { Gives (λ _. self.new.state) result (spec.taken bytes.now self.old.state) }
         ensures joins { OnOk result
             (Joins bytes.now (units_in self.old.state) (units_in self.new.state)) }
