@@ -111,14 +111,14 @@ place_of chains {left} here all is =
     let r = rw here at (all left) in (r, one_answer _ r.is is)
 
 -- what a version has for a code is the place of its first declaration
-pub first_is : (section : Input) (chains : Chains) (offset size code first : ℕ) (place : Place)
-    → size ≡ length section.bytes → offset ≤ size
-    → get nat_cmp chains.places (size - offset) ≡ Some place
+pub first_is : (section : Input) (chains : Chains) (offset size left code first : ℕ) (place : Place)
+    → size ≡ length section.bytes → offset ≤ size → left ≡ size - offset
+    → get nat_cmp chains.places left ≡ Some place
     → value_in chains.firsts.nodes.items place.version code ≡ Some first
     → RemembersChains section chains → FirstAt section offset code first
-first_is section chains offset size code first place is fits here some all =
-    let p = rw here at (all.places (size - offset)) in
-    let same : length section.bytes - (size - offset) ≡ offset = omega (arith, is) in
+first_is section chains offset size left code first place is fits rest here some all =
+    let p = rw here at (all.places left) in
+    let same : length section.bytes - left ≡ offset = omega (arith, is, rest) in
     let declared : DeclaredAt section first (declaration code p.table) = rw some at (p.same code) in
     record {
       table = p.table;

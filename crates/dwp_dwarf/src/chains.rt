@@ -139,11 +139,8 @@ impl Chains {
         ensures { IfSome result (λ first. RemembersChains (R.input section) self.now
             → FirstAt (R.input section) offset code first) }
     {
-        let length = section.len() as u64;
-        if length < offset {
-            return None;
-        }
-        let place = self.place_of(length - offset)?;
+        let left = (section.len() as u64).checked_sub(offset)?;
+        let place = self.place_of(left)?;
         let first = u64::from(self.firsts.get(place.version, code)?);
         let lists = &self.lists.by_key;
         let listed = self.lists.listed.saturating_add(lists.len());
