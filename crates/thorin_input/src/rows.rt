@@ -32,8 +32,6 @@ pub struct Whole {
     /// The row; its identifier says nothing, and it has no range of info or types.
     pub row: IndexEntry,
     ghost fits: { EndsFit row },
-    ghost no_info: { row.debug_info ≡ None },
-    ghost no_types: { row.debug_types ≡ None },
 }
 
 /// Where the whole of a section that units share comes to lie once parts are put; None for any
