@@ -239,12 +239,9 @@ pub look_up : (code : ℕ) (i : Input) → declaration code i ≡ (next_at i >>=
 unfolding declaration
 look_up code i = by_step (look_up_steps code) i
 
-pub look_up-end : (code : ℕ) (i : Input) → next_at i ≡ Ok None → declaration code i ≡ Ok None
-look_up-end code i h = rw (look_up code i, h) refl
-
-pub look_up-error : (code : ℕ) (i : Input) (e : ReadError) → next_at i ≡ Err e
-    → declaration code i ≡ Err e
-look_up-error code i e h = rw (look_up code i, h) refl
+pub look_up-by : (code : ℕ) (i : Input) {r : Result (Option Next) ReadError} → next_at i ≡ r
+    → declaration code i ≡ (r >>= chosen code (declaration code))
+look_up-by code i h = rw (look_up code i, h) refl
 
 pub look_up-here : (i : Input) (x : Next) → next_at i ≡ Ok (Some x)
     → declaration x.0.0 i ≡ Ok (Some x.0.1)
@@ -272,8 +269,8 @@ none_before code i = record { others = []; lie = refl; other = tt }
 by_next : (n : ℕ) (code : ℕ) (i : Input) (r : Result (Option Next) ReadError) → next_at i ≡ r
     → size i < n → SaidBehind code i (declaration code i)
 by_next zero code i r h fits = absurd (omega arith)
-by_next (suc n) code i (Ok None) h fits = rw (look_up-end code i h) (i, none_before code i, h)
-by_next (suc n) code i (Err e) h fits = rw (look_up-error code i e h) (i, none_before code i, h)
+by_next (suc n) code i (Ok None) h fits = rw (look_up-by code i h) (i, none_before code i, h)
+by_next (suc n) code i (Err e) h fits = rw (look_up-by code i h) (i, none_before code i, h)
 by_next (suc n) code i (Ok (Some x)) h fits = by-bool (SaidBehind code i (declaration code i))
     (eqb x.0.0 code)
     (λ here. subst (λ (c : ℕ). SaidBehind c i (declaration c i)) (eqb-true _ _ here)
@@ -297,8 +294,8 @@ passed_over code (d ∷ ds) i rest lie other = look_up-other code i (d, lie.0) l
 
 says : (code : ℕ) (rest : Input) (said : Found) → IsSaid code rest said
     → declaration code rest ≡ said
-says code rest (Ok None) h = look_up-end code rest h
-says code rest (Err e) h = look_up-error code rest e h
+says code rest (Ok None) h = look_up-by code rest h
+says code rest (Err e) h = look_up-by code rest h
 says code rest (Ok (Some d)) h = look_up-here rest ((code, d), h.0) h.1
 
 -- what a look-up finds is the first declaration of the code, or that there is none

@@ -1,6 +1,6 @@
 use Rattle.dwp_dwarf.proofs.Terms.{length, refl, sym, ◌∙◌}
 use Rattle.dwp_dwarf.proofs.Places.{place_end, place_next}
-use Rattle.dwp_dwarf.proofs.Tables.{look_up-end, look_up-error}
+use Rattle.dwp_dwarf.proofs.Tables.{look_up-by}
 use Rattle.dwp_dwarf.proofs.chains.Chains.place_at.Goals as goal
 
 pub returns-in_ok-version-in-Ok-Some-clause-place :
@@ -17,9 +17,9 @@ returns-in_ok-version-in-Ok-Some-clause-place g c = λ section all is.
 pub returns-in-Ok-None-clause-place : goal.returns-in-Ok-None-clause-place
 returns-in-Ok-None-clause-place g c = λ section all is.
     let end = rw c.in-Ok-None.field-0-is at c.in-Ok-None.ensures in
-    place_end is (λ code. look_up-end code _ end) (λ x h. cc) refl
+    place_end is (λ code. look_up-by code _ end) (λ x h. cc) refl
 
 pub returns-in-Err-clause-place : goal.returns-in-Err-clause-place
 returns-in-Err-clause-place g c = λ section all is.
     let error = c.in-Err.ensures in
-    place_end is (λ code. look_up-error code _ _ error) (λ x h. cc) refl
+    place_end is (λ code. look_up-by code _ error) (λ x h. cc) refl
