@@ -33,33 +33,27 @@ pub extends-refl : (p : InProgress) → Extends p p
 extends-refl p = let file = is_grown-refl p.file in
     assumption (file, take-length p.strings, take-length p.rows, take-length p.differing)
 
--- a file that grew, and more strings and signatures
-pub grown-extends : {p : InProgress} {f : File} {strings : List (List ℕ)} {differing : List ℕ}
-    → ((before : File) → IsGrown before p.file → IsGrown before f) → take
-    (length p.strings) strings ≡ p.strings → take (length p.differing) differing ≡ p.differing
-    → Extends p (record p { file = f; strings = strings; differing = differing })
-grown-extends {p = p} grown kept more =
-    let file = grown p.file (is_grown-refl p.file) in
-    let rows = take-length p.rows in assumption
-
 -- what keeps those before it keeps those before them
 still-kept : {A : Type 0} (old now new : List A) → take (length old) now ≡ old
     → take (length now) new ≡ now → take (length old) new ≡ old
 still-kept old now new first second =
     grind (arith, length-take (length old) now, take-take (length old) (length now) new)
 
--- the same of what lost nothing of an earlier one
-pub still-extends : {before p : InProgress} {f : File} {differing : List ℕ} → Extends before p
-    → ((b : File) → IsGrown b p.file → IsGrown b f)
+-- a file that grew, and more strings and signatures
+pub still-extends : {before p : InProgress} {f : File} {strings : List (List ℕ)}
+    {differing : List ℕ} → Extends before p → ((b : File) → IsGrown b p.file → IsGrown b f)
+    → take (length p.strings) strings ≡ p.strings
     → take (length p.differing) differing ≡ p.differing
-    → Extends before (record p { file = f; differing = differing })
-still-extends {before = before} {p = p} {differing = differing} h grown more =
-    let kept = still-kept before.differing p.differing differing h.differing more in
-    assumption (grown before.file h.file, kept)
+    → Extends before (record p { file = f; strings = strings; differing = differing })
+still-extends {before} {p} {f} {strings} {differing} h grown kept more =
+    let texts = still-kept before.strings p.strings strings h.strings kept in
+    let types = still-kept before.differing p.differing differing h.differing more in
+    assumption (grown before.file h.file, texts, types)
 
 pub strings-extend : {p : InProgress} {strings : List (List ℕ)}
     → take (length p.strings) strings ≡ p.strings → Extends p (record p { strings = strings })
-strings-extend {p = p} kept = grown-extends (λ before h. h) kept (take-length p.differing)
+strings-extend {p = p} kept =
+    still-extends (extends-refl p) (λ b h. h) kept (take-length p.differing)
 
 -- the steps of an input
 pub with_source-is : (source : Source) (p : InProgress) (parts : Contents
