@@ -97,20 +97,17 @@ unmet_behind : (format : Format) (before : SplitAttributes) (a : DebugAttribute)
 unmet_behind format before a = grind arith
 
 -- an attribute that isn't the first of its name counts for nothing
-passed_over : (format : Format) (before : SplitAttributes) (a : DebugAttribute)
-    → place_of format a ≡ None → is_unmet (unmet_of before) a.name ≡ false
-    → with_attribute format before a ≡ before
+passed_over : (format : Format) (before : SplitAttributes) (a : DebugAttribute) → place_of format a
+    ≡ None → is_unmet (unmet_of before) a.name ≡ false → with_attribute format before a ≡ before
 passed_over format before a none known = grind (arith, none, known)
 
 -- what is found is found among those that are needed
 after_needed : (format : Format) (encoding : Encoding) (before : SplitAttributes)
-    (ss : List Specification) (i : Input)
-    → after format before (attributes encoding (needed (unmet_of before) ss) i)
-    ≡ after format before (attributes encoding ss i)
+    (ss : List Specification) (i : Input) → after format before (attributes encoding
+    (needed (unmet_of before) ss) i) ≡ after format before (attributes encoding ss i)
 after_needed format encoding before [] i = refl
 after_needed format encoding before (s ∷ ss) i = by-bool _ (is_needed (unmet_of before) s)
-    (λ some. rw some (by-result _ (attribute_at encoding s i)
-    (λ x is.
+    (λ some. rw some (by-result _ (attribute_at encoding s i) (λ x is.
     let name = ((attribute_lies encoding s i).gives x is).name in
     let first = after_first format before x.0 in
     let rest = attributes encoding (needed (met (unmet_of before) s.name) ss) x.1 in
@@ -119,8 +116,7 @@ after_needed format encoding before (s ∷ ss) i = by-bool _ (is_needed (unmet_o
     rw (← name, ← unmet_behind format before x.0)
     (after_needed format encoding (with_attribute format before x.0) ss x.1) in
     rw is (first rest ∙ same ∙ sym (first (attributes encoding ss x.1))))
-    (λ e is. rw is refl)))
-    (λ none. let needless = neither (has_bytes s) _ none in
+    (λ e is. rw is refl))) (λ none. let needless = neither (has_bytes s) _ none in
     let is = is_empty encoding s i needless.0 in
     let same = passed_over format before (empty s i) (is.placeless format) needless.1 in
     let unmet : met (unmet_of before) s.name ≡ unmet_of before =

@@ -99,10 +99,9 @@ added_has levels nodes added key b some now less = one_level levels nodes added 
 
 -- where the node is alike but for a value or for a side
 others_by : (levels : ℕ) (old new : List Node) (version added other : ℕ) (b copy : Node)
-    → levels ≢ 0 → copy ≡ copy_of old version → node_of new added ≡ Some b
-    → side_of b other < added → (other ≡ 0 → b.value ≡ copy.value)
-    → (other ≢ 0 → value_below (levels - 1) new (side_of b other) (half other)
-    ≡ value_below (levels - 1) old (side_of copy other) (half other))
+    → levels ≢ 0 → copy ≡ copy_of old version → node_of new added ≡ Some b → side_of b other < added
+    → (other ≡ 0 → b.value ≡ copy.value) → (other ≢ 0 → value_below (levels - 1) new
+    (side_of b other) (half other) ≡ value_below (levels - 1) old (side_of copy other) (half other))
     → value_below levels new added other ≡ value_below levels old version other
 others_by levels old new version added other b copy some is now less values sides =
     let here = added_has levels new added other b some now less in
@@ -150,15 +149,13 @@ module _ {old mid new : List Node} (levels version added low key : ℕ) (copy : 
       let stays = value_stays (levels - 1) (half key) behind fits in
       grind (arith, side_with copy key low key, here, stays)
 
-  pub others_beside : ((k : ℕ) → k ≢ half key
-      → value_below (levels - 1) mid low k ≡ value_below (levels - 1) old (side_of copy key) k)
-      → (other : ℕ) → other ≢ key
-      → value_below levels new added other ≡ value_below levels old version other
+  pub others_beside : ((k : ℕ) → k ≢ half key → value_below (levels - 1) mid low k
+      ≡ value_below (levels - 1) old (side_of copy key) k) → (other : ℕ)
+      → other ≢ key → value_below levels new added other ≡ value_below levels old version other
   others_beside same other apart =
       let fits_copy = rw (← copied) at (copy_within old version other) in
-      let by = others_by levels old new version added other (with_side copy key low) copy some
-      copied
-      now in
+      let by =
+      others_by levels old new version added other (with_side copy key low) copy some copied now in
       let value = value_with copy key low in
       let up = value_stays (levels - 1) (half other) behind fits in
       let stays = value_stays (levels - 1) (half other) (grows_then before behind) fits_copy in

@@ -40,8 +40,7 @@ ends_here section i left x is h = λ d stands.
       omega (arith, next_shorter i x h),
       λ n enough. let m : ℕ = n + length x.1.bytes - length i.bytes in
           look_up-here (front n i) (x.0, front m x.1)
-          (takes_front (next_takes i x h) n m (omega (arith, enough)))
-          ∙ sym (look_up-here i x h),
+          (takes_front (next_takes i x h) n m (omega (arith, enough))) ∙ sym (look_up-here i x h),
     )
 
 -- of another code, by the table behind the declaration at a place
@@ -53,33 +52,29 @@ ends_further section i wanted first x h apart inside = λ d stands.
       λ n enough. let m : ℕ = n + length x.1.bytes - length i.bytes in
           look_up-other wanted (front n i) (x.0, front m x.1)
           (takes_front (next_takes i x h) n m (omega (arith, enough, ends.0))) apart
-          ∙ ends.1 m (omega (arith, enough, ends.0))
-          ∙ sym (look_up-other wanted i x h apart),
+          ∙ ends.1 m (omega (arith, enough, ends.0)) ∙ sym (look_up-other wanted i x h apart),
     )
 
 -- a declaration that ends within the first bytes of a section is there too
-pub same_within : (section part whole : Input) (offset end left code : ℕ)
-    → length section.bytes ≤ left + end → StaysBefore whole code left
-    → from_at offset (front end section) ≡ Ok part → from_at offset section ≡ Ok whole
-    → declaration code part ≡ declaration code whole
+pub same_within : (section part whole : Input) (offset end left code : ℕ) → length section.bytes
+    ≤ left + end → StaysBefore whole code left → from_at offset (front end section) ≡ Ok part
+    → from_at offset section ≡ Ok whole → declaration code part ≡ declaration code whole
 same_within section part whole offset end left code fits ends p w =
     let first = from_is offset (front end section) part p in
     let all = from_is offset section whole w in
     let way : offset + (end - offset) ≡ end =
     omega (arith, first.0, length-take end section.bytes) in
     let cut = rw way at (drop-take offset (end - offset) section.bytes) in
-    let is : part ≡ front (end - offset) whole = first.1
-    ∙ ap (λ (l : List ℕ). record (after offset section) { bytes = l }) cut
-    ∙ ap (front (end - offset)) (sym all.1) in
+    let is : part ≡ front (end - offset) whole = first.1 ∙ ap (λ (l : List ℕ).
+    record (after offset section) { bytes = l }) cut ∙ ap (front (end - offset)) (sym all.1) in
     let size : length whole.bytes ≡ length section.bytes - offset =
     rw all.1 (length-drop offset section.bytes) in
     ap (declaration code) is ∙ ends (end - offset) (omega (arith, size, way, fits))
 
 -- ---- nodes and places that stay
 
-pub place_stays : {section : Input} {nodes grown : List Node} {left : ℕ} {place : Place}
-    → Grows nodes grown → RemembersPlace section nodes left place
-    → RemembersPlace section grown left place
+pub place_stays : {section : Input} {nodes grown : List Node} {left : ℕ} {place : Place} → Grows
+    nodes grown → RemembersPlace section nodes left place → RemembersPlace section grown left place
 place_stays {nodes = nodes} {grown = grown} {place = place} g r =
     let first : (code : ℕ) → value_in grown place.version code ≡ value_in nodes place.version code =
     λ code. value_stays 65 code g r.fits in
@@ -102,20 +97,17 @@ places_stay section old new same g r = λ left. rw same (IfSome_then (get nat_cm
 -- ---- what is remembered is said
 
 -- what is remembered of a place is remembered of the table that begins there
-place_of : {section table : Input} (chains : Chains) {left : ℕ} {place : Place}
-    → get nat_cmp chains.places left ≡ Some place → RemembersPlaces section chains
-    → from_end left section ≡ Ok table
-    → (r : RemembersPlace section chains.firsts.nodes.items left place)
-    × (r.table ≡ table)
+place_of : {section table : Input} (chains : Chains) {left : ℕ} {place : Place} → get nat_cmp
+    chains.places left ≡ Some place → RemembersPlaces section chains → from_end left section ≡
+    Ok table → (r : RemembersPlace section chains.firsts.nodes.items left place) × (r.table ≡ table)
 place_of chains {left} here all is =
     let r = rw here at (all left) in (r, one_answer _ r.is is)
 
 -- what a version has for a code is the place of its first declaration
 pub first_is : (section : Input) (chains : Chains) (offset size left code first : ℕ) (place : Place)
     → size ≡ length section.bytes → offset ≤ size → left ≡ size - offset
-    → get nat_cmp chains.places left ≡ Some place
-    → value_in chains.firsts.nodes.items place.version code ≡ Some first
-    → RemembersChains section chains → FirstAt section offset code first
+    → get nat_cmp chains.places left ≡ Some place → value_in chains.firsts.nodes.items place.version
+    code ≡ Some first → RemembersChains section chains → FirstAt section offset code first
 first_is section chains offset size left code first place is fits rest here some all =
     let p = rw here at (all.places left) in
     let same : length section.bytes - left ≡ offset = omega (arith, is, rest) in
@@ -140,18 +132,15 @@ end_is section table chains left code first place declared here some there all i
     let inside = rw some at (p.0.ends code) in
     let end : declared.behind ≡ length stands.behind.bytes =
     q.0.behind ((stands.code, said.declared), stands.behind) (rw q.1 stands.next) in
-    rw end (subst (λ (t : Input). EndsBefore t code (length stands.behind.bytes)) p.1 (
-      (said.declared, said.says),
-      (inside said.declared stands).1,
-    ))
+    rw end (subst (λ (t : Input). EndsBefore t code (length stands.behind.bytes))
+    p.1 ((said.declared, said.says), (inside said.declared stands).1))
 
 -- ---- a place that is remembered now
 
 -- where no declaration stands
-pub place_end : {section i : Input} {nodes : List Node} {left : ℕ} {place : Place}
-    → from_end left section ≡ Ok i → ((code : ℕ) → declaration code i ≡ absent_by place.error)
-    → ((x : Next) → next_at i ≡ Ok (Some x) → ⊥) → place.version ≡ 0
-    → RemembersPlace section nodes left place
+pub place_end : {section i : Input} {nodes : List Node} {left : ℕ} {place : Place} → from_end
+    left section ≡ Ok i → ((code : ℕ) → declaration code i ≡ absent_by place.error) → ((x : Next)
+    → next_at i ≡ Ok (Some x) → ⊥) → place.version ≡ 0 → RemembersPlace section nodes left place
 place_end {i = i} {nodes = nodes} is absent never zero = record {
   table = i;
   is = is;
@@ -163,13 +152,12 @@ place_end {i = i} {nodes = nodes} is absent never zero = record {
 
 -- at a declaration
 pub place_next : {section i behind : Input} {nodes grown : List Node} {left code : ℕ}
-    {declared : Declaration} {next place : Place} → from_end left section ≡ Ok i
-    → next_at i ≡ Ok (Some ((code, declared), behind))
-    → RemembersPlace section nodes (length behind.bytes) next → place.error ≡ next.error
-    → place.behind ≡ length behind.bytes → place.version ≤ length grown
-    → value_in grown place.version code ≡ Some left
-    → ((other : ℕ) → other ≢ code → value_in grown place.version other ≡ value_in nodes
-    next.version other) → RemembersPlace section grown left place
+    {declared : Declaration} {next place : Place} → from_end left section ≡ Ok i → next_at i
+    ≡ Ok (Some ((code, declared), behind)) → RemembersPlace section nodes (length behind.bytes) next
+    → place.error ≡ next.error → place.behind ≡ length behind.bytes
+    → place.version ≤ length grown → value_in grown place.version code ≡ Some left → ((other : ℕ)
+    → other ≢ code → value_in grown place.version other ≡ value_in nodes next.version other)
+    → RemembersPlace section grown left place
 place_next {section} {i} {behind} {nodes} {grown} {left} {code} {declared} {next} {place}
     is h r error end fits here others =
     let x : Next = ((code, declared), behind) in
@@ -178,18 +166,15 @@ place_next {section} {i} {behind} {nodes} {grown} {left} {code} {declared} {next
       table = i;
       is = is;
       fits = fits;
-      same = λ c. by_key code c
-          (λ e. rw (e, here) (record {
-            declared = declared;
-            stands = record { start = i; is = is; code = code; behind = behind; next = h };
-            says = look_up-here i x h;
-          }))
-          (λ apart. rw (others c apart, error, look_up-other c i x h (λ e. apart (sym e)))
+      same = λ c. by_key code c (λ e. rw (e, here) (record {
+        declared = declared;
+        stands = record { start = i; is = is; code = code; behind = behind; next = h };
+        says = look_up-here i x h;
+      })) (λ apart. rw (others c apart, error, look_up-other c i x h (λ e. apart (sym e)))
           (rw table at (r.same c)));
-      ends = λ c. by_key code c (λ e. rw (e, here) (ends_here section i left x is h))
-          (λ apart. rw (others c apart) (IfSome_then (value_in nodes next.version c) (r.ends c)
-          (λ first inside. ends_further section i c first x h (λ e. apart (sym e))
-          (rw table at inside))));
+      ends = λ c. by_key code c (λ e. rw (e, here) (ends_here section i left x is h)) (λ apart. rw
+          (others c apart) (IfSome_then (value_in nodes next.version c) (r.ends c) (λ first inside.
+          ends_further section i c first x h (λ e. apart (sym e)) (rw table at inside))));
       behind = λ y same. let one = one_answer (next_at i) same h in
           let is : y ≡ x = cc in rw (end, is) refl;
     }

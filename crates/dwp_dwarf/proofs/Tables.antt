@@ -103,10 +103,9 @@ pairs_are : (n : ℕ) (i : Input)
     → Gives (List Specification × Input) (specifications_within n i) (λ p. pairs_within n i ≡ p.0)
 unfolding specifications_within pairs_within
 pairs_are zero i = error_gives
-pairs_are (suc n) i = then_gives (was (specification_at i)) (λ first is. test_gives
-    (is_last first.0) (λ last. value_gives (rw (is, last) refl))
-    (λ other. then_gives (pairs_are n first.1) (λ rest same.
-    value_gives (rw (is, other, same) refl))))
+pairs_are (suc n) i = then_gives (was (specification_at i))
+    (λ first is. test_gives (is_last first.0) (λ last. value_gives (rw (is, last) refl)) (λ other.
+    then_gives (pairs_are n first.1) (λ rest same. value_gives (rw (is, other, same) refl))))
 
 pub list_pairs : (i : Input)
     → Gives (List Specification × Input) (specifications_at i) (λ p. pairs_in i ≡ p.0)
@@ -125,14 +124,11 @@ list_takes : (n : ℕ) (i : Input) → size i < n → Gives (List Specification 
     (specifications_at i) (λ x. Takes 1 i x.1 (λ j k. specifications_at j ≡ Ok (x.0, k)))
 list_takes zero i less = absurd (omega arith)
 list_takes (suc n) i less = rw (specifications_cases i) (then_gives (reads_specification.reads i)
-    (λ first t. test_gives (is_last first.0)
-    (λ last. value_gives (record {
+    (λ first t. test_gives (is_last first.0) (λ last. value_gives (record {
       goes = t.goes;
       anyway = λ j rest. specifications_cases _ ∙ rw (t.anyway j rest, last) refl;
-    }))
-    (λ other. then_gives (list_takes n first.1 (omega (arith, goes_length t.goes)))
-    (λ others u. value_gives (takes_then t u
-    (λ a b c p q. specifications_cases a ∙ rw (p, other, q) refl))))))
+    })) (λ other. then_gives (list_takes n first.1 (omega (arith, goes_length t.goes))) (λ others u.
+    value_gives (takes_then t u (λ a b c p q. specifications_cases a ∙ rw (p, other, q) refl))))))
 
 reads_within : (n : ℕ) → Reads 1 (List Specification) (specifications_within n)
 unfolding specifications_within
@@ -228,9 +224,8 @@ unfolding declaration_within next_at code_at
 look_up_steps wanted = record {
   none = λ others i e. rw e refl;
   next = λ n i. simp (bind-bind, bind-cond);
-  alike = λ f g i same. bind_alike (next_at i) (chosen wanted f) (chosen wanted g)
-      (λ o e. chosen_alike wanted f g o (λ x is. same x.1 (next_shorter i x (e ∙ ap (λ p. Ok p)
-      is))));
+  alike = λ f g i same. bind_alike (next_at i) (chosen wanted f) (chosen wanted g) (λ o e.
+      chosen_alike wanted f g o (λ x is. same x.1 (next_shorter i x (e ∙ ap (λ p. Ok p) is))));
 }
 
 -- it goes by the next declaration
@@ -272,10 +267,8 @@ by_next zero code i r h fits = absurd (omega arith)
 by_next (suc n) code i (Ok None) h fits = rw (look_up-by code i h) (i, none_before code i, h)
 by_next (suc n) code i (Err e) h fits = rw (look_up-by code i h) (i, none_before code i, h)
 by_next (suc n) code i (Ok (Some x)) h fits = by-bool (SaidBehind code i (declaration code i))
-    (eqb x.0.0 code)
-    (λ here. subst (λ (c : ℕ). SaidBehind c i (declaration c i)) (eqb-true _ _ here)
-    (rw (look_up-here i x h) (i, none_before x.0.0 i, (x.1, h))))
-    (λ apart.
+    (eqb x.0.0 code) (λ here. subst (λ (c : ℕ). SaidBehind c i (declaration c i))
+    (eqb-true _ _ here) (rw (look_up-here i x h) (i, none_before x.0.0 i, (x.1, h)))) (λ apart.
     let less = next_shorter i x h in
     let behind = by_next n code x.1 (next_at x.1) refl (omega arith) in
     let others : IsBehindOthers code i behind.0 = record {
@@ -315,10 +308,9 @@ unfolding declaration_within code_at
 within_anywhere zero wanted i j same = refl
 within_anywhere (suc n) wanted i j same = by-bool _ (eqb (length i.bytes) 0)
     (λ none. rw (ap (λ bytes. eqb (length bytes) 0) same ∙ none, none) refl)
-    (λ some. rw (ap (λ bytes. eqb (length bytes) 0) same ∙ some, some)
-    (told_there reads_uleb _ (λ code k l e. ap (cond (eqb code 0) (Ok None))
-    (told_there reads_declaration _ (λ d v w f. ap (cond (eqb code wanted) (Ok (Some d)))
-    (within_anywhere n wanted v w f)) k l e)) i j same))
+    (λ some. rw (ap (λ bytes. eqb (length bytes) 0) same ∙ some, some) (told_there reads_uleb _
+    (λ code k l e. ap (cond (eqb code 0) (Ok None)) (told_there reads_declaration _ (λ d v w f.
+    ap (cond (eqb code wanted) (Ok (Some d))) (within_anywhere n wanted v w f)) k l e)) i j same))
 
 -- tables of the same bytes declare the same
 pub declared_anywhere : (wanted : ℕ) (i j : Input) → i.bytes ≡ j.bytes

@@ -60,11 +60,9 @@ named_gives : (n form : ℕ) (i : Input)
 unfolding named_within
 named_gives zero form i = test_gives (eqb form 0x16) (λ _. error_gives)
     (λ _. value_gives (own_form form i))
-named_gives (suc n) form i = test_gives (eqb form 0x16)
-    (λ indirect. then_gives (goes reads_uleb i) (λ x p. test_gives (eqb x.0 0x21)
-    (λ _. error_gives)
-    (λ _. more_gives (named_gives n x.0 x.1) (λ y q.
-    (goes_some (goes_then p q.0), λ own. absurd (own (eqb-true _ _ indirect)))))))
+named_gives (suc n) form i = test_gives (eqb form 0x16) (λ indirect. then_gives (goes reads_uleb i)
+    (λ x p. test_gives (eqb x.0 0x21) (λ _. error_gives) (λ _. more_gives (named_gives n x.0 x.1)
+    (λ y q. (goes_some (goes_then p q.0), λ own. absurd (own (eqb-true _ _ indirect)))))))
     (λ _. value_gives (own_form form i))
 
 pub named_form_gives : (form : ℕ) (i : Input)

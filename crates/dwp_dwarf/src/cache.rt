@@ -187,9 +187,8 @@ impl<R: Reader> AbbreviationCache<R> {
         ensures declared { result ≡ true → (whole : Input)
             → from_at offset (R.input self.old) ≡ Ok whole → IsDeclared code whole }
         ensures same { result ≡ true → (part whole : Input)
-            → from_at offset (front end (R.input self.old)) ≡ Ok part
-            → from_at offset (R.input self.old) ≡ Ok whole
-            → declaration code part ≡ declaration code whole }
+            → from_at offset (front end (R.input self.old)) ≡ Ok part → from_at offset
+            (R.input self.old) ≡ Ok whole → declaration code part ≡ declaration code whole }
         ensures kept { self.new ≡ self.old }
     {
         let Some(left) = self.chains.left_behind(self.section, offset, code) else {

@@ -114,9 +114,8 @@ impl Chains {
     /// Remembers the table at an offset of the section, and says how many bytes are left there.
     /// None where there is none, or as much was taken as may be.
     fn learn_table<R: Reader>(&mut self, section: R, offset: u64) -> Option<u64>
-        ensures left { IfSome result (λ left. (table : Input)
-            → from_at offset (R.input section) ≡ Ok table
-            → from_end left (R.input section) ≡ Ok table) }
+        ensures left { IfSome result (λ left. (table : Input) → from_at offset (R.input section)
+            ≡ Ok table → from_end left (R.input section) ≡ Ok table) }
         ensures places { RemembersPlaces (R.input section) self.old
             → RemembersPlaces (R.input section) self.new }
         ensures lists { self.new.lists ≡ self.old.lists }

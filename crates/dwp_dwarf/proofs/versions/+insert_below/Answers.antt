@@ -16,20 +16,16 @@ returns-then-key-eq0-clause-others t c = if_both c.add.result (λ added above no
     c.add.ensures.above c.add.ensures.node
 
 pub returns-clause-value : goal.returns-clause-value
-returns-clause-value t c = if_both c.add-2.result (λ added above now.
-    value_beside _ c.args.version added _ _ c.copy_of-node.result c.if-levels-eq0.false
-    c.if-key-eq0.false
+returns-clause-value t c = if_both c.add-2.result (λ added above now. value_beside
+    _ c.args.version added _ _ c.copy_of-node.result c.if-levels-eq0.false c.if-key-eq0.false
     (rw c.deref.ensures.value at c.copy_of-node.ensures) c.insert_below.ensures.grows
-    c.add-2.ensures.grows c.in_ok-side.ensures.fits above
-    (rw c.with_side.ensures at now) (rw c.half.ensures at c.in_ok-side.ensures.value))
-    c.add-2.ensures.above c.add-2.ensures.node
+    c.add-2.ensures.grows c.in_ok-side.ensures.fits above (rw c.with_side.ensures at now)
+    (rw c.half.ensures at c.in_ok-side.ensures.value)) c.add-2.ensures.above c.add-2.ensures.node
 
 pub returns-clause-others : goal.returns-clause-others
-returns-clause-others t c = if_both c.add-2.result (λ added above now.
-    others_beside _ c.args.version added _ _ c.copy_of-node.result c.if-levels-eq0.false
-    c.if-key-eq0.false
-    (rw c.deref.ensures.value at c.copy_of-node.ensures) c.insert_below.ensures.grows
-    c.add-2.ensures.grows c.in_ok-side.ensures.fits above
-    (rw c.with_side.ensures at now) (λ k apart. rw c.side.ensures at
-    (c.in_ok-side.ensures.others k (λ e. apart (e ∙ c.half.ensures)))))
-    c.add-2.ensures.above c.add-2.ensures.node
+returns-clause-others t c = if_both c.add-2.result
+    (λ added above now. others_beside _ c.args.version added _ _ c.copy_of-node.result
+    c.if-levels-eq0.false c.if-key-eq0.false (rw c.deref.ensures.value at c.copy_of-node.ensures)
+    c.insert_below.ensures.grows c.add-2.ensures.grows c.in_ok-side.ensures.fits above
+    (rw c.with_side.ensures at now) (λ k apart. rw c.side.ensures at (c.in_ok-side.ensures.others k
+    (λ e. apart (e ∙ c.half.ensures))))) c.add-2.ensures.above c.add-2.ensures.node

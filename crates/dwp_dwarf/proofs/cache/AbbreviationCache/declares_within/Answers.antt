@@ -10,8 +10,7 @@ returns-clause-same g c = λ yes part whole is_part is_whole.
     let fits : length (g.R.Reader.input c.args.self.now).bytes ≤ c.in-Some.left + c.args.end =
     omega (arith, leb-true _ _ yes, c.len.ensures, c.saturating_add.ensures, size) in
     same_within _ part whole c.args.offset c.args.end _ _ fits
-    (c.in-Some.ensures.ends c.self.invariant whole (rw (sym same) at is_whole)).1
-    is_part is_whole
+    (c.in-Some.ensures.ends c.self.invariant whole (rw (sym same) at is_whole)).1 is_part is_whole
 
 pub returns-clause-declared : goal.returns-clause-declared
 returns-clause-declared g c = λ yes whole is_whole.

@@ -8,11 +8,10 @@ pub returns-in_ok-version-in-Ok-Some-clause-place :
 returns-in_ok-version-in-Ok-Some-clause-place g c = λ section all is.
     let e = rw c.len-rest.ensures at c.in_ok-next-in-Ok-Some.ensures in
     let left = length (g.R.Reader.input c.in-Ok-Some.behind).bytes in
-    place_next is (rw c.in-Ok-Some.field-0-is at c.in-Ok-Some.ensures) (rw (sym e) at (all left))
-    refl (c.in_ok-behind-in-Ok-Some.ensures ∙ c.len-rest.ensures)
-    c.in_ok-version-in-Ok-Some.ensures.fits
-    (rw c.in_ok-first-in-Ok-Some.ensures at c.in_ok-version-in-Ok-Some.ensures.value)
-    c.in_ok-version-in-Ok-Some.ensures.others
+    place_next is (rw c.in-Ok-Some.field-0-is at c.in-Ok-Some.ensures)
+    (rw (sym e) at (all left)) refl (c.in_ok-behind-in-Ok-Some.ensures ∙ c.len-rest.ensures)
+    c.in_ok-version-in-Ok-Some.ensures.fits (rw c.in_ok-first-in-Ok-Some.ensures
+    at c.in_ok-version-in-Ok-Some.ensures.value) c.in_ok-version-in-Ok-Some.ensures.others
 
 pub returns-in-Ok-None-clause-place : goal.returns-in-Ok-None-clause-place
 returns-in-Ok-None-clause-place g c = λ section all is.
