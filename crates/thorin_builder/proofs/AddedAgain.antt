@@ -24,12 +24,11 @@ later-refl made = record {
 }
 
 later-trans : (a b c : InProgress) → IsLater a b → IsLater b c → IsLater a c
-later-trans a b c h k =
-    grind (
-      rules,
-      kept_more a.strings b.strings c.strings,
-      append_assoc (held_units a) h.more k.more,
-    )
+later-trans a b c h k = grind (
+  rules,
+  kept_more a.strings b.strings c.strings,
+  append_assoc (held_units a) h.more k.more,
+)
 
 -- a package with what is remembered more
 abbrev pub with_again : UnitlessInput → InProgress → InProgress
@@ -98,9 +97,8 @@ module _ (offer : Offer) where
 
   -- and with one more
   taken-more : (es : List (String Global × UnitlessInput)) (begun : Option InProgress)
-      (key : String Global) (again : UnitlessInput)
-      → AreTaken offer es begun → IsTaken (offer (string_bytes key)) again begun
-      → AreTaken offer (insert_entry string_eq es key again) begun
+      (key : String Global) (again : UnitlessInput) → AreTaken offer es begun → IsTaken (offer
+      (string_bytes key)) again begun → AreTaken offer (insert_entry string_eq es key again) begun
   taken-more [] begun key again k one = (one, tt)
   taken-more (e ∷ es) begun key again k one =
       let same = (bytes_eq-Decides (string_bytes key) (string_bytes e.0)).0 in
@@ -111,9 +109,8 @@ module _ (offer : Offer) where
       × UnitlessInput)) (begun : Option InProgress) (path bytes : List ℕ) → offer path (Ok bytes)
       → AreTaken offer old begun → Remembers bytes begun path old new → AreTaken offer new begun
   taken-remembered old new begun path bytes may k (inl same) = rw same k
-  taken-remembered old new begun path bytes may k (inr (key, again, at, adds, is)) =
-      rw is (taken-more old begun key again k
-      (record { bytes = bytes; may = rw at may; adds = adds }))
+  taken-remembered old new begun path bytes may k (inr (key, again, at, adds, is)) = rw is
+      (taken-more old begun key again k (record { bytes = bytes; may = rw at may; adds = adds }))
 
 -- what is kept beside the package
 pub taken-as : (bytes : List ℕ) (old : State) (now : Option InProgress)

@@ -42,9 +42,8 @@ still-kept old now new first second =
 -- a file that grew, and more strings and signatures
 pub still-extends : {before p : InProgress} {f : File} {strings : List (List ℕ)}
     {differing : List ℕ} → Extends before p → ((b : File) → IsGrown b p.file → IsGrown b f)
-    → take (length p.strings) strings ≡ p.strings
-    → take (length p.differing) differing ≡ p.differing
-    → Extends before (record p { file = f; strings = strings; differing = differing })
+    → take (length p.strings) strings ≡ p.strings → take (length p.differing) differing
+    ≡ p.differing → Extends before (record p { file = f; strings = strings; differing = differing })
 still-extends {before} {p} {f} {strings} {differing} h grown kept more =
     let texts = still-kept before.strings p.strings strings h.strings kept in
     let types = still-kept before.differing p.differing differing h.differing more in
@@ -56,13 +55,11 @@ strings-extend {p = p} kept =
     still-extends (extends-refl p) (λ b h. h) kept (take-length p.differing)
 
 -- the steps of an input
-pub with_source-is : (source : Source) (p : InProgress) (parts : Contents
-    × List (List ℕ)) (new : New) → parts_of source p.strings ≡ Ok parts
-    → source.object.has_abbreviations ≡ true → new_units (adding source p parts.0) ≡ Ok new
-    → with_source source p ≡ Ok (with_all p parts new)
+pub with_source-is : (source : Source) (p : InProgress) (parts : Contents × List (List ℕ))
+    (new : New) → parts_of source p.strings ≡ Ok parts → source.object.has_abbreviations ≡ true →
+    new_units (adding source p parts.0) ≡ Ok new → with_source source p ≡ Ok (with_all p parts new)
 unfolding with_source abbreviations_test
-with_source-is source p parts new hp ha hn =
-    rw (hp, hn, ha) refl
+with_source-is source p parts new hp ha hn = rw (hp, hn, ha) refl
 
 -- what follows of two facts of a value
 pub on_ok-both : {T E : Type 0} (r : Result T E) (P Q R : Type 0) → OnOk r P → OnOk r Q

@@ -146,9 +146,8 @@ module _ (source : Source) (whole other : IndexEntry) (held more : List (DwarfOb
   read-alone from (Ok unit) before = named-alone from unit before (name_for source from.kind unit)
   read-alone from (Err error) before = tt
 
-  each-alone : (from : Used) (reads : List (Result Header ReadError)) (before : New)
-      → Alone (λ new. new) before (with_each_read here from before reads)
-      (with_each_read there from before reads)
+  each-alone : (from : Used) (reads : List (Result Header ReadError)) (before : New) → Alone (λ new.
+      new) before (with_each_read here from before reads) (with_each_read there from before reads)
   unfolding with_each_read
   each-alone from [] before = grind rules
   each-alone from (read ∷ rest) before =
@@ -161,16 +160,12 @@ module _ (source : Source) (whole other : IndexEntry) (held more : List (DwarfOb
   section-alone from place before =
       grind (rules, λ (reads : List (Result Header ReadError)). each-alone from reads before.1)
 
-  sections-alone : (sections : List Used) (before : SeenSections × New)
-      → Alone (λ at. at.1) before.1 (with_each_section here before sections)
-      (with_each_section there before sections)
+  sections-alone : (sections : List Used) (before : SeenSections × New) → Alone (λ at. at.1)
+      before.1 (with_each_section here before sections) (with_each_section there before sections)
   unfolding with_each_section with_section
   sections-alone [] before = grind rules
-  sections-alone (from ∷ others) before = grind (
-    rules,
-    section-alone from (unit_section from.kind) before,
-    sections-alone others,
-  )
+  sections-alone (from ∷ others) before =
+      grind (rules, section-alone from (unit_section from.kind) before, sections-alone others)
 
   -- where an input adds no unit, it adds the same to a package that has more units, wherever its
   -- parts come to lie

@@ -51,12 +51,9 @@ module _ (offer : Offer) (missing : MissingReferencedObjectBehaviour) (all : Lis
       are = rw (append_assoc so_far.done (n ∷ []) rest.0) (whole (n ∷ rest.0, rest.1) first);
       goes_on = λ others error outcome last later end.
           rw (append_assoc so_far.done (n ∷ []) others, append_assoc so_far.before here later)
-          (so_far.goes_on (n ∷ others) error outcome last (here ++ later) (
-            record { middle = new; here = here; later = later },
-            Ok tt,
-            took,
-            (end, refl),
-          ));
+          (so_far.goes_on (n ∷ others) error outcome last (here ++
+          later) (record { middle = new; here = here; later = later }, Ok tt, took, (end, refl))
+          );
     }
 
     -- the list ends so; where memory ran out, these are the first of it
@@ -71,12 +68,11 @@ module _ (offer : Offer) (missing : MissingReferencedObjectBehaviour) (all : Lis
         named = so_far.done ++ rest;
         error = error;
         are = λ other. sym (whole (rest, error) (is other));
-        front = ap (λ (l : Listed). take (length (so_far.done ++ rest)) l.0) (sym so_far.are)
-            ∙ rw (
-              length-append so_far.done rest,
-              take-append-add so_far.done left.0 (length rest),
-              front,
-            ) refl;
+        front = ap (λ (l : Listed). take (length (so_far.done ++ rest)) l.0) (sym so_far.are) ∙ rw (
+          length-append so_far.done rest,
+          take-append-add so_far.done left.0 (length rest),
+          front,
+        ) refl;
         taken = so_far.goes_on rest error outcome new here took;
       },
     )
@@ -86,10 +82,9 @@ module _ (offer : Offer) (missing : MissingReferencedObjectBehaviour) (all : Lis
         (here : List (List ℕ))
         → left ≡ (n ∷ rest.0, rest.1) → TakesSkeleton offer missing n middle (came (Err e) new here)
         → (accepted : List (List ℕ)) × TakesNamed offer missing all old (came (Err e) new accepted)
-    next-refused rest n new e here first took =
-        ends (n ∷ rest.0) rest.1 (Err e) new here (λ other. first)
-        (ap (λ (l : Listed). take (length (n ∷ rest.0)) l.0) first ∙ take-length (n ∷ rest.0))
-        (record { middle = new; here = here; later = [] }, Err e, took, (refl, refl, refl))
+    next-refused rest n new e here first took = ends (n ∷ rest.0) rest.1 (Err e) new here (λ other.
+        first) (ap (λ (l : Listed). take (length (n ∷ rest.0)) l.0) first ∙ take-length (n ∷
+        rest.0)) (record { middle = new; here = here; later = [] }, Err e, took, (refl, refl, refl))
 
     -- the object of one is declined
     pub next-declined : {D : Type 0} {declines : Bool → List ℕ → D

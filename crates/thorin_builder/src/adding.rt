@@ -21,8 +21,7 @@ use thorin_input::{Indexes, InputObject, Source, Walked, opened};
 /// An input with its encoding and its indexes, for a package of this byte order.
 #[tactic(auto, unfolding(thorin_join::specs::Builder::source_for, thorin_join::specs::Builder::order_test))]
 pub(crate) fn source_for<'a>(held: Endianness, object: InputObject<'a>) -> Result<Source<'a>, Error>
-    ensures meaning { Gives view.source result
-        (spec.source_for held (view.object object.entry)) }
+    ensures meaning { Gives view.source result (spec.source_for held (view.object object.entry)) }
     ensures object { IfOk result (λ source.
         (view.source source).object ≡ view.object object.entry) }
     ensures encoding { IfOk result (λ source.

@@ -224,8 +224,7 @@ impl<'output, 'session: 'output, Sess: Session<RelocationEntry>> DwarfPackage<
         ensures taken { (accepted : List (List ℕ)) × TakesSkeleton (R.offer reader.now) missing
             (named.entry.target, named.entry.path.now) self.old.state
             (came (outcome_of result) self.new.state accepted) }
-        ensures declined { OnDeclined result
-            (R.declines reader.now false named.entry.path.now) }
+        ensures declined { OnDeclined result (R.declines reader.now false named.entry.path.now) }
         ensures unread { IsUnread (R.offer reader.now named.entry.path.now) missing
             known.new.is_unread }
         ensures known { OnOk result (AreTaken (R.offer reader.now) known.new.taken.entries
@@ -277,8 +276,7 @@ impl<'output, 'session: 'output, Sess: Session<RelocationEntry>> DwarfPackage<
             self.old.state.begun }
         ensures taken { TakesReferredFile (R.offer reader.now named.entry.path.now) missing
             self.old.state (outcome_of result) self.new.state }
-        ensures declined { OnDeclined result
-            (R.declines reader.now false named.entry.path.now) }
+        ensures declined { OnDeclined result (R.declines reader.now false named.entry.path.now) }
         ensures unread { IsUnread (R.offer reader.now named.entry.path.now) missing
             known.new.is_unread }
         ensures known { OnOk result (AreTaken (R.offer reader.now) known.new.taken.entries
@@ -310,8 +308,7 @@ impl<'output, 'session: 'output, Sess: Session<RelocationEntry>> DwarfPackage<
         taken: &mut IndexMap<String, UnitlessInput>,
     ) -> Result<(), Error>
         ensures takes { Takes bytes.now self.old.state result self.new.state }
-        ensures later { OnOk result
-            (IsLaterBegun self.old.state.begun self.new.state.begun) }
+        ensures later { OnOk result (IsLaterBegun self.old.state.begun self.new.state.begun) }
         ensures remembers { OnOk result (Remembers bytes.now self.new.state.begun
             named.entry.path.now taken.old.entries taken.new.entries) }
         ensures session { self.new.session ≡ self.old.session }

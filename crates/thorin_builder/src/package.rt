@@ -156,8 +156,7 @@ impl<'output, 'session: 'output, Sess: Session<RelocationEntry>> DwarfPackage<
         ensures joins { OnOk result
             (Joins bytes.now (units_in self.old.state) (units_in self.new.state)) }
         ensures err { OnErr result (self.new.state ≡ self.old.state) }
-        ensures later { OnOk result
-            (IsLaterBegun self.old.state.begun self.new.state.begun) }
+        ensures later { OnOk result (IsLaterBegun self.old.state.begun self.new.state.begun) }
         ensures session { self.new.session ≡ self.old.session }
     {
         let is_first = self.in_progress.is_none();
@@ -181,8 +180,7 @@ impl<'output, 'session: 'output, Sess: Session<RelocationEntry>> DwarfPackage<
         requires known { (bytes : List ℕ) × AddsAgainTo bytes again.now self.old.state.begun }
         ensures takes { (bytes : List ℕ) → AddsAgainTo bytes again.now self.old.state.begun
             → Takes bytes self.old.state result self.new.state }
-        ensures later { OnOk result
-            (IsLaterBegun self.old.state.begun self.new.state.begun) }
+        ensures later { OnOk result (IsLaterBegun self.old.state.begun self.new.state.begun) }
         ensures session { self.new.session ≡ self.old.session }
     {
         inputs_are_joined();
@@ -197,8 +195,7 @@ impl<'output, 'session: 'output, Sess: Session<RelocationEntry>> DwarfPackage<
     /// can't be told. The package stays as it is.
     pub(crate) fn again_of(&mut self, bytes: &[u8]) -> Option<UnitlessInput>
         ensures state { self.new.state ≡ self.old.state }
-        ensures again { IfSome result (λ again.
-            AddsAgainTo bytes.now again self.old.state.begun) }
+        ensures again { IfSome result (λ again. AddsAgainTo bytes.now again self.old.state.begun) }
         ensures session { self.new.session ≡ self.old.session }
     {
         match &mut self.in_progress {
@@ -353,11 +350,8 @@ fn finished_begun(
         (spec.targets_test (spec.names_in (begun_of in_progress)) targets.now.keys) }
     ensures refusal { (own : Option OwnEncoding) → Gives (λ _. tt) result.0 (spec.finish_test
         (record { begun = begun_of in_progress; targets = targets.now.keys; own = own })) }
-    ensures finished { (own : Option OwnEncoding) → IfOk result.0 (IsFinishedState (record {
-      begun = begun_of in_progress;
-      targets = targets.now.keys;
-      own = own;
-    })) }
+    ensures finished { (own : Option OwnEncoding) → IfOk result.0 (IsFinishedState
+        (record { begun = begun_of in_progress; targets = targets.now.keys; own = own })) }
     ensures differing { map (λ s. s.0) result.1.items
         ≡ spec.differing_begun (begun_of in_progress) }
 {

@@ -47,9 +47,8 @@ impl UnitlessInput {
 /// Adds parts to the contents of a package, in order. It refuses for memory alone.
 #[tactic(auto, unfolding(thorin_input::specs::Parts::with_parts))]
 fn put_each(file: &mut WritableObject, parts: &[Part<'_>]) -> Result<(), Error>
-    ensures contents { OnOk result (file.new ≡ record file.old {
-      contents = with_parts (map view.part parts.now) file.old.contents;
-    }) }
+    ensures contents { OnOk result (file.new ≡
+        record file.old { contents = with_parts (map view.part parts.now) file.old.contents }) }
     ensures refused { IfErr result (λ e. e ≡ Error.Memory) }
     ensures grown { (before : Object) → IsGrown before file.old → IsGrown before file.new }
 {

@@ -138,10 +138,8 @@ impl InProgressDwarfPackage {
     /// leave more than there was.
     fn add_all(&mut self, parts: Vec<Part<'_>>, new: &NewUnits<'_>) -> Result<(), Error>
         ensures meaning { OnOk result (in_progress_of self.new
-            ≡ spec.with_all (in_progress_of self.old) (
-              map view.part parts.entry.items,
-              (in_progress_of self.old).strings,
-            ) (new_of new.now)) }
+            ≡ spec.with_all (in_progress_of self.old)
+            (map view.part parts.entry.items, (in_progress_of self.old).strings) (new_of new.now)) }
         ensures refused { IfErr result (λ e. e ≡ Error.Memory) }
         ensures extends { (before : spec.InProgress) → spec.Extends before (in_progress_of self.old)
             → spec.Extends before (in_progress_of self.new) }
@@ -176,9 +174,8 @@ impl InProgressDwarfPackage {
         place: UnitSection,
         bytes: &[u8],
     ) -> Result<(), Error>
-        ensures meaning { OnOk result (in_progress_of self.new
-            ≡ spec.with_new_unit (in_progress_of self.old)
-            (row.id, record { place = place; bytes = bytes.now; row = row })) }
+        ensures meaning { OnOk result (in_progress_of self.new ≡ spec.with_new_unit (in_progress_of
+            self.old) (row.id, record { place = place; bytes = bytes.now; row = row })) }
         ensures refused { IfErr result (λ e. e ≡ Error.Memory) }
         ensures extends { (before : spec.InProgress) → spec.Extends before (in_progress_of self.old)
             → spec.Extends before (in_progress_of self.new) }
@@ -268,12 +265,8 @@ pub(crate) fn finished(
 ) -> Result<WritableObject, Error>
     ensures refusal { (differing : List ℕ) → Gives (λ _. tt) result (indexes_test
         (record { file = object; strings = strings; rows = rows.now; differing = differing })) }
-    ensures finished { (differing : List ℕ) → IfOk result (IsFinished (record {
-      file = object;
-      strings = strings;
-      rows = rows.now;
-      differing = differing;
-    })) }
+    ensures finished { (differing : List ℕ) → IfOk result (IsFinished
+        (record { file = object; strings = strings; rows = rows.now; differing = differing })) }
     ensures identifiers { OnOk result (IdentifiersFit rows.now) }
 {
     let order = object.endianness();

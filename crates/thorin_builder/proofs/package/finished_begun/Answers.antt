@@ -16,9 +16,8 @@ pub returns-after-tested-clause-finished : goal.returns-after-tested-clause-fini
 returns-after-tested-clause-finished c own = elim c.match-tested.branch [
   | goal.in-Ok w ↦
       let held = c.in-Some.«package» in
-      rw w.file-is (of-state w.finished-file.result _ (in_progress_of held)
-      (rw c.in-Some.is refl) (w.finished-file.ensures.finished
-      (map (λ (s : DebugTypeSignature). s.0) held.differing.items))
-      w.finished-file.ensures.identifiers)
+      rw w.file-is (of-state w.finished-file.result _
+      (in_progress_of held) (rw c.in-Some.is refl) (w.finished-file.ensures.finished (map
+      (λ (s : DebugTypeSignature). s.0) held.differing.items)) w.finished-file.ensures.identifiers)
   | goal.in-Err w ↦ rw w.file-is tt
 ]

@@ -14,10 +14,9 @@ returns-in_err-extend_from_slice-clause-extends c before h =
     (still-extends h c.put_parts.ensures.grown (take-length _) (take-length _))
 
 pub returns-clause-extends : goal.returns-clause-extends
-returns-clause-extends c before h =
-    c.append_units.ensures.extends before (still-extends h c.put_parts.ensures.grown (take-length _)
-    (signatures-kept c.args.self.now.differing.items c.args.new.now.differing.items
-    c.extend_from_slice.new.self.items
+returns-clause-extends c before h = c.append_units.ensures.extends before (still-extends
+    h c.put_parts.ensures.grown (take-length _) (signatures-kept c.args.self.now.differing.items
+    c.args.new.now.differing.items c.extend_from_slice.new.self.items
     (search (rules, c.in_ok-extend_from_slice.ensures.items, c.deref.ensures))))
 
 pub returns-clause-meaning : goal.returns-clause-meaning

@@ -34,17 +34,15 @@ returns-then-not-with_units-clause-found c =
     })
 
 -- an input that adds no unit adds the same to each package that this one becomes
-source-again : (source : Source) (again : UnitlessInput) (made later : InProgress)
-    → AddsNoUnit source again made → IsLater made later
-    → with_source source later ≡ Ok (with_again again later)
+source-again : (source : Source) (again : UnitlessInput) (made later : InProgress) → AddsNoUnit
+    source again made → IsLater made later → with_source source later ≡ Ok (with_again again later)
 unfolding with_all with_new_units
 source-again source again made later h k =
     let parts = map view.part again.parts.items in
     let new : New = record { units = []; differing = map (λ s. s.0) again.differing.items } in
     with_source-is source later (parts, later.strings) new
     (parts-later source made.strings later.strings (parts, made.strings) h.parts k.strings)
-    h.abbreviations
-    (rw k.held (units-later source _ _ (held_units made) k.more new h.units refl))
+    h.abbreviations (rw k.held (units-later source _ _ (held_units made) k.more new h.units refl))
 
 -- units keep their bytes, since no part of an input is of a section of units
 held-apart : (source : Source) (strings : List (List ℕ)) (parts : Contents)
@@ -52,14 +50,12 @@ held-apart : (source : Source) (strings : List (List ℕ)) (parts : Contents)
     → held_units (with_more parts [] made) ≡ held_units made
 held-apart source strings parts h made =
     let c = made.file.contents in
-    let stays : (row : IndexEntry) → unit_bytes (with_parts parts c) row ≡ unit_bytes c row =
-    λ row.
+    let stays : (row : IndexEntry) → unit_bytes (with_parts parts c) row ≡ unit_bytes c row = λ row.
     let place = place_of row.id row.debug_types in
     let none = parts-none source strings parts strings h (kind_of place)
     (not-shared place).0 (not-shared place).2 in
-    ap (λ l. part_of l (contribution_to (kind_of place) row))
-    (content-with_parts (kind_of place) parts c
-    ∙ rw none (append-nil (content_of (kind_of place) c))) in
+    ap (λ l. part_of l (contribution_to (kind_of place) row)) (content-with_parts
+    (kind_of place) parts c ∙ rw none (append-nil (content_of (kind_of place) c))) in
     λ i. map {B = DwarfObject × List ℕ} (λ row. (row.id, stays row i)) made.rows
 
 pub returns-clause-found : goal.returns-clause-found
@@ -69,8 +65,7 @@ returns-clause-found c =
     let source = view.source c.in_ok-source.source in
     let given = c.in_ok-file.ensures in
     let units = sym c.over-with_units.ensures.units ∙ c.if-not-with_units.false in
-    let object : input_file_of (elf c.in_ok-file.file) ≡ Ok source.object =
-    search (
+    let object : input_file_of (elf c.in_ok-file.file) ≡ Ok source.object = search (
       rules,
       c.over-with_units.ensures.input,
       c.in_ok-object.was,
@@ -79,8 +74,7 @@ returns-clause-found c =
     in
     let encoding : encoding_of source.object ≡ Ok source.encoding =
     c.in_ok-source.ensures.encoding in
-    let read : source_for made.file.order source.object ≡ Ok source =
-    search (
+    let read : source_for made.file.order source.object ≡ Ok source = search (
       rules,
       c.endianness.ensures,
       c.in_ok-source.ensures.object,

@@ -18,7 +18,6 @@ returns c before h m =
     let strings = c.truncate-2.ensures ∙ ap (λ a. take a.strings old.strings) m ∙ h.strings in
     let rows = c.truncate-3.ensures ∙ ap (λ a. take a.rows old.rows) m ∙ h.rows in
     let differing = ap (map (λ s. s.0)) (c.truncate-4.ensures.items
-    ∙ ap (λ a. take a.differing old.differing.items) m)
-    ∙ sym (take-map {X = DebugTypeSignature} {Y = ℕ} (λ s. s.0) (length before.differing)
-    old.differing.items) ∙ h.differing in
+    ∙ ap (λ a. take a.differing old.differing.items) m) ∙ sym (take-map {X = DebugTypeSignature}
+    {Y = ℕ} (λ s. s.0) (length before.differing) old.differing.items) ∙ h.differing in
     λ i. record { file = file i; strings = strings i; rows = rows i; differing = differing i }

@@ -11,8 +11,7 @@ use Rattle.thorin_builder.proofs.missing.MissingTargetsIterator.next.Goals as go
 first-left : {A : Type 0} (p : A → Bool) (xs : List A) (i : ℕ) (x : A) (b : Bool)
     → slice_get xs i ≡ Some x → p x ≡ b
     → filter p (drop i xs) ≡ cond b (x ∷ filter p (drop (i + 1) xs)) (filter p (drop (i + 1) xs))
-first-left p xs i x b at is =
-    at_drop_more (filter p) xs i x (slice_get_within xs i x at)
+first-left p xs i x b at is = at_drop_more (filter p) xs i x (slice_get_within xs i x at)
     ∙ rw (get_or_from_slice_get xs i x x at, is) refl
 
 pub returns-then-not-contains-clause-steps : goal.returns-then-not-contains-clause-steps
@@ -36,11 +35,10 @@ loop-place-preserved c =
     let names = c.args.self.now.contained.now.keys in
     let targets = c.args.self.now.targets.now.keys in
     elim c.match-get_index.branch [
-      | goal.in-Some+else-not-contains w ↦
-          sym (first-left (is_missing names) targets c.loop-place.place w.in-Some.target.now false
-          (search (rules, w.in-Some.ensures.key, c.get_index.ensures.key))
-          (missing-is w.in-Some.target.now names _ w.contains.ensures
-          ∙ ap not w.if-not-contains.false)) ∙ c.loop-place.invariant
+      | goal.in-Some+else-not-contains w ↦ sym (first-left
+          (is_missing names) targets c.loop-place.place w.in-Some.target.now false (search
+          (rules, w.in-Some.ensures.key, c.get_index.ensures.key)) (missing-is w.in-Some.target.now
+          names _ w.contains.ensures ∙ ap not w.if-not-contains.false)) ∙ c.loop-place.invariant
       | goal.in_default w ↦ absurd (slice_get_none targets c.loop-place.place
           (omega arith) (search (rules, w.in_default, c.get_index.ensures.key)))
     ]

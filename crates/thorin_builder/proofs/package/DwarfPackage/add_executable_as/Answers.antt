@@ -23,9 +23,8 @@ returns-in_err-bytes-clause-declined g c =
     let why = c.in_err-bytes.field-0.0 in
     let declines = g.R.InputReader.declines c.args.reader.now true in
     let p = err_from_is_err_and c.from_residual.result c.from_residual.ensures.1 in
-    rw (p.1, p.2) (declined-as (Err (unread why)) (λ d h. inl h)
-    (unread-declined (g.R.InputReader.offer c.args.reader.now path) (declines path) why
-    c.in_err-bytes.ensures.read))
+    rw (p.1, p.2) (declined-as (Err (unread why)) (λ d h. inl h) (unread-declined
+    (g.R.InputReader.offer c.args.reader.now path) (declines path) why c.in_err-bytes.ensures.read))
 
 pub returns-in_err-units-clause-taken : goal.returns-in_err-units-clause-taken
 returns-in_err-units-clause-taken g c =
@@ -49,8 +48,6 @@ returns-clause-taken g c = record {
 
 pub returns-clause-declined : goal.returns-clause-declined
 returns-clause-declined g c = declined-as c.add_each-added.result
-    (λ why h. inr (
-      c.in_ok-bytes.bytes.now,
-      c.in_ok-bytes.ensures.read,
-      rw c.in_ok-units.ensures.opened h,
-    )) c.add_each-added.ensures.declined
+    (λ why h.
+    inr (c.in_ok-bytes.bytes.now, c.in_ok-bytes.ensures.read, rw c.in_ok-units.ensures.opened h)
+    ) c.add_each-added.ensures.declined

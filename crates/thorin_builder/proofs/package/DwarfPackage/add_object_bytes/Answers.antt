@@ -21,8 +21,7 @@ invariant_of-self-2 g c =
     let now = begun_of c.add_input.new.in_progress in
     let found = c.in_ok-encoding.encoding in
     let made = c.in_ok-encoding.ensures.meaning in
-    let own : own_after old now found ≡ c.if-unit_count-units.self =
-    rw (
+    let own : own_after old now found ≡ c.if-unit_count-units.self = rw (
       with-own c.self.inside.in_progress c.is_none-is_first.result old.own found
           c.is_none-is_first.ensures,
       ← c.unit_count-units.ensures,

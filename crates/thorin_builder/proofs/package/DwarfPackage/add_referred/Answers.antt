@@ -25,19 +25,16 @@ returns-in-Ok-clause-known g c =
     (on_ok-both added.result _ _ _ added.ensures.later added.ensures.remembers
     (λ later remembered. taken-remembered offer c.args.known.now.taken.entries
     added.new.taken.entries added.new.self.state.begun c.args.named.path.now c.in-Ok.bytes.now
-    (rw c.new.ensures at c.in-Ok.ensures.read) (are-taken-later offer
-    c.args.known.now.taken.entries c.args.self.now.state.begun added.new.self.state.begun later
-    c.requires.known) remembered))
+    (rw c.new.ensures at c.in-Ok.ensures.read) (are-taken-later offer c.args.known.now.taken.entries
+    c.args.self.now.state.begun added.new.self.state.begun later c.requires.known) remembered))
 
 -- what comes of an object that can't be read
-failed : (g : Over) (c : goal.In-Err-Failed-Io g) (outcome : Outcome)
-    → PassesOver c.args.missing c.in-Err-Failed-Io.e outcome
-    → TakesReferredFile (g.R.InputReader.offer c.args.reader.now c.args.named.path.now)
-    c.args.missing c.args.self.now.state outcome c.args.self.now.state
+failed : (g : Over) (c : goal.In-Err-Failed-Io g) (outcome : Outcome) → PassesOver c.args.missing
+    c.in-Err-Failed-Io.e outcome → TakesReferredFile (g.R.InputReader.offer c.args.reader.now
+    c.args.named.path.now) c.args.missing c.args.self.now.state outcome c.args.self.now.state
 failed g c outcome passes =
-    let fails : g.R.InputReader.offer c.args.reader.now (path_bytes c.new.result)
-    (Err c.in-Err-Failed-Io.e) =
-    search (
+    let fails : g.R.InputReader.offer c.args.reader.now
+    (path_bytes c.new.result) (Err c.in-Err-Failed-Io.e) = search (
       rules,
       c.in-Err-Failed-Io.ensures.read,
       c.in-Err-Failed-Io.e-is,

@@ -16,10 +16,9 @@ returns-in_err-add_target-clause-taken g c =
 -- what comes of the object, once the unit is among the targets
 took : (g : Over) (c : goal.In_ok-add_target g) (outcome : Outcome) (new : State)
     → TakesReferredFile (g.R.InputReader.offer c.args.reader.now c.args.named.path.now)
-    c.args.missing c.add_target.new.self.state outcome new
-    → (accepted : List (List ℕ)) × TakesSkeleton (g.R.InputReader.offer c.args.reader.now)
-    c.args.missing (c.args.named.target, c.args.named.path.now) c.args.self.now.state
-    (came outcome new accepted)
+    c.args.missing c.add_target.new.self.state outcome new → (accepted : List (List ℕ))
+    × TakesSkeleton (g.R.InputReader.offer c.args.reader.now) c.args.missing
+    (c.args.named.target, c.args.named.path.now) c.args.self.now.state (came outcome new accepted)
 took g c outcome new file =
     let moved = rw c.in_ok-add_target.ensures.target at file in (
       moved.accepted,
@@ -41,9 +40,8 @@ returns-then-known-clause-taken g c =
     })
 
 -- what is known of the object
-found : (g : Over) (c : goal.In-Some g)
-    → IsTaken (g.R.InputReader.offer c.args.reader.now c.args.named.path.now) c.in-Some.again.now
-    c.add_target.new.self.state.begun
+found : (g : Over) (c : goal.In-Some g) → IsTaken (g.R.InputReader.offer
+    c.args.reader.now c.args.named.path.now) c.in-Some.again.now c.add_target.new.self.state.begun
 found g c = taken-found (g.R.InputReader.offer c.args.reader.now)
     c.args.known.now.taken.entries c.add_target.new.self.state.begun c.args.named.path.now
     c.in-Some.again.now (rw (← target-kept c.args.named.target c.args.self.now.state
@@ -56,9 +54,8 @@ add_again-requires g c =
     record { known = (found.bytes, found.adds) }
 
 pub returns-in-Err-clause-taken : goal.returns-in-Err-clause-taken
-returns-in-Err-clause-taken g c =
-    took g (goal.at.returns-in-Err-clause-taken g c).In_ok-add_target _ _
-    (record { read = Err Memory; within = tt; accepted = []; taken = (refl, (refl, refl)) })
+returns-in-Err-clause-taken g c = took g (goal.at.returns-in-Err-clause-taken g c).In_ok-add_target
+    _ _ (record { read = Err Memory; within = tt; accepted = []; taken = (refl, (refl, refl)) })
 
 pub returns-in-Ok-clause-taken : goal.returns-in-Ok-clause-taken
 returns-in-Ok-clause-taken g c =
@@ -75,19 +72,15 @@ pub returns-in-Ok-clause-known : goal.returns-in-Ok-clause-known
 returns-in-Ok-clause-known g c =
     let offer = g.R.InputReader.offer c.args.reader.now in
     let entries = c.args.known.now.taken.entries in
-    on-ok-taken c.tried.result c.add_again.result c.tried.ensures.outcome
-    (AreTaken offer entries c.add_again.new.self.state.begun)
-    (on_ok_weaker c.add_again.result (λ later. are-taken-later offer entries
-    c.add_target.new.self.state.begun c.add_again.new.self.state.begun later
-    (rw (← target-kept c.args.named.target c.args.self.now.state c.add_target.new.self.state
-    c.in_ok-add_target.ensures.target) c.requires.known))
-    c.add_again.ensures.later)
+    on-ok-taken c.tried.result c.add_again.result c.tried.ensures.outcome (AreTaken
+    offer entries c.add_again.new.self.state.begun) (on_ok_weaker c.add_again.result (λ later.
+    are-taken-later offer entries c.add_target.new.self.state.begun c.add_again.new.self.state.begun
+    later (rw (← target-kept c.args.named.target c.args.self.now.state c.add_target.new.self.state
+    c.in_ok-add_target.ensures.target) c.requires.known)) c.add_again.ensures.later)
 
 pub returns-in-Err-clause-declined : goal.returns-in-Err-clause-declined
-returns-in-Err-clause-declined g c =
-    rw (c.repetition.ensures, c.new.ensures) at c.in-Err.ensures
+returns-in-Err-clause-declined g c = rw (c.repetition.ensures, c.new.ensures) at c.in-Err.ensures
 
 pub returns-in-None-clause-taken : goal.returns-in-None-clause-taken
-returns-in-None-clause-taken g c =
-    took g (goal.at.returns-in-None-clause-taken g c).In_ok-add_target _ _
-    c.add_referred.ensures.taken
+returns-in-None-clause-taken g c = took g
+    (goal.at.returns-in-None-clause-taken g c).In_ok-add_target _ _ c.add_referred.ensures.taken

@@ -23,20 +23,17 @@ returns-clause-finished g c = rw (← c.self.view_is) (c.finished_begun.ensures.
 pub returns-clause-packaged : goal.returns-clause-packaged
 returns-clause-packaged g c =
     let state : State = (building c.self.inside).state in
-    rw (← c.self.view_is) (by-law (λ of. IsPackageOnceWritten (units_in of))
-    c.finished_begun.result.0 state
-    (λ file. finished-is state file c.self.invariant.1)
-    (c.finished_begun.ensures.refusal c.self.inside.own)
+    rw (← c.self.view_is)
+    (by-law (λ of. IsPackageOnceWritten (units_in of)) c.finished_begun.result.0 state (λ file.
+    finished-is state file c.self.invariant.1) (c.finished_begun.ensures.refusal c.self.inside.own)
     (c.finished_begun.ensures.finished c.self.inside.own))
 
 pub returns-clause-accepted : goal.returns-clause-accepted
-returns-clause-accepted g c =
-    rw (← c.self.view_is) (by-law IsAcceptedOnceWritten c.finished_begun.result.0 _
-    (λ file. own-all _ file c.self.invariant.1 c.self.invariant.2 c.self.invariant.3)
-    (c.finished_begun.ensures.refusal _) (c.finished_begun.ensures.finished _))
+returns-clause-accepted g c = rw (← c.self.view_is) (by-law IsAcceptedOnceWritten
+    c.finished_begun.result.0 _ (λ file. own-all _ file c.self.invariant.1 c.self.invariant.2
+    c.self.invariant.3) (c.finished_begun.ensures.refusal _) (c.finished_begun.ensures.finished _))
 
 pub returns-clause-accepted_by_new : goal.returns-clause-accepted_by_new
-returns-clause-accepted_by_new g c =
-    rw (← c.self.view_is) (by-law IsAcceptedByNewOnceWritten c.finished_begun.result.0 _
-    (λ file. own-by-new _ file c.self.invariant.1 c.self.invariant.2 c.self.invariant.3)
-    (c.finished_begun.ensures.refusal _) (c.finished_begun.ensures.finished _))
+returns-clause-accepted_by_new g c = rw (← c.self.view_is) (by-law IsAcceptedByNewOnceWritten
+    c.finished_begun.result.0 _ (λ file. own-by-new _ file c.self.invariant.1 c.self.invariant.2
+    c.self.invariant.3) (c.finished_begun.ensures.refusal _) (c.finished_begun.ensures.finished _))

@@ -12,6 +12,5 @@ one-of state (Some own) is there holds =
     record { encoding = own; own = is; some = holds.some own is; all = holds.all own is }
 
 pub returns-then-is_some-clause-encoding : goal.returns-then-is_some-clause-encoding
-returns-then-is_some-clause-encoding g c =
-    λ h. rw (← c.self.view_is) (one-of (building c.self.inside).state _ refl
-    (sym c.is_some.ensures ∙ c.if-is_some.true) c.self.invariant.2)
+returns-then-is_some-clause-encoding g c = λ h. rw (← c.self.view_is) (one-of (building
+    c.self.inside).state _ refl (sym c.is_some.ensures ∙ c.if-is_some.true) c.self.invariant.2)
