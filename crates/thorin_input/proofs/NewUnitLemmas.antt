@@ -21,9 +21,8 @@ same_name-is a =
 -- the units with their rows
 abbrev pub with_rows : List IndexEntry → List (DwarfObject × CodeUnit)
     → List (DwarfObject × NewUnit)
-with_rows rows units =
-    map {B = DwarfObject × NewUnit} (λ (e : DwarfObject × CodeUnit).
-    (e.0, new_unit rows e.0 e.1)) units
+with_rows rows units = map
+    {B = DwarfObject × NewUnit} (λ (e : DwarfObject × CodeUnit). (e.0, new_unit rows e.0 e.1)) units
 
 -- the bytes of a unit that is added, or else those that are held
 abbrev pub own_or_held : Option CodeUnit → Option (List ℕ) → Option (List ℕ)
@@ -39,9 +38,8 @@ looked_up test rows (e ∷ es) held = grind (rules, looked_up test rows es held)
 module _ (held : List (DwarfObject × List ℕ)) (rows : List IndexEntry)
     (units : List (DwarfObject × CodeUnit)) (name : DwarfObject) where
   -- what is kept for a name, by what is found among the units that are added
-  pub kept-are : (found : Option CodeUnit) → found ≡ lookup (derived.eq-value.it name) units
-      → own_or_held found (lookup (same_name name) held)
-      ≡ kept_bytes held (with_rows rows units) name
+  pub kept-are : (found : Option CodeUnit) → found ≡ lookup (derived.eq-value.it name) units →
+      own_or_held found (lookup (same_name name) held) ≡ kept_bytes held (with_rows rows units) name
   kept-are found is = ap (λ u. own_or_held u (lookup (same_name name) held))
       (is ∙ ap (λ f. lookup f units) (same_name-is name))
       ∙ looked_up (same_name name) rows units (lookup (same_name name) held)
@@ -79,16 +77,11 @@ module _ (rows more : List IndexEntry) (begins : take (length rows) more ≡ row
     numbered_last = All-push (λ (d : DwarfObject × CodeUnit). d.1.row_number < length more) before e
         (numbered_still before numbered) (slice_get_within more e.1.row_number nameless there)
 
-    pub added_last : (row : IndexEntry) (now : List (DwarfObject × CodeUnit))
-        → record nameless { id = e.0 } ≡ row → now ≡ before ++ e ∷ []
-        → with_rows more now ≡ with_rows rows before ++ (
-          e.0,
-          record { place = e.1.place; bytes = e.1.bytes.now; row = row },
-        ) ∷ []
-    added_last row now named is =
-        rw is (map_push {Y = DwarfObject × NewUnit} (λ (d : DwarfObject × CodeUnit).
-        (d.0, new_unit more d.0 d.1)) before e
-        ∙ rw (
+    pub added_last : (row : IndexEntry) (now : List (DwarfObject × CodeUnit)) → record nameless
+        { id = e.0 } ≡ row → now ≡ before ++ e ∷ [] → with_rows more now ≡ with_rows rows before
+        ++ (e.0, record { place = e.1.place; bytes = e.1.bytes.now; row = row }) ∷ []
+    added_last row now named is = rw is (map_push {Y = DwarfObject
+        × NewUnit} (λ (d : DwarfObject × CodeUnit). (d.0, new_unit more d.0 d.1)) before e ∙ rw (
           with_more_rows before numbered,
           get_or_from_slice_get more e.1.row_number nameless blank there,
           named,

@@ -36,10 +36,9 @@ range_of_whole before parts kind =
     cond (is_shared kind) (contribution_put kind (joined_parts kind parts) before) None
 
 pub whole-is : (encoding : Encoding) (before parts : Contents)
-    (ranges : ByKind (Option Contribution))
-    → AreKnown (λ kind range. range ≡ range_of_whole before parts kind) ranges → (row : IndexEntry)
-    → row ≡ entry_by encoding (Compilation (record { 0 = 0 })) (value_of None (values_of ranges))
-    → row ≡ whole_row encoding before parts
+    (ranges : ByKind (Option Contribution)) → AreKnown (λ kind range. range ≡ range_of_whole
+    before parts kind) ranges → (row : IndexEntry) → row ≡ entry_by encoding (Compilation
+    (record { 0 = 0 })) (value_of None (values_of ranges)) → row ≡ whole_row encoding before parts
 unfolding whole_row
 whole-is encoding before parts ranges read row is =
     is ∙ (λ i. entry_by encoding (Compilation (record { 0 = 0 })) (λ kind.
@@ -57,15 +56,13 @@ whole-fits encoding id ranges read row is = rw is (λ kind shared.
 -- ---- a unit's row
 
 -- where an input has no index
-pub plain-row : (indexes : Indexes) (whole : IndexEntry) (name : DwarfObject)
-    → indexes.compilations ≡ None → indexes.types ≡ None
-    → unit_row indexes whole name ≡ Ok (record whole { id = name })
+pub plain-row : (indexes : Indexes) (whole : IndexEntry) (name : DwarfObject) → indexes.compilations
+    ≡ None → indexes.types ≡ None → unit_row indexes whole name ≡ Ok (record whole { id = name })
 unfolding unit_row adjusted
-plain-row indexes whole name compilations types =
-    bind-ok _ _ (λ ranges. Ok (entry_by whole.encoding name (value_of None ranges)))
-    (each-read (λ kind. unit_contribution indexes name kind (contribution_to kind whole))
-    (λ kind. contribution_to kind whole) (λ kind. by-bool _ (is_shared kind)
-    (λ e. rw (e, compilations, types) refl) (λ e. rw e refl)) all_kinds)
+plain-row indexes whole name compilations types = bind-ok _ _ (λ ranges.
+    Ok (entry_by whole.encoding name (value_of None ranges))) (each-read (λ kind. unit_contribution
+    indexes name kind (contribution_to kind whole)) (λ kind. contribution_to kind whole) (λ kind.
+    by-bool _ (is_shared kind) (λ e. rw (e, compilations, types) refl) (λ e. rw e refl)) all_kinds)
 
 module _ (indexes : Indexes) (whole : IndexEntry) (name : DwarfObject) where
   abbrev range : SectionKind → Result (Option Contribution) ErrorValue
@@ -90,15 +87,13 @@ module _ (indexes : Indexes) (whole : IndexEntry) (name : DwarfObject) where
       → unit_row indexes whole name
       ≡ Ok (entry_by whole.encoding name (value_of None (values_of ranges)))
   unfolding unit_row ErrorRead
-  row-read ranges read = bind-ok _ (values_of ranges) (λ values.
-      Ok (entry_by whole.encoding name (value_of None values)))
-      (answers-each (λ range. range) range ErrorRead answers (Ok ranges) read
-      ∙ ap Ok (map-id (values_of ranges)))
+  row-read ranges read = bind-ok _ (values_of ranges)
+      (λ values. Ok (entry_by whole.encoding name (value_of None values))) (answers-each
+      (λ range. range) range ErrorRead answers (Ok ranges) read ∙ ap Ok (map-id (values_of ranges)))
 
   pub row-refused : (e : Error) → ReadsEach RangeRead (Err e) → unit_row indexes whole name
       ≡ Err (error_of e)
   unfolding unit_row ErrorRead
-  row-refused e read = bind-err _ (error_of e) (λ values.
-      Ok (entry_by whole.encoding name (value_of None values)))
-      (answers-each (λ range. range) range ErrorRead answers (Err (error_of e))
-      (read.0, read.1, read.2, (e, refl, read.3), read.4))
+  row-refused e read = bind-err _ (error_of e) (λ values. Ok (entry_by whole.encoding name
+      (value_of None values))) (answers-each (λ range. range) range ErrorRead answers
+      (Err (error_of e)) (read.0, read.1, read.2, (e, refl, read.3), read.4))

@@ -73,9 +73,8 @@ map-placed e [] = refl
 map-placed e (s ∷ ss) = rw (map-placed e ss) refl
 
 -- a test of a section so far, or of one of those that are left
-pub any-step : (test : SectionMeaning → Bool) (b : Bool) (l rest : List Placed)
-    (p : Placed) → l ≡ p ∷ rest
-    → ((b || test p.section) || list_any test (those rest)) ≡ (b || list_any test (those l))
+pub any-step : (test : SectionMeaning → Bool) (b : Bool) (l rest : List Placed) (p : Placed) → l ≡ p
+    ∷ rest → ((b || test p.section) || list_any test (those rest)) ≡ (b || list_any test (those l))
 any-step test b l rest p h = rw h (or_assoc b (test p.section) (list_any test (those rest)))
 
 pub any-end : (test : SectionMeaning → Bool) (b : Bool) (l : List Placed)
@@ -94,10 +93,9 @@ GoesOn (Some e) t rest all = MemoryAside e (all ≡ Err (error_of e))
 
 -- one more section, where none so far has an error
 pub used-next : (fault : Option Error) (t n : UsedSections) (answer : Result (Unit {0}) Error)
-    (l rest : List Placed) (p : Placed) (all : Result (List Used) ErrorValue)
-    → is_some fault ≡ false → l ≡ p ∷ rest
-    → Gives (λ _. used_in n) answer (with_used (used_in t) p.section (used_kind p.section))
-    → GoesOn fault t (those l) all → GoesOn (result_err answer) n (those rest) all
+    (l rest : List Placed) (p : Placed) (all : Result (List Used) ErrorValue) → is_some fault ≡
+    false → l ≡ p ∷ rest → Gives (λ _. used_in n) answer (with_used (used_in t) p.section (used_kind
+    p.section)) → GoesOn fault t (those l) all → GoesOn (result_err answer) n (those rest) all
 unfolding used_from
 used-next None t n (Ok _) l rest p all none h next goes = rw (h, next) at goes
 used-next None t n (Err e) l rest p all none h next goes = λ aside.
@@ -112,12 +110,11 @@ used-kept None t rest left all some goes = absurd (false≢true some)
 used-kept (Some e) t rest left all some goes = goes
 
 -- what the whole walk gives
-pub walk-gives : (t : UsedSections) (order : Endianness) (strings abbreviations : Bool)
-    (l : List Placed) (file : Elf) → order ≡ file.order
-    → strings ≡ list_any (is_named (name_of kinds.Str)) file.sections
+pub walk-gives : (t : UsedSections)
+    (order : Endianness) (strings abbreviations : Bool) (l : List Placed) (file : Elf)
+    → order ≡ file.order → strings ≡ list_any (is_named (name_of kinds.Str)) file.sections
     → abbreviations ≡ list_any (is_named (name_of kinds.Abbrev)) file.sections → l ≡ []
-    → GoesOn None t (those l) (used_from [] file.sections)
-    → input_file_of file ≡ Ok (record {
+    → GoesOn None t (those l) (used_from [] file.sections) → input_file_of file ≡ Ok (record {
       order = order;
       sections = used_in t;
       has_strings = strings;
@@ -135,8 +132,7 @@ walk-gives t order strings abbreviations l file ho hs ha h goes =
       found-any (is_named (name_of kinds.Abbrev)) file.sections,
     ) refl
 
-pub walk-fails : (e : Error) (file : Elf)
-    → MemoryAside e (used_from [] file.sections ≡ Err (error_of e))
-    → Gives view.object (Err e) (input_file_of file)
+pub walk-fails : (e : Error) (file : Elf) → MemoryAside e
+    (used_from [] file.sections ≡ Err (error_of e)) → Gives view.object (Err e) (input_file_of file)
 unfolding input_file_of
 walk-fails e file used = λ aside. rw (used aside) refl

@@ -28,9 +28,8 @@ pub struct Held<'p> {
 impl<'p> Held<'p> {
     /// The bytes of the unit of a name; none where the package has no such unit.
     pub fn bytes_of(&self, name: DwarfObject) -> Option<&'p [u8]>
-        ensures { option_map (λ bytes. bytes.now) result
-            ≡ lookup (same_name name)
-            (spec.held_units self.now.object.now.contents self.now.rows.now) }
+        ensures { option_map (λ bytes. bytes.now) result ≡ lookup
+            (same_name name) (spec.held_units self.now.object.now.contents self.now.rows.now) }
     {
         let Some(position) = self.names.get_index_of(&name) else {
             return None;

@@ -148,10 +148,8 @@ fn add_part<'a>(
     requires named { named.now ≡ first Str (view.source source.now).object.sections }
     requires known { AreKnown named.now strings.old gathering.old.repeats }
     ensures meaning { Gives (λ _. (map view.part gathering.new.parts.items, strings.new)) result
-        (spec.with_part (view.source source.now) (
-          map view.part gathering.old.parts.items,
-          strings.old,
-        ) (view.used section.entry)) }
+        (spec.with_part (view.source source.now)
+        (map view.part gathering.old.parts.items, strings.old) (view.used section.entry)) }
     ensures kept { take (length strings.old) strings.new ≡ strings.old }
     ensures known { AreKnown named.now strings.new gathering.new.repeats }
 {

@@ -41,9 +41,8 @@ fn whole_contribution(
     parts: &[Part<'_>],
     kind: SectionKind,
 ) -> Result<Option<Contribution>, Error>
-    ensures range { IfOk result (λ range. range ≡ (if is_shared kind
-        then contribution_put kind (joined_parts kind (map view.part parts.now)) file.now.contents
-        else None)) }
+    ensures range { IfOk result (λ range. range ≡ (if is_shared kind then contribution_put kind
+        (joined_parts kind (map view.part parts.now)) file.now.contents else None)) }
     ensures fits { IfOk result EndFits }
     ensures refused { IfErr result (λ e. e ≡ Error.Memory) }
 {
@@ -174,10 +173,8 @@ pub fn test_row<'a>(
 ) -> Result<Option<u32>, Error>
     requires compilations { placed.now.compilations
         ≡ record { index = (view.indexes indexes.now).compilations; section = kind } }
-    requires types { placed.now.types ≡ record {
-      index = (view.indexes indexes.now).types;
-      section = kind;
-    } }
+    requires types { placed.now.types ≡
+        record { index = (view.indexes indexes.now).types; section = kind } }
     ensures meaning { Gives (λ _. tt) result (spec.row_test (view.indexes indexes.now) kind name
         (unit_of ⟦<SliceReader<'a> as Reader>⟧.input header.now)) }
     ensures number { IfOk result (λ number.
@@ -215,9 +212,8 @@ pub fn abbreviations_for<'a>(
     requires placed { placed.now.compilations
         ≡ record { index = (view.source source.now).indexes.compilations; section = kind } }
     requires bytes { bytes.now ≡ first Abbrev (view.source source.now).object.sections }
-    ensures { Gives (λ range. drop range.0 (take range.1 bytes.now)) result
-        (spec.abbreviations_for (view.source source.now) kind
-        (unit_of ⟦<SliceReader<'a> as Reader>⟧.input header.now)) }
+    ensures { Gives (λ range. drop range.0 (take range.1 bytes.now)) result (spec.abbreviations_for
+        (view.source source.now) kind (unit_of ⟦<SliceReader<'a> as Reader>⟧.input header.now)) }
 {
     if source.indexes.is_package() && matches!(header.unit_type(), UnitType::Compilation) {
         let number = placed.compilations.find(own_contribution(header));

@@ -9,7 +9,6 @@ use Rattle.thorin_input.proofs.parts.parts_of.Given as goal
 abbrev pub invariant-loop-section : goal.invariant-loop-section
 invariant-loop-section l =
     (with_each_part (source l.source) (map part l.gathering.parts.items, l.strings)
-    (map used (drop l.section-index l.source.object.sections.items))
-    ≡ parts_of (source l.source) l.fn.strings)
-    × (take (length l.fn.strings) l.strings ≡ l.fn.strings)
+    (map used (drop l.section-index l.source.object.sections.items)) ≡ parts_of
+    (source l.source) l.fn.strings) × (take (length l.fn.strings) l.strings ≡ l.fn.strings)
     × AreKnown l.named l.strings l.gathering.repeats

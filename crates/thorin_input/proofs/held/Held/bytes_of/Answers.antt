@@ -10,9 +10,8 @@ use Rattle.dwp_table.specs.contracts.object.DwarfObjectPartialEq.TheImpl as deri
 use Rattle.thorin_input.proofs.held.Held.bytes_of.Goals as goal
 
 -- where a name stands among those of a list, the value of its entry is found
-found : {A B : Type 0} (test : DwarfObject → Bool) (id : A → DwarfObject) (f : A
-    → B) (rows : List A)
-    (d : A) → option_map (λ n. f (get_or rows n d)) (position test (map id rows))
+found : {A B : Type 0} (test : DwarfObject → Bool) (id : A → DwarfObject) (f : A → B)
+    (rows : List A) (d : A) → option_map (λ n. f (get_or rows n d)) (position test (map id rows))
     ≡ lookup test (map {B = DwarfObject × B} (λ row. (id row, f row)) rows)
 found test id f [] d = refl
 found test id f (row ∷ rows) d = grind (rules, found test id f rows d)
@@ -20,9 +19,8 @@ found test id f (row ∷ rows) d = grind (rules, found test id f rows d)
 -- where a name stands among those of a package, its row's bytes are found
 held-at : (contents : Contents) (rows : List IndexEntry) (keys : List DwarfObject)
     (name : DwarfObject) → keys ≡ map (λ row. row.id) rows → (d : IndexEntry) (at : Option ℕ)
-    → at ≡ position (derived.eq-value.it name) keys
-    → option_map (λ n. unit_bytes contents (get_or rows n d)) at
-    ≡ lookup (same_name name) (held_units contents rows)
+    → at ≡ position (derived.eq-value.it name) keys → option_map (λ n.
+    unit_bytes contents (get_or rows n d)) at ≡ lookup (same_name name) (held_units contents rows)
 held-at contents rows keys name named d at is =
     rw (is ∙ ap (λ test. position test keys) (same_name-is name), named)
     (found (same_name name) (λ row. row.id) (unit_bytes contents) rows d)

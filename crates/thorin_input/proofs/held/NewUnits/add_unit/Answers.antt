@@ -15,12 +15,11 @@ invariant_of-self-2 c =
     (not_added (adding_of c.args.adding.now).held rows units c.args.name
     (sym (rw c.in-None-default.is-0 at c.kept_bytes-kept.ensures))) in
     record {
-      numbered = either_way c.insert.result _ _ (AreNumbered more c.insert.new.self.entries)
-          c.insert.ensures.entries c.insert.ensures.err
-          (λ entries. rw (entries ∙ last) (numbered_last rows more c.share.ensures.kept units
-          c.args.self.now.numbered _ _ c.in_ok-row_number.ensures.there))
-          (λ same. rw same (numbered_still rows more c.share.ensures.kept units
-          c.args.self.now.numbered));
+      numbered = either_way c.insert.result _ _
+          (AreNumbered more c.insert.new.self.entries) c.insert.ensures.entries c.insert.ensures.err
+          (λ entries. rw (entries ∙ last) (numbered_last rows more c.share.ensures.kept
+          units c.args.self.now.numbered _ _ c.in_ok-row_number.ensures.there)) (λ same.
+          rw same (numbered_still rows more c.share.ensures.kept units c.args.self.now.numbered));
     }
 
 pub returns : goal.returns

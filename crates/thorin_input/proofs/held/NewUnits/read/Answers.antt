@@ -10,21 +10,16 @@ use Rattle.thorin_input.specs.declared.object.UsedSection.{UsedSection}
 use Rattle.thorin_input.proofs.held.NewUnits.read.Goals as goal
 
 -- the first error of a section is that of all
-stopped : (adding : Adding) (sections : List UsedSection) (i : ℕ) (d : UsedSection)
-    (before : SeenSections × New) (error : ErrorValue)
-    → sections ≡ adding.source.now.object.sections.items
-    → i < length sections → with_each_section (adding_of adding) before
-    (map used (drop i adding.source.now.object.sections.items))
+stopped : (adding : Adding) (sections : List UsedSection)
+    (i : ℕ) (d : UsedSection) (before : SeenSections × New) (error : ErrorValue)
+    → sections ≡ adding.source.now.object.sections.items → i < length sections → with_each_section
+    (adding_of adding) before (map used (drop i adding.source.now.object.sections.items))
     ≡ with_each_section (adding_of adding) (none_met, record { units = []; differing = [] })
-    (map used adding.source.now.object.sections.items)
-    → with_section (adding_of adding) before (used (get_or sections i d)) ≡ Err error
-    → new_units (adding_of adding) ≡ Err error
+    (map used adding.source.now.object.sections.items) → with_section (adding_of adding) before
+    (used (get_or sections i d)) ≡ Err error → new_units (adding_of adding) ≡ Err error
 unfolding new_units with_each_section
-stopped adding sections i d before error all inside left first =
-    bind-err _ error _ (sym left ∙ rw (
-      ap (drop i) (sym all) ∙ drop_more sections i d inside,
-      first,
-    ) refl)
+stopped adding sections i d before error all inside left first = bind-err _ error _
+    (sym left ∙ rw (ap (drop i) (sym all) ∙ drop_more sections i d inside, first) refl)
 
 pub returns-in_err-add_section-clause-meaning : goal.returns-in_err-add_section-clause-meaning
 returns-in_err-add_section-clause-meaning c =

@@ -7,14 +7,10 @@ pub invariant_of-result : goal.invariant_of-result
 invariant_of-result c = record {
   fits = whole-fits c.args.encoding _ c.in_ok-ranges.ranges
       (λ kind. let at = c.in_ok-ranges.ensures.1 kind in
-      let read = at.2 in (at.0, at.1, search rules))
-      c.by_kind-row.result c.by_kind-row.ensures;
+      let read = at.2 in (at.0, at.1, search rules)) c.by_kind-row.result c.by_kind-row.ensures;
 }
 
 pub returns-clause-row : goal.returns-clause-row
-returns-clause-row c =
-    whole-is c.args.encoding c.args.file.now.contents (map view.part c.args.parts.now)
-    c.in_ok-ranges.ranges
-    (λ kind. let at = c.in_ok-ranges.ensures.1 kind in
-    let read = at.2 in (at.0, at.1, search rules))
-    c.by_kind-row.result c.by_kind-row.ensures
+returns-clause-row c = whole-is c.args.encoding c.args.file.now.contents (map view.part
+    c.args.parts.now) c.in_ok-ranges.ranges (λ kind. let at = c.in_ok-ranges.ensures.1 kind in
+    let read = at.2 in (at.0, at.1, search rules)) c.by_kind-row.result c.by_kind-row.ensures

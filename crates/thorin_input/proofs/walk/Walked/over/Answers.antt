@@ -41,8 +41,7 @@ loop-section-preserved c =
         | goal.then-is_none w ↦ rw (w.fault-is, w.used-is, w.err-fault.ensures.value)
             (used-next before.fault before.used w.add.new.self w.add.result _ _ p _
             (c.is_none.ensures ∙ ap not w.if-is_none.true) left w.add.ensures so_far.used)
-        | goal.else-is_none w ↦ rw (w.fault-is, w.used-is)
-            (used-kept before.fault before.used _ _ _
+        | goal.else-is_none w ↦ rw (w.fault-is, w.used-is) (used-kept before.fault before.used _ _ _
             (c.is_none.ensures ∙ ap not w.if-is_none.false) so_far.used)
       ];
     }
@@ -70,9 +69,8 @@ returns-clause-input c =
     elim c.match-fault-3.branch [
       | goal.in-Some-fault w ↦ rw w.input-is
           (walk-fails w.in-Some-fault.error file (rw w.in-Some-fault.is at so_far.used))
-      | goal.in-None-fault w ↦ rw w.input-is
-          (walk-gives last.used _ _ _ _ file w.endianness.ensures
+      | goal.in-None-fault w ↦ rw w.input-is (walk-gives last.used _ _ _ _ file w.endianness.ensures
           (any-end (is_named (name_of Str)) last.has_strings _ file.sections left so_far.strings)
-          (any-end (is_named (name_of Abbrev)) last.has_abbreviations _ file.sections left
-          so_far.abbreviations) left (rw w.in-None-fault.is at so_far.used))
+          (any-end (is_named (name_of Abbrev)) last.has_abbreviations
+          _ file.sections left so_far.abbreviations) left (rw w.in-None-fault.is at so_far.used))
     ]

@@ -12,12 +12,10 @@ abbrev pub invariant-loop-section : goal.invariant-loop-section
 invariant-loop-section l = record {
   info : (l.with_units || list_any (is_of Info) (those (sections_left l.section-iterator)))
       ≡ list_any (is_of Info) (elf l.file).sections;
-  strings : (l.has_strings || list_any (is_named (name_of Str))
-      (those (sections_left l.section-iterator))) ≡ list_any (is_named (name_of Str))
-      (elf l.file).sections;
-  abbreviations : (l.has_abbreviations || list_any (is_named (name_of Abbrev))
-      (those (sections_left l.section-iterator))) ≡ list_any (is_named (name_of Abbrev))
-      (elf l.file).sections;
+  strings : (l.has_strings || list_any (is_named (name_of Str)) (those (sections_left
+      l.section-iterator))) ≡ list_any (is_named (name_of Str)) (elf l.file).sections;
+  abbreviations : (l.has_abbreviations || list_any (is_named (name_of Abbrev)) (those (sections_left
+      l.section-iterator))) ≡ list_any (is_named (name_of Abbrev)) (elf l.file).sections;
   used : GoesOn l.fault l.used (those (sections_left l.section-iterator))
       (used_from [] (elf l.file).sections);
 }
