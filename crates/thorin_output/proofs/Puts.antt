@@ -31,27 +31,23 @@ whole old new bytes h = (length bytes, rw (take_all (length bytes) bytes (omega 
 module _ {F O : Type 0} (begins : F → Option (List Begun)) (contents : O → Option (List ℕ))
     (files files' : F) (out out' : O) (name text : List ℕ) where
   -- in the stream, and in a file
-  pub put_stream : bytes_eq name (codes "-") ≡ true → files' ≡ files
-      → Appends (contents out) (contents out') text
-      → Put begins contents files files' out out' name text
+  pub put_stream : bytes_eq name (codes "-") ≡ true → files' ≡ files → Appends
+      (contents out) (contents out') text → Put begins contents files files' out out' name text
   unfolding Put
   put_stream e same added = rw e (same, added)
 
-  pub put_file : bytes_eq name (codes "-") ≡ false
-      → Adds (begins files) (begins files') (name, Some text) → out' ≡ out
-      → Put begins contents files files' out out' name text
+  pub put_file : bytes_eq name (codes "-") ≡ false → Adds (begins files) (begins files')
+      (name, Some text) → out' ≡ out → Put begins contents files files' out out' name text
   unfolding Put
   put_file e added same = rw e (added, same)
 
-  pub begins_stream : bytes_eq name (codes "-") ≡ true → files' ≡ files
-      → HasBeginning (contents out) (contents out') text
-      → Begins begins contents files files' out out' name text
+  pub begins_stream : bytes_eq name (codes "-") ≡ true → files' ≡ files → HasBeginning
+      (contents out) (contents out') text → Begins begins contents files files' out out' name text
   unfolding Begins
   begins_stream e same added = rw e (same, added)
 
-  pub begins_file : bytes_eq name (codes "-") ≡ false
-      → Adds (begins files) (begins files') (name, None) → out' ≡ out
-      → Begins begins contents files files' out out' name text
+  pub begins_file : bytes_eq name (codes "-") ≡ false → Adds (begins files) (begins files')
+      (name, None) → out' ≡ out → Begins begins contents files files' out out' name text
   unfolding Begins
   begins_file e added same = rw e (inr added, same)
 
@@ -111,8 +107,7 @@ why_line U C X _ h = absurd h
 pub ruleset warned = (put_begins, why_package, why_line)
 
 -- the warnings that were printed, and handed over
-pub printed : {warned : Warned} (old middle new : Option (List ℕ)) (text : List ℕ)
-    → IsWarning warned text → Appends old middle text → Keeps middle new
-    → IsPrinted old new (IsWarning warned)
+pub printed : {warned : Warned} (old middle new : Option (List ℕ)) (text : List ℕ) → IsWarning
+    warned text → Appends old middle text → Keeps middle new → IsPrinted old new (IsWarning warned)
 printed old middle new text is added kept =
     record { text = text; is = is; added = Appends-kept old middle new text added kept }

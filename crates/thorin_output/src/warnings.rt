@@ -74,9 +74,8 @@ pub fn write_then_warn<F: FileSystem, O: Write, E: LineOutput>(
     ensures begun { OnErr result (Begins F.begun O.contents files.old files.new out.old out.new
         output.now (file_text object.now)) }
     ensures why { IfErr result (IsWhyUnwritten
-        (IsUnwritten F.begun files.old files.new out.old out.new output.now)
-        (IsCutShort O.contents files.old files.new out.old out.new output.now
-        (file_text object.now)) (E.failed err.new)) }
+        (IsUnwritten F.begun files.old files.new out.old out.new output.now) (IsCutShort O.contents
+        files.old files.new out.old out.new output.now (file_text object.now)) (E.failed err.new)) }
 {
     write_package(files, object, output, out)?;
     let text = warnings_text(warned)?;
@@ -97,9 +96,8 @@ fn write_package<F: FileSystem, O: Write>(
     ensures begun { OnErr result (Begins F.begun O.contents files.old files.new out.old out.new
         output.now (file_text object.now)) }
     ensures why { IfErr result (IsWhyUnwritten
-        (IsUnwritten F.begun files.old files.new out.old out.new output.now)
-        (IsCutShort O.contents files.old files.new out.old out.new output.now
-        (file_text object.now)) ⊥) }
+        (IsUnwritten F.begun files.old files.new out.old out.new output.now) (IsCutShort
+        O.contents files.old files.new out.old out.new output.now (file_text object.now)) ⊥) }
 {
     if output != "-" {
         files.write_object(object, output)?;
