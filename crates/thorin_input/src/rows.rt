@@ -107,11 +107,9 @@ fn unit_contribution(
     ContributionAdjustor::new(compilations, types, kind).adjust_row(name, number, all)
 }
 
-/// The row of a unit but for its own bytes: its contribution to each section that units share.
-/// `number` is what looking the unit up gave (`test_row`).
-///
-/// # Errors
-/// Those of `ContributionAdjustor::adjust`, of the sections in the order of a row.
+/// The row of a unit but for its own bytes: its contribution to each section that units share, or
+/// the first error of `ContributionAdjustor::adjust` in the order of a row. `number` is what
+/// looking the unit up gave (`test_row`).
 pub fn unit_row(
     indexes: &Indexes<'_>,
     whole: &Whole,
@@ -152,17 +150,13 @@ fn own_contribution<'a>(header: &UnitHeader<SliceReader<'a>>) -> Contribution
 /// The rows by place of both indexes of an input, in a section of a kind.
 #[derive(Drop)]
 pub struct PlacedRows<'i, 'a> {
-    /// Those of the compilation index.
     pub compilations: RowPlaces<'i, 'a>,
-    /// Those of the type index.
     pub types: RowPlaces<'i, 'a>,
 }
 
-/// The row number that looking a unit up gives, in a package that of the unit's row by place; none
-/// in an input without an index.
-///
-/// # Errors
-/// `UnitNotInIndex` where, in a package, the two rows are not the same or one is not there.
+/// The row number that looking a unit up gives, in a package that of the unit's row by place:
+/// `UnitNotInIndex` where these aren't the same or one isn't there. None in an input without an
+/// index.
 #[tactic(auto, unfolding(crate::specs::Rows::row_test))]
 pub fn test_row<'a>(
     indexes: &Indexes<'_>,
@@ -197,8 +191,6 @@ pub fn test_row<'a>(
 
 /// Where the part of the first section of abbreviations begins and ends that a unit's identity is
 /// read with: all of it, or for a compile unit of a package the range of its row by place.
-///
-/// # Errors
 /// `UnitNotInIndex` where there is no such row, `RowNotInIndex` where its number is past the rows,
 /// `BadContribution` where they are outside the section.
 #[tactic(auto, using(crate::proofs::Ends::part_of_range), unfolding(crate::specs::Rows::abbreviations_for, crate::specs::Rows::numbered_abbreviations, crate::specs::Rows::row_abbreviations))]
