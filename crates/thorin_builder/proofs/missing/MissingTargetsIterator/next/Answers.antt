@@ -5,6 +5,7 @@ use Terms.{ℕ, ◌≡◌}
 use Rattle.std.specs.Prelude.{slice_get}
 use Rattle.dwp_base.proofs.Finds.{slice_get_none}
 use Rattle.thorin_builder.proofs.Names.{missing-is}
+use Rattle.thorin_builder.specs.declared.missing.MissingTargets.{MissingTargets}
 use Rattle.thorin_builder.proofs.missing.MissingTargetsIterator.next.Goals as goal
 
 -- the first of those that are left passes, or is passed over
@@ -16,9 +17,9 @@ first-left p xs i x b at is = at_drop_more (filter p) xs i x (slice_get_within x
 
 pub returns-then-not-contains-clause-steps : goal.returns-then-not-contains-clause-steps
 returns-then-not-contains-clause-steps c =
-    let names = c.args.self.now.contained.now.keys in
-    sym c.loop-place.invariant ∙ first-left (is_missing names) c.args.self.now.targets.now.keys
-    c.loop-place.place c.in-Some.target.now true
+    let names = c.loop-place.self.contained.now.keys in
+    sym c.loop-place.invariant.0 ∙ first-left (is_missing names)
+    c.loop-place.self.targets.now.keys c.loop-place.place c.in-Some.target.now true
     (search (rules, c.in-Some.ensures.key, c.get_index.ensures.key))
     (missing-is c.in-Some.target.now names _ c.contains.ensures ∙ ap not c.if-not-contains.true)
 
@@ -32,13 +33,19 @@ returns-then-not-contains-clause-goes c =
 
 pub loop-place-preserved : goal.loop-place-preserved
 loop-place-preserved c =
-    let names = c.args.self.now.contained.now.keys in
-    let targets = c.args.self.now.targets.now.keys in
-    elim c.match-get_index.branch [
-      | goal.in-Some+else-not-contains w ↦ sym (first-left
-          (is_missing names) targets c.loop-place.place w.in-Some.target.now false (search
-          (rules, w.in-Some.ensures.key, c.get_index.ensures.key)) (missing-is w.in-Some.target.now
-          names _ w.contains.ensures ∙ ap not w.if-not-contains.false)) ∙ c.loop-place.invariant
-      | goal.in_default w ↦ absurd (slice_get_none targets c.loop-place.place
-          (omega arith) (search (rules, w.in_default, c.get_index.ensures.key)))
-    ]
+    let names = c.loop-place.self.contained.now.keys in
+    let targets = c.loop-place.self.targets.now.keys in (
+      elim c.match-get_index.branch [
+        | goal.in-Some+else-not-contains w ↦ sym (first-left (is_missing names) targets
+            c.loop-place.place w.in-Some.target.now false
+            (search (rules, w.in-Some.ensures.key, c.get_index.ensures.key))
+            (missing-is w.in-Some.target.now names _ w.contains.ensures
+            ∙ ap not w.if-not-contains.false)) ∙ c.loop-place.invariant.0
+        | goal.in_default w ↦
+            let same =
+            ap (λ (m : MissingTargets). length m.targets.now.keys) c.loop-place.invariant.1 in
+            absurd (slice_get_none targets c.loop-place.place (omega (arith, same))
+            (search (rules, w.in_default, c.get_index.ensures.key)))
+      ],
+      c.loop-place.invariant.1,
+    )

@@ -4,5 +4,5 @@ use Rattle.thorin_builder.proofs.missing.MissingTargetsIterator.next.Given as go
 
 -- those that were passed over are contained
 abbrev pub invariant-loop-place : goal.invariant-loop-place
-invariant-loop-place l = filter (is_missing l.self.contained.now.keys)
-    (drop l.place l.self.targets.now.keys) ≡ missing_left l.fn.self
+invariant-loop-place l = (filter (is_missing l.self.contained.now.keys)
+    (drop l.place l.self.targets.now.keys) ≡ missing_left l.fn.self) × (l.self ≡ l.fn.self)
