@@ -62,48 +62,31 @@ fn mixed_last(bytes: &[u8], state: u64, at: usize, other: usize) -> u64
     )
 }
 
-/// The whole hash of a string that is longer than 32 bytes.
-#[inline(always)]
-fn long_hash(bytes: &[u8]) -> u64
-    requires { 32 < length bytes.now }
-    ensures { result ≡ wide bytes.now }
-{
-    let len = bytes.len();
-    let mut state = START.wrapping_add(len as u64);
-    let last = len - 32;
-    let mut at = 0;
-    while at < last {
-        state = mixed(bytes, state, at);
-        state = mixed(bytes, state, at + 16);
-        at += 32;
-    }
-    if len - at > 16 {
-        let next = mixed(bytes, state, at);
-        return mixed_last(bytes, next, len - 16, len - 8);
-    }
-    mixed_last(bytes, state, len - 16, len - 8)
-}
-
 /// The whole hash of a string.
+#[tactic(auto, unfolding(crate::specs::Places::wide))]
 #[inline(always)]
 fn wide_hash(string: &[u8]) -> u64
     ensures { result ≡ wide string.now }
 {
     let len = string.len();
-    if len > 32 {
-        return long_hash(string);
+    if len <= 8 {
+        let mut hasher = FoldHasher::default();
+        hasher.write(string);
+        return hasher.finish();
     }
-    let state = START.wrapping_add(len as u64);
-    if len > 16 {
-        let next = mixed(string, state, 0);
-        return mixed_last(string, next, len - 16, len - 8);
+    let mut state = START.wrapping_add(len as u64);
+    let mut at = 0;
+    while at + 32 < len {
+        state = mixed(string, state, at);
+        state = mixed(string, state, at + 16);
+        at += 32;
     }
-    if len > 8 {
-        return mixed_last(string, state, 0, len - 8);
+    let last = len.saturating_sub(16);
+    if len - at > 16 {
+        let next = mixed(string, state, at);
+        return mixed_last(string, next, last, len - 8);
     }
-    let mut hasher = FoldHasher::default();
-    hasher.write(string);
-    hasher.finish()
+    mixed_last(string, state, last, len - 8)
 }
 
 /// The hash of a string, where a call is to be saved.

@@ -1,20 +1,34 @@
-use Rattle.dwp_strings.proofs.Terms.{arith, refl, rules, wide, ◌∙◌}
+use Rattle.dwp_strings.proofs.Terms.{arith, refl, ◌+◌, ◌∙◌}
 use Rattle.dwp_strings.proofs.HashLemmas.{mixed_first, mixed_more, mixed_all}
 use Rattle.dwp_strings.proofs.hash.wide_hash.Goals as goal
 
-pub returns-then-len-gt16 : goal.returns-then-len-gt16
-returns-then-len-gt16 c =
-    let bytes = c.args.string.now in
-    c.mixed_last.ensures ∙ mixed_all bytes _ 16 _ (omega arith) refl (omega arith) (omega arith)
-    (omega arith) (mixed_more bytes _ 0 _ _ refl refl (mixed_first bytes _ refl)
-    c.mixed-next.ensures)
+pub loop-at-init : goal.loop-at-init
+loop-at-init c =
+    record { whole = refl; within = omega arith; so_far = mixed_first c.args.string.now _ refl }
 
-pub returns-then-len-gt8 : goal.returns-then-len-gt8
-returns-then-len-gt8 c =
+pub loop-at-preserved : goal.loop-at-preserved
+loop-at-preserved c =
     let bytes = c.args.string.now in
-    c.mixed_last-then-len-gt8.ensures ∙ mixed_all bytes _ 0 _ (omega arith) refl (omega arith)
-    (omega arith) (omega arith) (mixed_first bytes _ refl)
+    let at = c.loop-at.at in
+    record {
+      whole = omega (arith, c.loop-at.invariant.whole);
+      within = omega arith;
+      so_far = mixed_more bytes _ (at + 16) _ _ (omega (arith, c.loop-at.invariant.whole))
+          (omega arith) (mixed_more bytes _ at _ _ c.loop-at.invariant.whole (omega arith)
+          c.loop-at.invariant.so_far c.mixed-state.ensures) c.mixed-state-in-loop-at.ensures;
+    }
+
+pub returns-then-len-at-gt16 : goal.returns-then-len-at-gt16
+returns-then-len-at-gt16 c =
+    let bytes = c.args.string.now in
+    let at = c.loop-at.at in
+    c.mixed_last.ensures ∙ mixed_all bytes _ (at + 16) _ (omega arith)
+    (omega (arith, c.loop-at.invariant.whole)) (omega arith) (omega arith) (omega arith)
+    (mixed_more bytes _ at _ _ c.loop-at.invariant.whole (omega arith)
+    c.loop-at.invariant.so_far c.mixed-next.ensures)
 
 pub returns : goal.returns
-unfolding wide
-returns c = search rules
+returns c =
+    c.mixed_last-2.ensures ∙ mixed_all c.args.string.now _ c.loop-at.at _ (omega arith)
+    c.loop-at.invariant.whole c.loop-at.invariant.within (omega arith)
+    (omega arith) c.loop-at.invariant.so_far
