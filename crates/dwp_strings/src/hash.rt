@@ -1,6 +1,6 @@
 //! The hash of a string, made of 32 bytes a step: nearly that of std's `FoldHasher`.
 
-ghost use Rattle.std.specs.Prelude.{◌≡◌, ◌<◌, ◌≤◌, ◌+◌, length};
+ghost use Rattle.std.specs.Prelude.{◌≡◌, ◌≤◌, ◌+◌, length};
 ghost use Rattle.std.specs.Hash.FoldHasher.{folded_multiply as folded, read_u32, read_u64, mix};
 ghost use Rattle.dwp_strings.specs.Places.{hash as hash_of, wide, after_block};
 
