@@ -2,8 +2,8 @@
 -- strings that are used. Strings of entries, found by their hashes, or else by their order.
 use Rattle.dwp_strings.proofs.Terms
 use Terms.{All, All-contains, All-permutation, AllPairs, BeginsAt, Bool, Contains, Decides-eqb, Err}
-use Terms.{IsBefore, IsFindable, IsHashed, IsIndexed, IsOrdered, IsPermutation-insert, IsPlaced}
-use Terms.{IsTable, IsZeroFree, List, None, Ok, OnErr, OnOk, Option, Result, Slot, Some}
+use Terms.{IsBefore, IsHashed, IsIndexed, IsOrdered, IsPermutation-insert, IsPlaced}
+use Terms.{IsZeroFree, List, None, Ok, OnErr, OnOk, Option, Result, Some}
 use Terms.{StandsAt, [], ap, append-nil, arith, by-bool, cases_eq, cases_lt, common_steps}
 use Terms.{cond-true, data_of, drop, eqb, false, filter, get_or, get_or-map, get_or-take}
 use Terms.{get_or_default, held, insert, length, length-append, length-take, lt-ltb, ltb, ltb-true}
@@ -25,7 +25,7 @@ use Rattle.std.proofs.{lemmas.List.Concat.flat_map-append, lemmas.Map.Made.is_me
 use Rattle.std.proofs.{lemmas.List.Edits.length-insert, lemmas.List.Kept.AllPairs-filter}
 use Rattle.std.proofs.lemmas.List.Sorted.{Contains-permutation, IsPermutation-filter_both}
 use Rattle.std.specs.declared.alloc.AllocError.{AllocError}
-use Rattle.dwp_strings.specs.Places.{AreFound, AreRelated, hash, IsFound, shared}
+use Rattle.dwp_strings.specs.Places.{AreRelated, hash, IsFound, shared}
 use Rattle.dwp_strings.specs.declared.entries.Entries.{Entries}
 
 -- a string that begins at an offset is the section's, whatever comes behind
@@ -269,9 +269,9 @@ IsFoundIn e h n = IsFound e.places.slots.items e.places.size e.places.is_full e.
 pub entries_few : (e : Entries) → IsHashed e → length e.bytes < 2 ^ 63
     → (e.count + 1 < 2 ^ 64) × (length e.ordered + 1 < 2 ^ 64)
 entries_few e table small =
-    let ended = ap length table.findable.indexed.ended in
+    let ended = ap length table.indexed.ended in
     let few : length (held e) ≤ length e.bytes = omega (arith, strings_few (held e), ended) in
-    (omega (arith, table.counted), omega (arith, positions_few _ _ table.findable.indexed))
+    (omega (arith, table.counted), omega (arith, positions_few _ _ table.indexed))
 
 module _ (e : Entries) (table : IsHashed e) where
   -- a string of the section stands where its offset says
@@ -280,13 +280,13 @@ module _ (e : Entries) (table : IsHashed e) where
   stands_there s there =
       let free = All-contains IsZeroFree (held e) s (zero_free-strings_in e.bytes) there in
       let begins = begins_there (held e) s free in
-      grind (arith, table.findable.indexed.ended, begins, has_Decides (held e) s)
+      grind (arith, table.indexed.ended, begins, has_Decides (held e) s)
 
   -- a string begins where one is said to
   pub begins_at_offset : (p : ℕ) → Contains (offsets_from 0 (held e)) p → BeginsAt e.bytes p
   begins_at_offset p there =
       let ss = held e in
-      let at = offset_of-at ss 0 there.0 [] p table.findable.indexed.distinct in
+      let at = offset_of-at ss 0 there.0 [] p table.indexed.distinct in
       let stands = stands_there (get_or ss there.0 []) in
       grind (arith, there.2, length-offsets_from 0 ss, at, stands, Contains-get_or ss there.0 [])
 
@@ -295,8 +295,8 @@ module _ (e : Entries) (table : IsHashed e) (s : List ℕ) (h : ℕ) (is_hash : 
   found_at : Contains (held e) s → IsFoundIn e h (offset_of (held e) s)
   found_at there =
       let ss = held e in
-      let at = offset_of-at ss 0 there.0 s 0 table.findable.indexed.distinct in
-      let found = table.findable.found there.0 in
+      let at = offset_of-at ss 0 there.0 s 0 table.indexed.distinct in
+      let found = table.found there.0 in
       grind (arith, get_or-map hash ss there.0 s 0, is_hash, at, found, length-map ss hash)
 
   -- a string whose hash has no place isn't there, where more get one
@@ -354,13 +354,14 @@ found_each e new table more = λ k less.
     let offsets = offsets_from 0 (held e) in
     let next = more (get_or (map hash (held e)) k 0) (get_or offsets k 0) in
     let among = Contains-get_or offsets k 0 in
-    grind (arith, next, among, length-map, length-offsets_from, table.findable.found k)
+    grind (arith, next, among, length-map, length-offsets_from, table.found k)
 
 -- the strings stay, and are found in another way
 pub hashed_kept : (e new : Entries) → IsHashed e → new.bytes ≡ e.bytes
     → new.count ≡ e.count → IsIndexed e.bytes new.ordered → Carries e new → IsHashed new
 hashed_kept e new table is_new is_count indexed more = record {
-  findable = rw is_new (record { indexed = indexed; found = found_each e new table more });
+  indexed = rw is_new indexed;
+  found = rw is_new (found_each e new table more);
   counted = grind (arith, is_count, table.counted, is_new);
 }
 
@@ -383,7 +384,7 @@ pub added : (e new : Entries) (s : List ℕ) (h n : ℕ) → IsHashed e → IsZe
     → IsAdded e new s n
 added e new s h n table free is_hash absent is_new is_long is_count indexed more last =
     let ss = held e in
-    let ended = table.findable.indexed.ended in
+    let ended = table.indexed.ended in
     let push : held new ≡ ss ++ s ∷ [] = ap strings_in is_new
     ∙ (strings_push e.bytes s ended free).0 in
     let far : 0 + length (data_of ss) ≡ n = omega (arith, ap length ended, is_long) in
@@ -391,10 +392,8 @@ added e new s h n table free is_hash absent is_new is_long is_count indexed more
     (length-offsets_from 0 ss ∙ sym (length-map ss hash)) (found_each e new table more) last in
     record {
       table = record {
-        findable = record {
-          indexed = rw is_new indexed;
-          found = rw (push, map-append, ← is_hash, offsets_from-append, far) related;
-        };
+        indexed = rw is_new indexed;
+        found = rw (push, map-append, ← is_hash, offsets_from-append, far) related;
         counted = grind (arith, is_count, table.counted, push, length-append);
       };
       placed = used_new e.bytes new.bytes s n ended free is_new is_long absent;
@@ -433,33 +432,26 @@ kept_below xs m y below there =
     (Contains-append_cases (filter low xs) (filter high xs) y parted)
 
 -- back to the first strings
-pub findable_take : (bytes kept : List ℕ) (slots : List Slot) (size : ℕ) (is_full : Bool)
-    (ordered ordered' : List ℕ) (strings : List (List ℕ)) (n m : ℕ)
-    → IsFindable bytes slots size is_full ordered → strings_in bytes ≡ strings
-    → m ≡ length (data_of (take n strings)) → kept ≡ take m bytes
-    → ordered' ≡ filter (λ p. ltb p m) ordered
-    → (strings_in kept ≡ take n strings) × IsFindable kept slots size is_full ordered'
-findable_take bytes kept slots size is_full ordered ordered' strings n m table is_strings is_mark
-    is_kept is_ordered =
-    let ss = strings_in bytes in
-    let long : m ≡ length (data_of (take n ss)) = grind (arith, is_mark, is_strings) in
-    let new = indexed_take bytes ordered n m table.indexed long in
-    let strings' : strings_in kept ≡ take n ss = ap strings_in is_kept ∙ new.0 in
-    let found : AreFound kept slots size is_full ordered' = λ k less.
-    let first : (k < n) × (k < length (take n ss)) =
-    grind (arith, less, length-map, length-take, strings') in
+pub hashed_take : (e new : Entries) (n m : ℕ) → IsHashed e → n ≡ length (take n (held e))
+    → m ≡ length (data_of (take n (held e))) → new.bytes ≡ take m e.bytes → new.places ≡ e.places
+    → new.ordered ≡ filter (λ p. ltb p m) e.ordered → new.count ≡ n → IsHashed new
+hashed_take e new n m table few long is_bytes same is_ordered is_count =
+    let ss = held e in
+    let now = indexed_take e.bytes e.ordered n m table.indexed long in
+    let strings : held new ≡ take n ss = ap strings_in is_bytes ∙ now.0 in
+    let found : AreRelated (IsFoundIn new) (map hash (take n ss)) (offsets_from 0 (take n ss)) =
+    λ k less.
+    let first : (k < n) × (k < length (take n ss)) = grind (arith, less, length-map, length-take) in
     let place = get_or (offsets_from 0 (take n ss)) k 0 in
     let is_place : get_or (offsets_from 0 ss) k 0 ≡ place =
     grind (arith, offsets_from-take n 0 ss, get_or-take, first.0) in
     let low = offsets_from-below 0 (take n ss) k 0 in
     let below : place < m = grind (arith, low, first, length-offsets_from, long) in
     let here = table.found k (omega (arith, length-take n ss, length-map ss hash)) in
-    rw (strings', ← take-map hash n ss, get_or-take n (map hash ss) k 0 first.0)
-    (grind (arith, is_place, here, is_ordered, kept_below ordered m place below)) in (
-      strings' ∙ ap (take n) is_strings,
-      record { indexed = rw (is_kept, is_ordered) new.1; found = found },
-    )
-
-pub findable_table : (bytes : List ℕ) (slots : List Slot) (size : ℕ) (is_full : Bool)
-    (ordered : List ℕ) → IsFindable bytes slots size is_full ordered → IsTable (strings_in bytes)
-findable_table bytes slots size is_full ordered table = search (zero_free-strings_in)
+    rw (same, ← take-map hash n ss, get_or-take n (map hash ss) k 0 first.0)
+    (grind (arith, is_place, here, same, is_ordered, kept_below e.ordered m place below)) in
+    record {
+      indexed = rw (is_bytes, is_ordered) now.1;
+      found = rw strings found;
+      counted = is_count ∙ few ∙ ap length (sym strings);
+    }

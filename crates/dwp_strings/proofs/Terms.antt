@@ -32,5 +32,5 @@ pub use Rattle.dwp_base.proofs.Bools.{by-bool}
 pub use Rattle.dwp_bytes.specs.StringOffsets.{string_from}
 pub use Rattle.dwp_strings.specs.Chunks.{IsChunked, pieces}
 pub use Rattle.dwp_strings.specs.{declared.places.Slot.Slot, Ends.IsCopied, Ends.IsFirstZero}
-pub use Rattle.dwp_strings.specs.Hashed.{held, IsFindable, IsHashed}
+pub use Rattle.dwp_strings.specs.Hashed.{held, IsHashed}
 pub use Rattle.dwp_strings.specs.Places.{free, home, IsOrdered, place_from}

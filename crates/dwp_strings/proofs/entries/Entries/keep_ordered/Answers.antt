@@ -6,7 +6,7 @@ use Rattle.dwp_strings.proofs.entries.Entries.keep_ordered.Goals as goal
 pub returns-in-Ok-place-clause-there : goal.returns-in-Ok-place-clause-there
 returns-in-Ok-place-clause-there c = λ begins.
     let e = c.args.self.now in
-    let table = c.requires.table.findable.indexed in
+    let table = c.requires.table.indexed in
     let s = c.in-Ok.string.now in
     let found = rw (c.in-Ok-place.is, c.as_slice-bytes.ensures.value) at c.search.ensures.found in
     let among = rw c.in-Ok-place.is at c.search.ensures.there in
@@ -25,7 +25,7 @@ returns-in-Err-clause-table c =
     let begins = rw c.as_slice-bytes.ensures.value at (c.begins_at.ensures.0
     c.if-not-begins_at.false) in
     let now = inserted_or e.bytes e.ordered s c.in-Err.rank c.args.place _ c.insert.result
-    table.findable.indexed stands (offset_there e.bytes c.args.place begins) is
+    table.indexed stands (offset_there e.bytes c.args.place begins) is
     c.insert.ensures.ok c.insert.ensures.err in
     let new = record e { ordered = c.insert.new.self } in
     hashed_kept e new table refl refl now.0 (carried_among e new refl now.1)

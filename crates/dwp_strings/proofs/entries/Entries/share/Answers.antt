@@ -8,7 +8,7 @@ returns-clause-table c =
     let table = c.keep_ordered.ensures.table in
     let has : place_in e c.args.hash ≡ Some c.args.place = grind arith in
     let new = record e { places = c.give.new.self } in
-    hashed_kept e new table refl refl table.findable.indexed
+    hashed_kept e new table refl refl table.indexed
     (carried_shared e new c.args.hash c.args.place c.give.ensures.full refl has
     c.give.ensures.others (c.give.ensures.given _ has)
     (λ begun. c.in_ok-keep_ordered.ensures.there (begins_at_offset e table _ begun)))
