@@ -2,18 +2,18 @@
 -- strings that are used. Strings of entries, found by their hashes, or else by their order.
 use Rattle.dwp_strings.proofs.Terms
 use Terms.{All, All-contains, All-permutation, AllPairs, BeginsAt, Bool, Contains, Decides-eqb, Err}
-use Terms.{IsBefore, IsHashed, IsIndexed, IsOrdered, IsPermutation-insert, IsPlaced}
-use Terms.{IsZeroFree, List, None, Ok, OnErr, OnOk, Option, Result, Some}
-use Terms.{StandsAt, [], ap, append-nil, arith, by-bool, cases_eq, cases_lt, common_steps}
-use Terms.{cond-true, data_of, drop, eqb, false, filter, get_or, get_or-map, get_or-take}
-use Terms.{get_or_default, held, insert, length, length-append, length-take, lt-ltb, ltb, ltb-true}
-use Terms.{map, nat_eq_equiv, nat_list_cmp_total, not, offset_of, offsets_from, place_of, refl}
-use Terms.{string_from, strings_in, suc, sym, take, take-append-drop, take_at, terminated}
-use Terms.{tied_itself, true, zero, ℕ, ⊎_elim, ◌++◌, ◌+◌, ◌-◌, ◌<◌, ◌^◌, ◌∙◌, ◌∷◌, ◌≡◌, ◌≢◌, ◌≤◌}
+use Terms.{IsBefore, IsHashed, IsIndexed, IsOrdered, IsPermutation-insert, IsPlaced, IsZeroFree}
+use Terms.{List, None, Ok, OnErr, OnOk, Option, Result, Some, StandsAt, [], ap, append-nil, arith}
+use Terms.{by-bool, cases_eq, cases_lt, common_steps, cond-true, data_of, drop, eqb, false, filter}
+use Terms.{get_or, get_or-map, get_or-take, get_or_default, held, insert, length, length-append}
+use Terms.{length-take, lt-ltb, ltb, ltb-true, map, nat_eq_equiv, nat_list_cmp_total, offset_of}
+use Terms.{offsets_from, place_of, refl, split_at, string_from, strings_in, suc, sym, take}
+use Terms.{take-append-drop, take_at, terminated, tied_itself, zero, ℕ, ⊎_elim, ◌++◌, ◌+◌, ◌-◌, ◌<◌}
+use Terms.{◌^◌, ◌∙◌, ◌∷◌, ◌≡◌, ◌≢◌, ◌≤◌}
 use Rattle.std.proofs.lemmas.List.Edits.{get_or-insert_above, get_or-insert_at, get_or-insert_below}
 use Rattle.std.proofs.lemmas.List.Elements.{All-filter, Contains-append_cases, Contains-append_left}
 use Rattle.std.proofs.lemmas.List.Elements.{All-cons, Contains-get_or, Contains-push, filter_passes}
-use Rattle.std.proofs.lemmas.List.Elements.{All-push, All-take}
+use Rattle.std.proofs.lemmas.List.Elements.{All-push, All-take, Contains-append_right}
 use Rattle.std.proofs.lemmas.Map.Made.{IsDistinct-from_AllPairs, length-le_from_is_member}
 use Rattle.dwp_strings.proofs.Named.{length-data_of-cons, length-offsets_from, zero_free-strings_in}
 use Rattle.dwp_strings.proofs.Named.{begins_there, distinct_push, map-string_from, offset_of-absent}
@@ -23,7 +23,7 @@ use Rattle.dwp_strings.proofs.Named.{has_Decides, offset_of-at}
 use Rattle.std.proofs.lemmas.List.{flat_map_more, length-map, map-append, take-map}
 use Rattle.std.proofs.{lemmas.List.Concat.flat_map-append, lemmas.Map.Made.is_member-Decides}
 use Rattle.std.proofs.{lemmas.List.Edits.length-insert, lemmas.List.Kept.AllPairs-filter}
-use Rattle.std.proofs.lemmas.List.Sorted.{Contains-permutation, IsPermutation-filter_both}
+use Rattle.std.proofs.lemmas.List.{Elements.filter-append, Sorted.Contains-permutation}
 use Rattle.std.specs.declared.alloc.AllocError.{AllocError}
 use Rattle.dwp_strings.specs.Places.{AreRelated, hash, IsFound, shared}
 use Rattle.dwp_strings.specs.declared.entries.Entries.{Entries}
@@ -423,13 +423,11 @@ inserted_or bytes ordered s r p new (Err e) table _ _ _ _ err = rw err (table, �
 kept_below : (xs : List ℕ) (m y : ℕ) → y < m → Contains xs y → Contains (filter (λ x. ltb x m) xs) y
 kept_below xs m y below there =
     let low : ℕ → Bool = λ x. ltb x m in
-    let high : ℕ → Bool = λ x. not (ltb x m) in
-    let parted = Contains-permutation xs (filter low xs ++ filter high xs) y
-    (IsPermutation-filter_both low high (λ x. refl) xs) there in
-    ⊎_elim (λ kept. kept) (λ gone.
-    let above = All-contains (λ x. high x ≡ true) _ y (filter_passes high xs) gone in
-    grind (arith, above, lt-ltb y m below))
-    (Contains-append_cases (filter low xs) (filter high xs) y parted)
+    let front = take there.0 xs in
+    let back = drop (suc there.0) xs in
+    let parts : xs ≡ front ++ y ∷ back = rw there.2 at (split_at xs there.0 y there.1) in
+    rw (ap (filter low) parts, filter-append low front (y ∷ back), lt-ltb y m below)
+    (Contains-append_right (filter low front) _ y (0, omega arith, refl))
 
 -- back to the first strings
 pub hashed_take : (e new : Entries) (n m : ℕ) → IsHashed e → n ≡ length (take n (held e))
