@@ -50,13 +50,13 @@ not_before_itself : (s : List ℕ) → IsBefore s s → ⊥
 not_before_itself s less = let own = tied_itself nat_list_cmp_total s in cc
 
 -- the string that begins at an offset has that offset
-pub known_offset_in : (bytes s : List ℕ) (p : ℕ) → data_of (strings_in bytes) ≡ bytes
-    → AllPairs (λ s t. s ≢ t) (strings_in bytes) → Contains (offsets_from 0 (strings_in bytes)) p
-    → string_from bytes p ≡ s → Contains (strings_in bytes) s × (p ≡ offset_of (strings_in bytes) s)
-known_offset_in bytes s p ended distinct there is =
+pub known_offset_in : (bytes positions s : List ℕ) (p : ℕ) → IsIndexed bytes positions
+    → Contains (offsets_from 0 (strings_in bytes)) p → string_from bytes p ≡ s
+    → Contains (strings_in bytes) s × (p ≡ offset_of (strings_in bytes) s)
+known_offset_in bytes positions s p table there is =
     let ss = strings_in bytes in
-    let string = string_there bytes [] p ended there in
-    let offset = offset_of-at ss 0 there.0 [] p distinct in
+    let string = string_there bytes [] p table.ended there in
+    let offset = offset_of-at ss 0 there.0 [] p table.distinct in
     let among = Contains-get_or ss there.0 [] in
     grind (arith, string, append-nil bytes, offset, length-offsets_from 0 ss, among)
 
@@ -246,8 +246,7 @@ pub used_there : (bytes positions s : List ℕ) (at : ℕ) → IsIndexed bytes p
     → BeginsAt bytes at × (string_from bytes at ≡ s)
     → IsPlaced (strings_in bytes) (strings_in bytes) s at
 used_there bytes positions s at table here =
-    let begins = offset_there bytes at here.0 in
-    let known = known_offset_in bytes s at table.ended table.distinct begins here.1 in
+    let known = known_offset_in bytes _ s at table (offset_there bytes at here.0) here.1 in
     used_found (strings_in bytes) s at known.0 known.1
 
 -- a new one, which went last

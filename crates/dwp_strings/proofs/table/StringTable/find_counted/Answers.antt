@@ -37,8 +37,7 @@ known : (c : goal.Then-stands_at) → Contains (held c.self.inside.entries) c.ar
     × (c.match-seek.place ≡ offset_of (held c.self.inside.entries) c.args.string.now)
 known c =
     let here = rw c.as_slice-2.ensures.value at (c.stands_at.ensures.0 c.if-stands_at.true) in
-    let table = c.self.invariant.indexed in
-    known_offset_in _ _ _ table.ended table.distinct (offset_there _ _ here.0) here.1
+    known_offset_in _ _ _ _ c.self.invariant.indexed (offset_there _ _ here.0) here.1
 
 pub returns-then-stands_at-clause-found : goal.returns-then-stands_at-clause-found
 returns-then-stands_at-clause-found c = rw (← c.self.view_is) (λ _. (known c).0, λ _. refl)
