@@ -1,32 +1,31 @@
 -- The strings of a table: some positions of them, in their order; places at which they begin, and
 -- strings that are used. Strings of entries, found by their hashes, or else by their order.
 use Rattle.dwp_strings.proofs.Terms
-use Terms.{All, All-contains, All-permutation, AllPairs, BeginsAt, Bool, Contains, Decides-eqb, Err}
-use Terms.{IsBefore, IsHashed, IsIndexed, IsOrdered, IsPermutation-insert, IsPlaced, IsZeroFree}
-use Terms.{List, None, Ok, OnErr, OnOk, Option, Result, Some, StandsAt, [], ap, append-nil, arith}
-use Terms.{by-bool, cases_eq, cases_lt, common_steps, cond-true, data_of, drop, eqb, false, filter}
-use Terms.{get_or, get_or-map, get_or-take, get_or_default, held, insert, length, length-append}
-use Terms.{length-take, lt-ltb, ltb, ltb-true, map, nat_eq_equiv, nat_list_cmp_total, offset_of}
-use Terms.{offsets_from, place_of, refl, split_at, string_from, strings_in, suc, sym, take}
-use Terms.{take-append-drop, take_at, terminated, tied_itself, zero, ℕ, ⊎_elim, ◌++◌, ◌+◌, ◌-◌, ◌<◌}
-use Terms.{◌^◌, ◌∙◌, ◌∷◌, ◌≡◌, ◌≢◌, ◌≤◌}
-use Rattle.std.proofs.lemmas.List.Edits.{get_or-insert_above, get_or-insert_at, get_or-insert_below}
-use Rattle.std.proofs.lemmas.List.Elements.{All-filter, Contains-append_cases, Contains-append_left}
-use Rattle.std.proofs.lemmas.List.Elements.{All-cons, Contains-get_or, Contains-push, filter_passes}
-use Rattle.std.proofs.lemmas.List.Elements.{All-push, All-take, Contains-append_right}
-use Rattle.std.proofs.lemmas.Map.Made.{IsDistinct-from_AllPairs, length-le_from_is_member}
+use Terms.{All-permutation, Decides-eqb, IsPermutation-insert, nat_list_cmp_total, take-append-drop}
+use Terms.{All-contains, common_steps, get_or_default, length-append, nat_eq_equiv, offsets_from, ℕ}
+use Terms.{IsZeroFree, append-nil, get_or-map, get_or-take, length-take, string_from, tied_itself}
+use Terms.{AllPairs, BeginsAt, IsIndexed, IsOrdered, cond-true, offset_of, strings_in, terminated}
+use Terms.{Contains, IsBefore, IsHashed, IsPlaced, StandsAt, cases_eq, cases_lt, ltb-true, split_at}
+use Terms.{OnErr, Result, by-bool, data_of, filter, get_or, insert, length, lt-ltb, take_at, ⊎_elim}
+use Terms.{All, Bool, Err, List, None, OnOk, Some, arith, drop, false, held, refl, take, zero, ◌++◌}
+use Terms.{Ok, [], ap, eqb, ltb, map, suc, sym, ◌+◌, ◌-◌, ◌<◌, ◌^◌, ◌∙◌, ◌∷◌, ◌≡◌, ◌≢◌, ◌≤◌}
+use Rattle.std.proofs.lemmas.List.Elements.{All-cons, Contains-append_cases, Contains-append_right}
+use Rattle.std.proofs.lemmas.List.Elements.{Contains-append_left, Contains-get_or, Contains-push}
+use Rattle.std.proofs.lemmas.List.Elements.{All-filter, All-push, All-take, filter_passes}
 use Rattle.dwp_strings.proofs.Named.{length-data_of-cons, length-offsets_from, zero_free-strings_in}
 use Rattle.dwp_strings.proofs.Named.{begins_there, distinct_push, map-string_from, offset_of-absent}
 use Rattle.dwp_strings.proofs.Named.{offsets_from-above, offsets_from-append, offsets_from-below}
 use Rattle.dwp_strings.proofs.Named.{offsets_from-take, string_from-ended, strings_in-data_of}
 use Rattle.dwp_strings.proofs.Named.{has_Decides, offset_of-at}
-use Rattle.std.proofs.lemmas.List.{flat_map_more, length-map, map-append, take-map}
+use Rattle.std.proofs.lemmas.List.{length-map, Elements.filter-append, Sorted.Contains-permutation}
+use Rattle.std.proofs.lemmas.List.{flat_map_more, map-append, take-map}
 use Rattle.std.proofs.{lemmas.List.Concat.flat_map-append, lemmas.Map.Made.is_member-Decides}
 use Rattle.std.proofs.{lemmas.List.Edits.length-insert, lemmas.List.Kept.AllPairs-filter}
-use Rattle.std.proofs.lemmas.List.{Elements.filter-append, Sorted.Contains-permutation}
+use Rattle.dwp_strings.specs.{Hashed.IsFound, Places.AreRelated, Places.hash, Places.place_in}
+use Rattle.dwp_strings.specs.{declared.entries.Entries.Entries, Places.shared}
+use Rattle.std.proofs.lemmas.List.Edits.{get_or-insert_above, get_or-insert_at, get_or-insert_below}
+use Rattle.std.proofs.lemmas.Map.Made.{IsDistinct-from_AllPairs, length-le_from_is_member}
 use Rattle.std.specs.declared.alloc.AllocError.{AllocError}
-use Rattle.dwp_strings.specs.Places.{AreRelated, hash, IsFound, shared}
-use Rattle.dwp_strings.specs.declared.entries.Entries.{Entries}
 
 -- a string that begins at an offset is the section's, whatever comes behind
 string_there : (bytes rest : List ℕ) (p : ℕ) → data_of (strings_in bytes) ≡ bytes
@@ -257,13 +256,6 @@ used_new bytes new s n ended free is_new is_long absent =
     let ss = strings_in bytes in
     grind (arith, has_Decides ss s, offset_of-absent ss s, strings_push bytes s ended free)
 
--- the place that a hash has among those of entries
-abbrev pub place_in : Entries → ℕ → Option ℕ
-place_in e h = place_of e.places.slots.items e.places.size h
-
-abbrev pub IsFoundIn : Entries → ℕ → ℕ → Type 0
-IsFoundIn e h n = IsFound e.places.slots.items e.places.size e.places.is_full e.ordered h n
-
 -- there are no more strings than bytes, so that one more can be counted
 pub entries_few : (e : Entries) → IsHashed e → length e.bytes < 2 ^ 63
     → (e.count + 1 < 2 ^ 64) × (length e.ordered + 1 < 2 ^ 64)
@@ -291,7 +283,7 @@ module _ (e : Entries) (table : IsHashed e) where
 
 module _ (e : Entries) (table : IsHashed e) (s : List ℕ) (h : ℕ) (is_hash : h ≡ hash s) where
   -- it is found
-  found_at : Contains (held e) s → IsFoundIn e h (offset_of (held e) s)
+  found_at : Contains (held e) s → IsFound e h (offset_of (held e) s)
   found_at there =
       let ss = held e in
       let at = offset_of-at ss 0 there.0 s 0 table.indexed.distinct in
@@ -299,17 +291,17 @@ module _ (e : Entries) (table : IsHashed e) (s : List ℕ) (h : ℕ) (is_hash : 
       grind (arith, get_or-map hash ss there.0 s 0, is_hash, at, found, length-map ss hash)
 
   -- a string whose hash has no place isn't there, where more get one
-  pub unplaced : e.places.is_full ≡ false → place_in e h ≡ None → Contains (held e) s → ⊥
+  pub unplaced : e.places.is_full ≡ false → place_in e.places h ≡ None → Contains (held e) s → ⊥
   unplaced gets none there = grind (arith, found_at there)
 
   -- nor one that doesn't stand at the place of its hash, where strings don't share that
-  pub misplaced : (p : ℕ) → place_in e h ≡ Some p → p ≢ shared
+  pub misplaced : (p : ℕ) → place_in e.places h ≡ Some p → p ≢ shared
       → (BeginsAt e.bytes p × (string_from e.bytes p ≡ s) → ⊥) → Contains (held e) s → ⊥
   misplaced p has own far there = grind (arith, found_at there, stands_there e table s there, far)
 
   -- nor one that isn't among those in order, where it is looked for there
-  pub unordered : (r : ℕ) → IsOrdered e.places.slots.items e.places.size e.places.is_full h
-      → StandsAt e.bytes e.ordered s r → Contains (held e) s → ⊥
+  pub unordered : (r : ℕ) → IsOrdered e.places h → StandsAt e.bytes e.ordered s r
+      → Contains (held e) s → ⊥
   unordered r leads stands there =
       let here = stands_there e table s there in
       let apart : Contains e.ordered (offset_of (held e) s) → ⊥ =
@@ -318,13 +310,12 @@ module _ (e : Entries) (table : IsHashed e) (s : List ℕ) (h : ℕ) (is_hash : 
 
 -- what is found among entries is so among others
 abbrev pub Carries : Entries → Entries → Type 0
-Carries e new = (g m : ℕ) → Contains (offsets_from 0 (held e)) m → IsFoundIn e g m
-    → IsFoundIn new g m
+Carries e new = (g m : ℕ) → Contains (offsets_from 0 (held e)) m → IsFound e g m → IsFound new g m
 
 -- where each place that a hash has is kept, and no more are full
 pub carried_kept : (e new : Entries) → e.places.is_full ≡ false
-    → ((h n : ℕ) → place_in e h ≡ Some n → place_in new h ≡ Some n) → new.ordered ≡ e.ordered
-    → Carries e new
+    → ((h n : ℕ) → place_in e.places h ≡ Some n → place_in new.places h ≡ Some n)
+    → new.ordered ≡ e.ordered → Carries e new
 carried_kept e new gets kept same = λ g m _ found.
     rw same (grind (arith, found, kept g m, kept g shared))
 
@@ -335,10 +326,10 @@ carried_among e new same more = λ g m _ found. rw same (grind (arith, found, mo
 
 -- where the place of one hash alone is another
 module _ (e new : Entries) (h p : ℕ) (full : new.places.is_full ≡ e.places.is_full)
-    (ordered : new.ordered ≡ e.ordered) (has : place_in e h ≡ Some p)
-    (others : (g : ℕ) → g ≢ h → place_in new g ≡ place_in e g) where
+    (ordered : new.ordered ≡ e.ordered) (has : place_in e.places h ≡ Some p)
+    (others : (g : ℕ) → g ≢ h → place_in new.places g ≡ place_in e.places g) where
   -- that of strings which share it, and the one there is among those in order
-  pub carried_shared : place_in new h ≡ Some shared
+  pub carried_shared : place_in new.places h ≡ Some shared
       → (Contains (offsets_from 0 (held e)) p → Contains e.ordered p) → Carries e new
   carried_shared is there = λ g m begun found. grind (arith, others g, cases_eq g h)
 
@@ -347,7 +338,7 @@ module _ (e new : Entries) (h p : ℕ) (full : new.places.is_full ≡ e.places.i
   carried_over own gone = λ g m begun found. grind (arith, others g, cases_eq g h)
 
 -- each string is found where each was
-found_each : (e new : Entries) → IsHashed e → Carries e new → AreRelated (IsFoundIn new)
+found_each : (e new : Entries) → IsHashed e → Carries e new → AreRelated (IsFound new)
     (map hash (held e)) (offsets_from 0 (held e))
 found_each e new table more = λ k less.
     let offsets = offsets_from 0 (held e) in
@@ -379,7 +370,7 @@ pub record IsAdded (e new : Entries) (s : List ℕ) (n : ℕ) : Type 0 where
 pub added : (e new : Entries) (s : List ℕ) (h n : ℕ) → IsHashed e → IsZeroFree s → h ≡ hash s
     → (Contains (held e) s → ⊥) → new.bytes ≡ e.bytes ++ terminated s
     → n ≡ length e.bytes → new.count ≡ e.count + 1
-    → IsIndexed (e.bytes ++ terminated s) new.ordered → Carries e new → IsFoundIn new h n
+    → IsIndexed (e.bytes ++ terminated s) new.ordered → Carries e new → IsFound new h n
     → IsAdded e new s n
 added e new s h n table free is_hash absent is_new is_long is_count indexed more last =
     let ss = held e in
@@ -387,7 +378,7 @@ added e new s h n table free is_hash absent is_new is_long is_count indexed more
     let push : held new ≡ ss ++ s ∷ [] = ap strings_in is_new
     ∙ (strings_push e.bytes s ended free).0 in
     let far : 0 + length (data_of ss) ≡ n = omega (arith, ap length ended, is_long) in
-    let related = related_push (IsFoundIn new) (map hash ss) (offsets_from 0 ss) h n
+    let related = related_push (IsFound new) (map hash ss) (offsets_from 0 ss) h n
     (length-offsets_from 0 ss ∙ sym (length-map ss hash)) (found_each e new table more) last in
     record {
       table = record {
@@ -436,7 +427,7 @@ hashed_take e new n m table few long is_bytes same is_ordered is_count =
     let ss = held e in
     let now = indexed_take e.bytes e.ordered n m table.indexed long in
     let strings : held new ≡ take n ss = ap strings_in is_bytes ∙ now.0 in
-    let found : AreRelated (IsFoundIn new) (map hash (take n ss)) (offsets_from 0 (take n ss)) =
+    let found : AreRelated (IsFound new) (map hash (take n ss)) (offsets_from 0 (take n ss)) =
     λ k less.
     let first : (k < n) × (k < length (take n ss)) = grind (arith, less, length-map, length-take) in
     let place = get_or (offsets_from 0 (take n ss)) k 0 in
