@@ -113,14 +113,6 @@ fn put_again(slots: &mut [Slot], size: u32, others: &[Slot]) -> Option<usize>
     Some(used)
 }
 
-/// At how many slots hashes are to begin, where they begin at so many now.
-fn more_than(size: u32) -> u32 {
-    SIZES
-        .into_iter()
-        .find(|next| size < *next)
-        .unwrap_or(size.saturating_mul(2))
-}
-
 /// How many slots are used at most, where hashes begin at so many: five of eight.
 fn most(size: u32) -> usize {
     size as usize / 8 * 5
@@ -175,7 +167,10 @@ impl HashedPlaces {
         ensures kept { IfSome result (λ new. (h n : ℕ) → place_in self.now h ≡ Some n
             → place_in new h ≡ Some n) }
     {
-        let size = more_than(self.size);
+        let size = SIZES
+            .into_iter()
+            .find(|next| self.size < *next)
+            .unwrap_or(self.size.saturating_mul(2));
         let count = (size as usize).saturating_add(PROBES);
         let mut slots = Vec::from_elem(self.alloc, FREE, count).ok()?;
         let used = put_again(&mut slots, size, &self.slots)?;
