@@ -45,9 +45,7 @@ pub struct StringTable {
 /// The place behind a string, where four bytes hold it.
 #[inline(always)]
 fn behind(place: usize, length: usize) -> u32 {
-    let place = (place % 0x1_0000_0000) as u32;
-    let length = (length % 0x1_0000_0000) as u32;
-    place.wrapping_add(length).wrapping_add(1)
+    (place.wrapping_add(length).wrapping_add(1) % 0x1_0000_0000) as u32
 }
 
 impl Model for StringTable {
