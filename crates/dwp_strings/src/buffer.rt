@@ -229,9 +229,7 @@ impl Buffer {
     pub fn truncate(&mut self, len: usize)
         ensures { self.new ≡ take len self.old }
     {
-        if len < self.used {
-            self.used = len;
-        }
+        self.used = self.used.min(len);
     }
 
     /// The bytes, as they are owned.
