@@ -179,15 +179,14 @@ impl<'a> DebugData<SectionReader<'a>> {
         let debug_line_str = load_first(alloc, session, &file, DebugSection::LineStr)?;
         let debug_str = load_first(alloc, session, &file, DebugSection::Str)?;
         let debug_str_offsets = load_first(alloc, session, &file, DebugSection::StrOffsets)?;
-        let strings = StringSections {
-            debug_str,
-            debug_line_str,
-            debug_str_offsets,
-        };
         Ok(DebugData {
             debug_abbrev,
             debug_info,
-            strings,
+            strings: StringSections {
+                debug_str,
+                debug_line_str,
+                debug_str_offsets,
+            },
         })
     }
 }
