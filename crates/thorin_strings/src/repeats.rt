@@ -156,8 +156,7 @@ impl Repeats {
                 Some(cell) if *cell == 0 && number < u32::MAX as usize => *cell = number as u32,
                 _ => return Ok(()),
             }
-            self.pairs.push((offset, known))?;
-            return Ok(());
+            return self.pairs.push((offset, known));
         }
         plant(self.alloc, &mut self.links)?;
         let Err(at) = walk(&self.links, &self.pairs, offset) else {
