@@ -16,6 +16,7 @@ use std::simd::prelude::*;
 const LANES: usize = 32;
 
 /// How the string at a place, whose end isn't looked for, stands to one without zero bytes.
+#[tactic(auto, using(crate::proofs::CompareLemmas::compared_at, crate::proofs::CompareLemmas::compared_short))]
 pub(crate) fn compare_at(bytes: &[u8], at: usize, string: &[u8]) -> Ordering
     requires within { at ≤ length bytes.now }
     requires zero_free { IsZeroFree string.now }
