@@ -39,6 +39,7 @@ pub(crate) fn begins_at(bytes: &[u8], at: usize) -> bool
 }
 
 /// Whether this string begins at a place of a section of ended strings.
+#[tactic(auto, using(crate::proofs::CompareLemmas::alike_at))]
 #[inline(always)]
 pub(crate) fn stands_at(bytes: &[u8], at: usize, string: &[u8]) -> bool
     requires { IsZeroFree string.now }
