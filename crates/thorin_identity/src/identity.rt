@@ -1,16 +1,15 @@
 //! Which unit a unit of a split object is.
 
 ghost use Rattle.std.specs.Prelude.{drop, IfErr, IfSome, Ok, take, ◌≡◌, ◌≢◌};
-ghost use Rattle.thorin_identity.specs.Identity.{entry_identity, numbered_identity, root_identity};
-ghost use Rattle.thorin_identity.specs.Identity.{identity, identity_by, part_between, with_offset};
-ghost use Rattle.dwp_bytes.specs.Input.{Input};
-ghost use Rattle.thorin_errors.specs.Answers.{Gives};
+ghost use Rattle.thorin_identity.specs.Identity.{numbered_identity, part_between, root_identity};
+ghost use Rattle.thorin_identity.specs.Identity.{identity, identity_by, with_offset};
+ghost use Rattle.{dwp_bytes.specs.Input.Input, thorin_errors.specs.Answers.Gives};
 ghost use Rattle.dwp_units.specs.Units.{Unit, unit_of};
-ghost use Rattle.dwp_dwarf.specs.{Attributes.entry_of, Numbers.numbered_of};
+ghost use Rattle.dwp_dwarf.specs.Numbers.{numbered_of};
 
 use dwp_dwarf::{
-    AbbreviationCache, Abbreviations, EntryNumber, ReadError, Reader, RootEntry, UnitHeader,
-    UnitType, number_read,
+    AbbreviationCache, Abbreviations, EntryNumber, ReadError, Reader, UnitHeader, UnitType,
+    number_read,
 };
 use dwp_table::{DebugTypeSignature, DwarfObject, DwoId};
 use thorin_errors::Error;
@@ -115,7 +114,7 @@ pub(crate) fn header_identifier(unit_type: UnitType) -> Option<DwarfObject>
 }
 
 /// The identifier in the root entry of a compile unit.
-#[tactic(auto, unfolding(crate::specs::Identity::root_identity))]
+#[tactic(auto, unfolding(crate::specs::Identity::root_identity), using(crate::proofs::Parts::numbered_is))]
 fn root_identifier<R: Reader>(
     debug_abbrev: &R,
     header: &UnitHeader<R>,
@@ -132,7 +131,11 @@ fn root_identifier<R: Reader>(
         .get(code)
         .map_err(Error::ParseUnitAbbreviations)?
         .ok_or(Error::GimliRead(ReadError::UnknownCode))?;
-    entry_identifier(abbreviation.entry(header.encoding(), values))
+    let entry = abbreviation.entry(header.encoding(), values);
+    numbered_identifier(EntryNumber {
+        tag: entry.tag,
+        number: number_read(entry, DW_AT_GNU_DWO_ID),
+    })
 }
 
 /// The offset in the section at which the unit's table begins, where it is known that the table
@@ -204,15 +207,4 @@ fn numbered_identifier(found: EntryNumber) -> Result<Option<DwarfObject>, Error>
         return Err(Error::TopLevelDieNotUnit);
     }
     Ok(found.number?.map(|id| DwarfObject::Compilation(DwoId(id))))
-}
-
-/// The identifier in an entry of a unit.
-fn entry_identifier<R: Reader>(entry: RootEntry<R>) -> Result<Option<DwarfObject>, Error>
-    ensures meaning { Gives (λ name. name) result (entry_identity (entry_of R.input entry)) }
-    ensures memory { IfErr result (λ e. e ≢ Error.Memory) }
-{
-    numbered_identifier(EntryNumber {
-        tag: entry.tag,
-        number: number_read(entry, DW_AT_GNU_DWO_ID),
-    })
 }
