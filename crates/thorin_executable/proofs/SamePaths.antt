@@ -39,11 +39,8 @@ module _ (strings : Strings) (format : Format) (root : SplitAttributes) (name : 
   path_without none named = rw (none, named strings)
 
 -- places that are equal by `==` are the same
-place_same : (a b : StringPlace) → IsTrue (place.eq-value.it a b) → a ≡ b
-place_same a b equal = grind (arith, nat_tests)
-
 places_same : (a b : PathPlaces) → IsTrue (places.eq-value.it a b) → a ≡ b
-places_same a b equal = grind (arith, place_same)
+places_same a b equal = grind (arith, nat_tests)
 
 -- what is kept is the path of the places that are asked for
 pub kept_is : (strings : Strings) (last : LastPath) (q p : PathPlaces)
