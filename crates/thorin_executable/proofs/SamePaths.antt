@@ -11,7 +11,6 @@ use Rattle.thorin_errors.specs.Errors.{ErrorValue, GimliRead}
 use Rattle.thorin_executable.specs.{declared.paths.LastPath.LastPath, Paths.IsKept, Paths.path_at}
 use Rattle.thorin_executable.specs.declared.paths.StringPlace.{StringPlace}
 use Rattle.thorin_executable.specs.declared.paths.PathPlaces.{PathPlaces}
-use Rattle.thorin_executable.specs.contracts.paths.StringPlacePartialEq.TheImpl as place
 use Rattle.thorin_executable.specs.contracts.paths.PathPlacesPartialEq.TheImpl as places
 
 pub text_of_some : (i : Input) → IsUtf8 i.bytes → text_of i ≡ Ok i.bytes
