@@ -13,7 +13,6 @@ const START: u64 = 0x243f_6a88_85a3_08d3;
 const MULTIPLIER: u64 = 0x9e37_79b9_7f4a_7c15;
 
 /// The two halves of a product, joined.
-#[tactic(auto, unfolding(std::specs::Hash::FoldHasher::folded_multiply))]
 #[inline(always)]
 fn folded_multiply(a: u64, b: u64) -> u64
     ensures { result ≡ folded a b }
@@ -23,7 +22,6 @@ fn folded_multiply(a: u64, b: u64) -> u64
 }
 
 /// The four bytes at a place as a number, the lowest first.
-#[tactic(auto, unfolding(std::specs::Hash::FoldHasher::read_u32))]
 #[inline(always)]
 fn half_at(bytes: &[u8], at: usize) -> u64
     requires { at + 4 ≤ length bytes.now }
@@ -33,7 +31,6 @@ fn half_at(bytes: &[u8], at: usize) -> u64
 }
 
 /// The eight bytes at a place as a number, the lowest first.
-#[tactic(auto, unfolding(std::specs::Hash::FoldHasher::read_u64), using(crate::proofs::HashLemmas::read_behind, std::proofs::lemmas::List::take_rest))]
 #[inline(always)]
 fn word_at(bytes: &[u8], at: usize) -> u64
     requires { at + 8 ≤ length bytes.now }
