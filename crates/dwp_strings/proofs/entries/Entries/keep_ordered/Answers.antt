@@ -3,11 +3,11 @@ use Rattle.dwp_strings.proofs.HashedLemmas.{carried_among, known_offset_in, offs
 use Rattle.dwp_strings.proofs.{HashedLemmas.hashed_kept, HashedLemmas.inserted_or, Named.string_was}
 use Rattle.dwp_strings.proofs.entries.Entries.keep_ordered.Goals as goal
 
-pub returns-in-Ok-place-clause-there : goal.returns-in-Ok-place-clause-there
-returns-in-Ok-place-clause-there c = λ begins.
+pub returns-in-Ok-0₀-clause-there : goal.returns-in-Ok-0₀-clause-there
+returns-in-Ok-0₀-clause-there c = λ begins.
     let e = c.args.self.now in
-    let found = rw (c.in-Ok-place.is, c.as_slice-bytes.ensures.value) at c.search.ensures.found in
-    let among = rw c.in-Ok-place.is at c.search.ensures.there in
+    let found = rw (c.in-Ok-0₀.is, c.as_slice-bytes.ensures.value) at c.search.ensures.found in
+    let among = rw c.in-Ok-0₀.is at c.search.ensures.there in
     let is = rw c.as_slice-bytes.ensures.value at (string_was _ _ _ c.in-Ok.ensures.meaning) in
     let there = offset_there e.bytes c.args.place begins in
     let known = known_offset_in e.bytes _ _ c.args.place c.requires.table.indexed there is in

@@ -17,18 +17,18 @@ pub returns-in-Err-2-clause-found : goal.returns-in-Err-2-clause-found
 returns-in-Err-2-clause-found c = rw (← c.self.view_is) (is_absent (unplaced _ c.self.invariant
     c.args.string.now c.hash.result c.hash.ensures c.if-self.false c.in-Err-2.ensures.none))
 
-pub returns-in-Ok-place-clause-count : goal.returns-in-Ok-place-clause-count
-returns-in-Ok-place-clause-count c = λ k few.
+pub returns-in-Ok-0₀-clause-count : goal.returns-in-Ok-0₀-clause-count
+returns-in-Ok-0₀-clause-count c = λ k few.
     grind (arith, c.self.view_is, positions_few, c.search-found.ensures.count k)
 
-pub returns-in-Err-place-clause-count : goal.returns-in-Err-place-clause-count
-returns-in-Err-place-clause-count c = λ k few.
+pub returns-in-Err-0₀-clause-count : goal.returns-in-Err-0₀-clause-count
+returns-in-Err-0₀-clause-count c = λ k few.
     grind (arith, c.self.view_is, positions_few, c.search-found.ensures.count k)
 
-pub returns-in-Err-place-clause-found : goal.returns-in-Err-place-clause-found
-returns-in-Err-place-clause-found c =
+pub returns-in-Err-0₀-clause-found : goal.returns-in-Err-0₀-clause-found
+returns-in-Err-0₀-clause-found c =
     let absent = c.search-found.ensures.absent in
-    let stands = rw (c.in-Err-place.is, c.as_slice.ensures.value) at absent in
+    let stands = rw (c.in-Err-0₀.is, c.as_slice.ensures.value) at absent in
     rw (← c.self.view_is) (is_absent (unordered _ c.self.invariant c.args.string.now c.hash.result
     c.hash.ensures _ (grind (arith, c.match-seek.branch)) stands))
 
