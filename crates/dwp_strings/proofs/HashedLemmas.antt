@@ -1,14 +1,15 @@
 -- The strings of a table: some positions of them, in their order; places at which they begin, and
 -- strings that are used. Strings of entries, found by their hashes, or else by their order.
 use Rattle.dwp_strings.proofs.Terms
-use Terms.{All-permutation, Decides-eqb, IsPermutation-insert, nat_list_cmp_total, take-append-drop}
-use Terms.{All-contains, common_steps, get_or_default, length-append, nat_eq_equiv, offsets_from, ℕ}
-use Terms.{IsZeroFree, append-nil, get_or-map, get_or-take, length-take, string_from, tied_itself}
-use Terms.{AllPairs, BeginsAt, IsIndexed, IsOrdered, cond-true, offset_of, strings_in, terminated}
-use Terms.{Contains, IsBefore, IsHashed, IsPlaced, StandsAt, cases_eq, cases_lt, ltb-true, split_at}
-use Terms.{OnErr, Result, by-bool, data_of, filter, get_or, insert, length, lt-ltb, take_at, ⊎_elim}
-use Terms.{All, Bool, Err, List, None, OnOk, Some, arith, drop, false, held, refl, take, zero, ◌++◌}
-use Terms.{Ok, [], ap, eqb, ltb, map, suc, sym, ◌+◌, ◌-◌, ◌<◌, ◌^◌, ◌∙◌, ◌∷◌, ◌≡◌, ◌≢◌, ◌≤◌}
+use Terms.{All, All-contains, All-permutation, AllPairs, BeginsAt, Bool, Contains, Decides-eqb, Err}
+use Terms.{IsBefore, IsHashed, IsIndexed, IsOrdered, IsPermutation-insert, IsPlaced, IsTable}
+use Terms.{IsZeroFree, List, None, Ok, OnErr, OnOk, Result, Some, StandsAt, [], ap, append-nil}
+use Terms.{arith, by-bool, cases_eq, cases_lt, common_steps, cond-true, data_of, drop, eqb, false}
+use Terms.{filter, get_or, get_or-map, get_or-take, get_or_default, held, insert, length}
+use Terms.{length-append, length-take, lt-ltb, ltb, ltb-true, map, nat_eq_equiv, nat_list_cmp_total}
+use Terms.{offset_of, offsets_from, refl, split_at, string_from, strings_in, suc, sym, take}
+use Terms.{take-append-drop, take_at, terminated, tied_itself, zero, ℕ, ⊎_elim, ◌++◌, ◌+◌, ◌-◌, ◌<◌}
+use Terms.{◌^◌, ◌∙◌, ◌∷◌, ◌≡◌, ◌≢◌, ◌≤◌}
 use Rattle.std.proofs.lemmas.List.Elements.{All-cons, Contains-append_cases, Contains-append_right}
 use Rattle.std.proofs.lemmas.List.Elements.{Contains-append_left, Contains-get_or, Contains-push}
 use Rattle.std.proofs.lemmas.List.Elements.{All-filter, All-push, All-take, filter_passes}
@@ -443,3 +444,6 @@ hashed_take e new n m table few long is_bytes same is_ordered is_count =
       found = rw strings found;
       counted = is_count ∙ few ∙ ap length (sym strings);
     }
+
+pub hashed_table : (e : Entries) → IsHashed e → IsTable (held e)
+hashed_table e table = search (zero_free-strings_in)

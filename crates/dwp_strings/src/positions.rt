@@ -214,6 +214,7 @@ impl Positions {
     }
 
     /// Keeps the numbers below a limit, in their order.
+    #[tactic(auto, using(crate::proofs::ChunkLemmas::counts, crate::proofs::ChunkLemmas::concat_filter))]
     pub fn keep_below(&mut self, limit: u64)
         ensures { self.new ≡ filter (λ p. nat_lt p limit) self.old }
     {

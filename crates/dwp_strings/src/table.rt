@@ -87,6 +87,7 @@ impl StringTable {
     }
 
     /// The content of `.debug_str.dwo`: each string and a zero byte.
+    #[tactic(auto, using(crate::proofs::HashedLemmas::hashed_table))]
     pub fn data(&self) -> &[u8]
         ensures whole { result.now ≡ data_of self.now }
         ensures table { IsTable self.now }
@@ -224,6 +225,7 @@ impl StringTable {
     }
 
     /// The content of `.debug_str.dwo`.
+    #[tactic(auto, using(crate::proofs::HashedLemmas::hashed_table))]
     pub fn finish(self) -> Vec<u8>
         ensures whole { result.items ≡ data_of self }
         ensures table { IsTable self }
