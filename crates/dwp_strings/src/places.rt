@@ -39,6 +39,7 @@ pub(crate) fn behind(place: usize) -> Option<u32>
 }
 
 /// The slot of a hash, or the one that is next for it, past all if none is.
+#[tactic(auto, using(crate::proofs::PlacesLemmas::passed_more))]
 #[inline(always)]
 fn find(slots: &[Slot], size: u32, hash: u32) -> Result<usize, usize>
     ensures found { IfOk result (IsSlotOf slots.now size hash) }
