@@ -96,6 +96,7 @@ impl StringTable {
     }
 
     /// The offset of a string, where the table has it, and how many strings were compared.
+    #[tactic(auto, using(crate::proofs::HashedLemmas::positions_few))]
     pub fn find_counted(&self, string: &[u8]) -> (Option<usize>, u32)
         ensures found { IsSome result.0 ↔ Contains self.now string.now }
         ensures offset { IfSome result.0 (λ offset. offset ≡ offset_of self.now string.now) }

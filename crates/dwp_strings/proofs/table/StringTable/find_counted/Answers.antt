@@ -1,8 +1,7 @@
 use Rattle.dwp_strings.proofs.Terms.{All-contains, Contains, IsZeroFree, arith, false, false≢true}
 use Rattle.dwp_strings.proofs.Terms.{held, offset_of, refl, sym, true, ◌↔◌, ◌∙◌, ◌≡◌}
-use Rattle.dwp_strings.proofs.HashedLemmas.{known_offset_in, misplaced, offset_there}
-use Rattle.dwp_strings.proofs.HashedLemmas.{positions_few, unordered, unplaced}
-use Rattle.dwp_strings.proofs.Named.{zero_free-strings_in, zero_within}
+use Rattle.dwp_strings.proofs.HashedLemmas.{known_offset_in, misplaced, offset_there, unordered}
+use Rattle.dwp_strings.proofs.{HashedLemmas.unplaced, Named.zero_free-strings_in, Named.zero_within}
 use Rattle.dwp_strings.proofs.table.StringTable.find_counted.Goals as goal
 
 is_absent : {P : Type 0} → (P → ⊥) → (false ≡ true) ↔ P
@@ -16,14 +15,6 @@ returns-then-is_some-clause-found c = rw (← c.self.view_is) (is_absent (λ the
 pub returns-in-Err-2-clause-found : goal.returns-in-Err-2-clause-found
 returns-in-Err-2-clause-found c = rw (← c.self.view_is) (is_absent (unplaced _ c.self.invariant
     c.args.string.now c.hash.result c.hash.ensures c.if-self.false c.in-Err-2.ensures.none))
-
-pub returns-in-Ok-0₀-clause-count : goal.returns-in-Ok-0₀-clause-count
-returns-in-Ok-0₀-clause-count c = λ k few.
-    grind (arith, c.self.view_is, positions_few, c.search-found.ensures.count k)
-
-pub returns-in-Err-0₀-clause-count : goal.returns-in-Err-0₀-clause-count
-returns-in-Err-0₀-clause-count c = λ k few.
-    grind (arith, c.self.view_is, positions_few, c.search-found.ensures.count k)
 
 pub returns-in-Err-0₀-clause-found : goal.returns-in-Err-0₀-clause-found
 returns-in-Err-0₀-clause-found c =
