@@ -114,7 +114,7 @@ pub(crate) fn header_identifier(unit_type: UnitType) -> Option<DwarfObject>
 }
 
 /// The identifier in the root entry of a compile unit.
-#[tactic(auto, unfolding(crate::specs::Identity::root_identity), using(crate::proofs::Parts::numbered_is))]
+#[tactic(auto, unfolding(crate::specs::Identity::root_identity))]
 fn root_identifier<R: Reader>(
     debug_abbrev: &R,
     header: &UnitHeader<R>,
