@@ -186,6 +186,7 @@ impl Positions {
     }
 
     /// The number of a rank, and its chunk. The chunk `near` is tried first.
+    #[tactic(auto, using(crate::proofs::ChunkLemmas::counts, crate::proofs::ChunkLemmas::first_start, crate::proofs::ChunkLemmas::some_piece))]
     pub fn get_near(&self, rank: usize, near: usize) -> (u64, usize)
         requires { rank < length self.now }
         ensures { result.0 ≡ slice_index self.now rank }

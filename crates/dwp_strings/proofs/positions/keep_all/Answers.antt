@@ -5,9 +5,6 @@ use Rattle.dwp_strings.proofs.ChunkLemmas.{chunked_all, counts, kept_all, kept_m
 use Rattle.dwp_strings.proofs.ChunkLemmas.{length-pieces, piece_changed, pieces-set, short_filter}
 use Rattle.dwp_strings.proofs.positions.keep_all.Goals as goal
 
-pub index_mut-chunk-requires : goal.index_mut-chunk-requires
-index_mut-chunk-requires c = grind (arith, length-pieces, c.loop-at.invariant.long)
-
 pub loop-at-preserved : goal.loop-at-preserved
 loop-at-preserved c =
     let chunks = c.loop-at.chunks in
