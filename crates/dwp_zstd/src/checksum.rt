@@ -7,9 +7,13 @@ ghost use Rattle.dwp_zstd.specs.Checksum.{with_lanes, with_rest, of_stripes, xxh
 use byteorder::{ByteOrder, LittleEndian};
 
 const PRIME_1: u64 = 11400714785074694791;
+
 const PRIME_2: u64 = 14029467366897019727;
+
 const PRIME_3: u64 = 1609587929392839161;
+
 const PRIME_4: u64 = 9650029242287828579;
+
 const PRIME_5: u64 = 2870177450012600261;
 
 /// The four accumulators.
