@@ -171,9 +171,7 @@ impl<'a> ElfFile<'a> {
         if table.kind() != SHT_SYMTAB {
             return Err(ReadError::SymbolTable);
         }
-        let Ok(content) = table.data() else {
-            return Err(ReadError::SymbolTable);
-        };
+        let content = table.data().map_err(|_| ReadError::SymbolTable)?;
         let (size, place) = match self.image.class {
             Class::Elf32 => (16, 4),
             Class::Elf64 => (24, 8),
