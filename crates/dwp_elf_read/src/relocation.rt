@@ -106,9 +106,7 @@ impl<'a> Table<'a> {
     {
         let explicit = table.kind() == SHT_RELA;
         let size = size_of_entry(file.image.class, explicit);
-        let Ok(content) = table.data() else {
-            return Err(ReadError::RelocationTable);
-        };
+        let content = table.data().map_err(|_| ReadError::RelocationTable)?;
         if content.len() % size != 0 {
             return Err(ReadError::RelocationTable);
         }
