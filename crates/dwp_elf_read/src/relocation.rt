@@ -145,18 +145,17 @@ impl<'a> Section<'a> {
         ensures { relocations_left result
             ≡ relocations_of (file self.now) (section self.now).number }
     {
-        let table = Table {
-            entries: self.file.image.with_bytes(&[]),
-            explicit: false,
-            link: 0,
-            next: 0,
-            count: 0,
-        };
         Relocations {
             file: self.file,
             target: self.number,
             section: 0,
-            table,
+            table: Table {
+                entries: self.file.image.with_bytes(&[]),
+                explicit: false,
+                link: 0,
+                next: 0,
+                count: 0,
+            },
         }
     }
 }
