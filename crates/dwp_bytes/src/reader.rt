@@ -219,10 +219,7 @@ pub trait Reader: Copy {
         ensures { MatchResult result (λ s. s.now ≡ (input self.now).bytes) (λ e.
             (e ≡ ReadError.BadUtf8) × ¬ (IsUtf8 (input self.now).bytes)) }
     {
-        match str::from_utf8(self.to_slice()) {
-            Ok(text) => Ok(text),
-            Err(_) => Err(ReadError::BadUtf8),
-        }
+        str::from_utf8(self.to_slice()).map_err(|_| ReadError::BadUtf8)
     }
 
     /// An unsigned number of variable length.
