@@ -225,7 +225,9 @@ impl<'a> Image<'a> {
         } else {
             return Err(ReadError::SectionTable);
         };
-        let size = count.checked_mul(size as u64).ok_or(ReadError::SectionTable)?;
+        let Some(size) = count.checked_mul(size as u64) else {
+            return Err(ReadError::SectionTable);
+        };
         if !self.contains(header.table, size) {
             return Err(ReadError::SectionTable);
         }
