@@ -12,9 +12,8 @@ ghost use Rattle.dwp_elf.specs.FileText.{file_text, headers_place, Object};
 ///
 /// It does nothing: its contract is the law, about every file text whose places fit its class.
 pub fn written_contents_are_read_back()
-    ensures { (o : Object) → o.machine < 256 ^ 2
-        → headers_place o.class o.contents < 256 ^ word_size o.class
-        → length o.contents < 60000 → elf_of (file_text o) ≡ Ok (written_elf o) }
+    ensures { (o : Object) → o.machine < 256 ^ 2 → headers_place o.class o.contents < 256 ^
+        word_size o.class → length o.contents < 60000 → elf_of (file_text o) ≡ Ok (written_elf o) }
 {}
 
 /// The law of a written file's size: its text ends with the section headers, and contents of

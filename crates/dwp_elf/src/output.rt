@@ -27,9 +27,8 @@ const NAMES: &[u8; 10] = b".shstrtab\0";
 /// How many bytes the contents have, None past 64 bits, and how many the content of `.shstrtab`.
 fn sizes_of(sections: &[(SectionKind, Vec<u8>)]) -> Option<(u64, u64)>
     requires { length sections.now ≤ kind_count }
-    ensures contents { MatchOption result
-        (2 ^ 64 ≤ length (content_bytes (contents_of sections.now)))
-        (λ sizes. sizes.0 ≡ length (content_bytes (contents_of sections.now))) }
+    ensures contents { MatchOption result (2 ^ 64 ≤ length (content_bytes (contents_of
+        sections.now))) (λ sizes. sizes.0 ≡ length (content_bytes (contents_of sections.now))) }
     ensures names { IfSome result (λ sizes.
         sizes.1 ≡ length (name_table (contents_of sections.now))) }
     ensures small { IfSome result (λ sizes. sizes.1 ≤ 400) }
@@ -139,9 +138,8 @@ pub fn write_section_headers<O: Output>(
     requires places_fit { header_size class + length (content_bytes (contents_of sections.now))
         < 2 ^ (8 * word_size class) }
     requires names_fit { names_size < 2 ^ (8 * word_size class) }
-    ensures text { Writes result (O.contents out.old) (O.contents out.new)
-        (headers_from class endianness names_size 1 (header_size class)
-        (contents_of sections.now)) }
+    ensures text { Writes result (O.contents out.old) (O.contents out.new) (headers_from class
+        endianness names_size 1 (header_size class) (contents_of sections.now)) }
     ensures error { Errors result (O.failed out.old) (O.failed out.new) }
 {
     let mut name = 1;

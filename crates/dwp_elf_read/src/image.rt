@@ -83,7 +83,8 @@ impl<'a> Image<'a> {
         ensures { result ≡ record {
           class = self.now.class;
           order = self.now.order;
-          bytes = bytes.entry;
+          bytes =
+              bytes.entry;
         } }
     {
         Image {
@@ -180,8 +181,7 @@ impl<'a> Image<'a> {
     pub fn range(&self, header: &SectionHeader) -> Option<(u64, u64)>
         ensures content { option_map (λ range. slice_range self.now.bytes.now range.0
             (range.0 + range.1)) result ≡ section_content self.now.bytes.now header.now }
-        ensures inside { IfSome result (λ range.
-            range.0 + range.1 ≤ length self.now.bytes.now) }
+        ensures inside { IfSome result (λ range. range.0 + range.1 ≤ length self.now.bytes.now) }
     {
         if header.kind == SHT_NOBITS {
             return Some((0, 0));

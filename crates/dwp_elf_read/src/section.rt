@@ -215,8 +215,7 @@ impl<'a> Section<'a> {
     pub fn file_range(&self) -> Option<(u64, u64)>
         ensures content { option_map (λ range. slice_range (file_bytes self.now) range.0
             (range.0 + range.1)) result ≡ (section self.now).content }
-        ensures inside { IfSome result (λ range.
-            range.0 + range.1 ≤ length (file_bytes self.now)) }
+        ensures inside { IfSome result (λ range. range.0 + range.1 ≤ length (file_bytes self.now)) }
     {
         self.file.image.range(&self.header)
     }
