@@ -16,7 +16,6 @@ const PRIME_4: u64 = 9650029242287828579;
 
 const PRIME_5: u64 = 2870177450012600261;
 
-/// The four accumulators.
 #[derive(Clone, Copy)]
 struct Accumulators {
     first: u64,
@@ -36,7 +35,6 @@ fn round(acc: u64, lane: u64) -> u64
         .wrapping_mul(PRIME_1)
 }
 
-/// The accumulators behind a stripe.
 #[inline]
 #[tactic(auto, unfolding(crate::specs::Checksum::behind_stripe))]
 fn behind_stripe(four: Accumulators, bytes: &[u8]) -> Accumulators
@@ -51,7 +49,6 @@ fn behind_stripe(four: Accumulators, bytes: &[u8]) -> Accumulators
     }
 }
 
-/// The accumulators behind all stripes.
 fn behind_stripes(four: Accumulators, bytes: &[u8]) -> Accumulators
     ensures { result ≡ behind_stripes (length bytes.now / 32) four bytes.now }
 {
@@ -101,7 +98,6 @@ fn of_stripes(bytes: &[u8]) -> u64
     merged(h, four.fourth)
 }
 
-/// The lanes behind the last stripe.
 #[tactic(auto, unfolding(crate::specs::Checksum::with_lanes, crate::specs::Checksum::with_lane, crate::specs::Checksum::plus, crate::specs::Checksum::times, crate::specs::Checksum::turn, crate::specs::Checksum::prime1, crate::specs::Checksum::prime4), using(crate::proofs::Loops::rounds))]
 fn with_lanes(h: u64, bytes: &[u8]) -> u64
     ensures { result ≡ with_lanes (length bytes.now / 8) h bytes.now }
@@ -118,7 +114,6 @@ fn with_lanes(h: u64, bytes: &[u8]) -> u64
     sum
 }
 
-/// The bytes behind the last lane.
 #[tactic(auto, unfolding(crate::specs::Checksum::with_rest, crate::specs::Checksum::with_four, crate::specs::Checksum::with_byte, crate::specs::Checksum::with_bytes, crate::specs::Checksum::prime5, crate::specs::Checksum::plus, crate::specs::Checksum::times, crate::specs::Checksum::turn, crate::specs::Checksum::prime1, crate::specs::Checksum::prime2, crate::specs::Checksum::prime3), using(crate::proofs::Loops::walked))]
 fn with_rest(h: u64, bytes: &[u8]) -> u64
     ensures { result ≡ with_rest h bytes.now }
