@@ -31,7 +31,6 @@ impl Model for Gathered {
 }
 
 impl Gathered {
-    /// No bytes yet.
     fn new() -> Gathered
         ensures { result ≡ [] }
     {
@@ -41,14 +40,12 @@ impl Gathered {
         }
     }
 
-    /// The bytes so far.
     pub fn as_slice(&self) -> &[u8]
         ensures { result.now ≡ self.now }
     {
         &self.bytes[..self.len]
     }
 
-    /// Adds bytes at the end.
     fn put(&mut self, bytes: &[u8])
         requires { length self.old + length bytes.now ≤ 64 }
         ensures after { self.new ≡ self.old ++ bytes.now }

@@ -310,7 +310,6 @@ impl WritableObject {
         self.write_parts(&layout, out).map_err(WriteError::Io)
     }
 
-    /// The layout of the file.
     #[tactic(auto, using(crate::proofs::ReadingBack::layouts))]
     fn layout(&self) -> Result<Layout, WriteError>
         ensures ok { IfOk result (IsLayout self.now.class self.now.contents) }
