@@ -100,7 +100,6 @@ impl<'a> ElfFile<'a> {
         self.count
     }
 
-    /// The section of a number.
     #[tactic(auto, unfolding(crate::specs::View::section, crate::specs::View::file, crate::specs::View::file_bytes))]
     pub(crate) fn section_at(&self, i: usize) -> Section<'a>
         requires { i < self.now.count }

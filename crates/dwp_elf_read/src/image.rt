@@ -66,7 +66,6 @@ pub(crate) fn word_size_of(class: Class) -> usize
     }
 }
 
-/// The bytes of a section header.
 #[inline(always)]
 pub(crate) fn entry_size_of(class: Class) -> usize
     ensures { result ≡ entry_size class }

@@ -31,7 +31,6 @@ pub struct RawRelocation {
     pub implicit_addend: bool,
 }
 
-/// The bytes of an entry.
 fn size_of_entry(class: Class, explicit: bool) -> usize
     ensures { result ≡ relocation_size class explicit }
 {
@@ -119,7 +118,6 @@ impl<'a> Table<'a> {
         })
     }
 
-    /// The next entry.
     #[tactic(auto, using(crate::proofs::Places::entries_more, crate::proofs::Places::entries_done))]
     fn next_entry(&mut self) -> Option<RawRelocation>
         ensures { YieldsFirstBy (λ entry. Ok entry) entries_left self.old result self.new }
