@@ -3,3 +3,4 @@ pub mod Bools
 pub mod Steps
 pub mod Finds
 pub mod KindsRead
+pub mod Rounds

@@ -5,7 +5,6 @@ pub mod HighBits
 pub mod Loops
 pub mod LowBits
 pub mod Marks
-pub mod Rounds
 pub mod States
 pub mod Values
 pub mod Widths
