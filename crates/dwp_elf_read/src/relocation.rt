@@ -34,11 +34,8 @@ pub struct RawRelocation {
 fn size_of_entry(class: Class, explicit: bool) -> usize
     ensures { result ≡ relocation_size class explicit }
 {
-    if explicit {
-        3 * word_size_of(class)
-    } else {
-        2 * word_size_of(class)
-    }
+    let word = word_size_of(class);
+    if explicit { 3 * word } else { 2 * word }
 }
 
 /// The entry at a place of a table.
