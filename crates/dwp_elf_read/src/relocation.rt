@@ -48,11 +48,8 @@ fn entry_at(table: &Image, explicit: bool, link: u32, place: usize) -> RawReloca
     let word = word_size_of(table.class);
     let offset = table.word_at(place);
     let info = table.word_at(place + word);
-    let last = if explicit {
-        table.word_at(place + 2 * word)
-    } else {
-        0
-    };
+    let end = place + 2 * word;
+    let last = if explicit { table.word_at(end) } else { 0 };
     let (kind, symbol, addend) = match table.class {
         Class::Elf32 => (
             info % 0x100,
