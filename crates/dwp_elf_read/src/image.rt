@@ -185,10 +185,8 @@ impl<'a> Image<'a> {
         if header.kind == SHT_NOBITS {
             return Some((0, 0));
         }
-        if !self.contains(header.offset, header.size) {
-            return None;
-        }
-        Some((header.offset, header.size))
+        self.contains(header.offset, header.size)
+            .then_some((header.offset, header.size))
     }
 
     /// The content of a section, if it lies in the file.
