@@ -161,8 +161,7 @@ impl<'a> Image<'a> {
         ensures { result
             ≡ section_header_at self.now.class self.now.order self.now.bytes.now table i }
     {
-        let place = table + i * entry_size_of(self.class);
-        let bytes = self.bytes.split_at(place).1;
+        let bytes = self.bytes.split_at(table + i * entry_size_of(self.class)).1;
         // (what nearly all files have is known to the compiler: each number is one load)
         match (self.class, self.order) {
             (Class::Elf64, Endianness::Little) => Image {
