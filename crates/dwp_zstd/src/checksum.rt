@@ -1,7 +1,7 @@
 //! XXH64 with seed 0, the check sum of a frame (RFC 8878, 3.1.1).
 
 ghost use Rattle.std.specs.Prelude.{◌≡◌, ◌≤◌, ◌/◌, length};
-ghost use Rattle.dwp_zstd.specs.Checksum.{round, behind_stripe, behind_stripes, merged};
+ghost use Rattle.dwp_zstd.specs.Checksum.{round, behind_stripes, merged};
 ghost use Rattle.dwp_zstd.specs.Checksum.{with_lanes, with_rest, of_stripes, xxh64};
 
 use byteorder::{ByteOrder, LittleEndian};
@@ -35,27 +35,18 @@ fn round(acc: u64, lane: u64) -> u64
         .wrapping_mul(PRIME_1)
 }
 
-#[inline]
-#[tactic(auto, unfolding(crate::specs::Checksum::behind_stripe))]
-fn behind_stripe(four: Accumulators, bytes: &[u8]) -> Accumulators
-    requires { 32 ≤ length bytes.now }
-    ensures { result ≡ behind_stripe four bytes.now }
-{
-    Accumulators {
-        first: round(four.first, LittleEndian::read_u64(bytes)),
-        second: round(four.second, LittleEndian::read_u64(&bytes[8..])),
-        third: round(four.third, LittleEndian::read_u64(&bytes[16..])),
-        fourth: round(four.fourth, LittleEndian::read_u64(&bytes[24..])),
-    }
-}
-
 fn behind_stripes(four: Accumulators, bytes: &[u8]) -> Accumulators
     ensures { result ≡ behind_stripes (length bytes.now / 32) four bytes.now }
 {
     let mut all = four;
     let mut rest = bytes;
     for _ in 0..bytes.len() / 32 {
-        all = behind_stripe(all, rest);
+        all = Accumulators {
+            first: round(all.first, LittleEndian::read_u64(rest)),
+            second: round(all.second, LittleEndian::read_u64(&rest[8..])),
+            third: round(all.third, LittleEndian::read_u64(&rest[16..])),
+            fourth: round(all.fourth, LittleEndian::read_u64(&rest[24..])),
+        };
         rest = rest.split_at(32).1;
     }
     all

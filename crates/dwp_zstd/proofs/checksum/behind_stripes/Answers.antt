@@ -12,6 +12,7 @@ unfolding behind_stripes
 stripes_more n i four next bytes rest h e f = rw (one_round n i h, e, f) refl
 
 pub loop-preserved : goal.loop-preserved
+unfolding behind_stripe
 loop-preserved c = grind (arith, stripes_more)
 
 pub returns : goal.returns
