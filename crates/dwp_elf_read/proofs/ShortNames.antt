@@ -3,7 +3,7 @@
 use Rattle.std.proofs.Common.{Bool, false, get_or, List, None, Some, true, ℕ, ◌<◌, ◌==◌, ◌∙◌, ◌≡◌}
 use Rattle.std.proofs.Common.{is_some, MatchResult, nat_lt, Option, option_map, position, Result}
 use Rattle.std.proofs.Common.{ap, arith, drop, Err, find, length, not, Ok, refl, sym, take}
-use Rattle.std.proofs.lemmas.Bool.{eqb-true, false_from_ne_true, le-ltb, lt-ltb, ltb-false}
+use Rattle.std.proofs.lemmas.Bool.{eqb-true, false_from_ne_true, lt-ltb, ltb-false}
 use Rattle.std.proofs.{lemmas.List.Quantifiers.position-Some, lemmas.Slice.Eq.bytes_eq-Decides}
 use Rattle.std.specs.{List.position_or_len, Option.option_and_then, Result.result_ok}
 use Rattle.std.specs.Str.{bytes_eq, is_utf8, IsUtf8}
@@ -13,7 +13,7 @@ use Rattle.dwp_base.specs.Sections.{all_kinds, compressed_name_of, kind_named, n
 use Rattle.dwp_base.specs.declared.section.SectionKind.{SectionKind}
 use Rattle.memchr.specs.Find.{is_byte, IsFirstByte}
 use Rattle.dwp_elf_read.specs.Elf.{has_name, name_is, text_at, text_of}
-use Rattle.dwp_base.proofs.{Bools.by-bool, EveryKind.every}
+use Rattle.dwp_base.proofs.{Bools.by-bool, EveryKind.every, Finds.position_is}
 use Rattle.std.proofs.lemmas.Str.{is_utf8-from_IsUtf8, IsUtf8-from_is_utf8}
 
 -- what `from_utf8` answers, its error left out
@@ -25,25 +25,11 @@ text_of_result view F bytes (Ok s) h = rw (h.0, is_utf8-from_IsUtf8 bytes h.1) r
 text_of_result view F bytes (Err e) h =
     rw (false_from_ne_true (is_utf8 bytes) (λ e. h.0 (IsUtf8-from_is_utf8 bytes e))) refl
 
--- the first zero byte, as `memchr` says it and as `position` does
-pub position_first : (bytes : List ℕ) (r : Option ℕ) → IsFirstByte (is_byte 0) bytes r
-    → position (λ b. b == 0) bytes ≡ r
-position_first bytes None h =
-    let far = position_or_len_is (λ b. b == 0) bytes (length bytes) 0 (omega arith)
-    (λ k below. false_from_ne_true (get_or bytes k 0 == 0) (h k (omega arith) below))
-    (λ within. absurd (omega arith)) in
-    rw (far, le-ltb (length bytes) (length bytes) (omega arith)) refl
-position_first bytes (Some i) h =
-    let here = position_or_len_is (λ b. b == 0) bytes i 0 (omega (arith, h.0.high))
-    (λ k below. false_from_ne_true (get_or bytes k 0 == 0) (h.0.before k (omega arith) below))
-    (λ within. h.1) in
-    rw (here, lt-ltb i (length bytes) h.0.high) refl
-
 pub text_at_first : (table rest : List ℕ) (place : ℕ) (r : Option ℕ) → rest ≡ drop place table
     → IsFirstByte (is_byte 0) rest r → text_at table place ≡ option_and_then (λ n.
     text_of (take n rest)) r
 unfolding text_at
-text_at_first table rest place r here h = rw (← here, position_first rest r h) refl
+text_at_first table rest place r here h = rw (← here, position_is 0 rest r h) refl
 
 abbrev zero_byte : ℕ → Bool
 zero_byte b = b == 0
@@ -179,7 +165,7 @@ pub without_zero : (table text own : List ℕ) (place : ℕ) (found : Option ℕ
     → (position zero_byte text ≡ None → stands ≡ name_is text (text_at table place))
     → none ≡ name_is text (text_at table place)
 without_zero table text own place None stands true same first is given exact =
-    sym given ∙ exact (ap (position zero_byte) (sym same) ∙ position_first own None first)
+    sym given ∙ exact (ap (position zero_byte) (sym same) ∙ position_is 0 own None first)
 without_zero table text own place None stands false same first is given exact = absurd cc
 without_zero table text own place (Some i) stands true same first is given exact = absurd cc
 without_zero table text own place (Some i) stands false same first is given exact =
