@@ -37,12 +37,6 @@ pub every : (test : SectionKind → Bool) → list_all test all_kinds ≡ true �
     → test kind ≡ true
 every test all kind = passes-at test all_kinds (rank_of kind) kind all (at-rank kind)
 
--- the same for two kinds
-pub every-two : (test : SectionKind → SectionKind → Bool)
-    → list_all (λ a. list_all (test a) all_kinds) all_kinds ≡ true → (a b : SectionKind)
-    → test a b ≡ true
-every-two test all a b = every (test a) (every (λ k. list_all (test k) all_kinds) all a) b
-
 -- what holds at each of the first places of a list
 abbrev pub HoldsAll : {X : Type 0} → (X → Type 0) → List X → Type 0
 HoldsAll P [] = Unit {0}
