@@ -86,10 +86,6 @@ map-at f [] i y at = absurd cc
 map-at f (x ∷ xs) zero y at = (x, refl, same_Some _ _ at)
 map-at f (x ∷ xs) (suc i) y at = map-at f xs i y at
 
-at-map : {X Y : Type 0} (f : X → Y) (xs : List X) (i : ℕ) (x : X) → slice_get xs i ≡ Some x
-    → slice_get (map f xs) i ≡ Some (f x)
-at-map f xs i x at = slice_get-map f xs i ∙ ap (option_map f) at
-
 stops : {X Y E : Type 0} (f : X → Result Y E) (xs : List X) (place : ℕ) (x : X) (e : E)
     → slice_get xs place ≡ Some x → f x ≡ Err e
     → ((before : ℕ) (other : X) → before < place → slice_get xs before ≡ Some other
@@ -117,7 +113,8 @@ answers-each view f reads means (Ok by_kind) read =
     (length-map (values_of by_kind) view ∙ read.0) (λ i y at.
     let kind = map-at g all_kinds i y at in
     ap (slice_get (map view (values_of by_kind))) (sym (rank-at i kind.0 kind.1))
-    ∙ at-map view (values_of by_kind) (rank_of kind.0) _ (read.1 kind.0).1 ∙ ap Some kind.2)))
+    ∙ slice_get-map view (values_of by_kind) (rank_of kind.0)
+    ∙ ap (option_map view) (read.1 kind.0).1 ∙ ap Some kind.2)))
 answers-each view f reads means (Err e) read =
     stops f all_kinds read.0 read.1 e read.2 (means read.1 _ read.3) (λ before other lt at.
     let earlier = read.4 before other lt at in (view earlier.0, means other _ earlier.1))
