@@ -1,10 +1,10 @@
 -- Values that are read for each kind, one kind after another.
 use Rattle.std.proofs.Common.{ap, List, map, suc, zero, [], ℕ, ⊎_elim, ◌+◌, ◌<◌, ◌∙◌, ◌∷◌, ◌≡◌, ◌≤◌}
 use Rattle.std.proofs.Common.{arith, length, refl, subst, sym}
-use Rattle.std.proofs.lemmas.Option.{get_or_from_slice_get, slice_get_read, slice_get_within}
+use Rattle.std.proofs.lemmas.Option.{get_or_from_slice_get, slice_get_within}
 use Rattle.std.specs.Prelude.{Err, Ok, option_map, Result, slice_get, slice_set, Some}
 use Rattle.std.proofs.{lemmas.Bool.cases_lt, lemmas.Option.same_Some, lemmas.Option.slice_get-map}
-use Rattle.std.proofs.lemmas.List.{get_or-set_other, get_or-set_same, length-map, length-set}
+use Rattle.std.proofs.{lemmas.Grind.elements, lemmas.List.length-map, lemmas.List.length-set}
 use Rattle.dwp_base.specs.ByKind.{ReadsEach, value_of, values_of}
 use Rattle.dwp_base.specs.{declared.by_kind.ByKind.ByKind, declared.section.SectionKind.SectionKind}
 use Rattle.dwp_base.specs.{Reading.Answers, Reading.read_each, Sections.all_kinds, Sections.rank_of}
@@ -19,16 +19,11 @@ ReadBelow reads values count = (place : ℕ) (kind : SectionKind) → place < co
 
 set-here : {T : Type 0} (values : List T) (i : ℕ) (value : T) → i < length values
     → slice_get (slice_set values i value) i ≡ Some value
-set-here values i value within =
-    slice_get_read (slice_set values i value) (length values) i value
-    (sym (length-set values i value)) within (sym (get_or-set_same values i value value within))
+set-here values i value within = grind (arith, elements)
 
 set-elsewhere : {T : Type 0} (values : List T) (i j : ℕ) (value old : T) → (j ≡ i → ⊥)
     → slice_get values j ≡ Some old → slice_get (slice_set values i value) j ≡ Some old
-set-elsewhere values i j value old other at =
-    slice_get_read (slice_set values i value) (length values) j old
-    (sym (length-set values i value)) (slice_get_within values j old at)
-    (sym (get_or-set_other values i j value old other ∙ get_or_from_slice_get values j old old at))
+set-elsewhere values i j value old other at = grind (arith, elements)
 
 -- one more is read
 pub read-more : {T E : Type 0} (reads : SectionKind → Result T E → Type 0) (values new : List T)
