@@ -1,5 +1,4 @@
 -- What holds of each kind of section in the list of them holds of every kind.
-use Rattle.dwp_base.specs.declared.section.SectionKind.TheVariants as kinds
 use Rattle.std.proofs.Common.{Bool, false, List, map, not, suc, true, zero, [], ℕ, ◌∙◌, ◌∷◌, ◌≡◌}
 use Rattle.std.proofs.Common.{ap, arith, eqb-true, get_or, option_map, refl, slice_get, Some, subst}
 use Rattle.std.proofs.lemmas.Option.{get_or_from_slice_get, slice_get-map, slice_get_within}
@@ -11,19 +10,7 @@ use Rattle.std.proofs.lemmas.List.FromFn.{get_or-range_with_len}
 use Rattle.dwp_base.{proofs.Bools.is-false, specs.declared.section.SectionKind.SectionKind}
 
 pub at-rank : (kind : SectionKind) → slice_get all_kinds (rank_of kind) ≡ Some kind
-at-rank kinds.Info = refl
-at-rank kinds.Types = refl
-at-rank kinds.Abbrev = refl
-at-rank kinds.Line = refl
-at-rank kinds.Loc = refl
-at-rank kinds.Loclists = refl
-at-rank kinds.Rnglists = refl
-at-rank kinds.StrOffsets = refl
-at-rank kinds.Macinfo = refl
-at-rank kinds.Macro = refl
-at-rank kinds.Str = refl
-at-rank kinds.CuIndex = refl
-at-rank kinds.TuIndex = refl
+at-rank kind = grind arith
 
 -- a test that each of a list passes is passed by what stands at a place of it
 passes-at : {X : Type 0} (test : X → Bool) (xs : List X) (i : ℕ) (x : X)
