@@ -121,7 +121,11 @@ impl<'a> ElfFile<'a> {
         ensures in_file { IfSome result (λ s. file s ≡ elf self.now) }
         ensures in_bytes { IfSome result (λ s. file_bytes s ≡ bytes_of self.now) }
     {
-        (i < self.count).then(|| self.section_at(i))
+        if i < self.count {
+            Some(self.section_at(i))
+        } else {
+            None
+        }
     }
 
     /// The sections in order of number.
