@@ -250,6 +250,13 @@ impl<'a> Section<'a> {
         self.data() == Ok(content)
     }
 
+    /// Whether the section has the content of another, or neither lies in its file.
+    fn has_content_of(&self, other: &Section<'_>) -> bool
+        ensures alike { IsTrue result ↔ ((section self.now).content ≡ (section other.now).content) }
+    {
+        self.data() == other.data()
+    }
+
     /// Whether all that is told of the section is told of another too, which may stand in another
     /// file: number, name, type, flags, address, size, link, info and content.
     #[tactic(auto, using(crate::proofs::Compared::is_other, crate::proofs::Compared::own_of))]
@@ -260,7 +267,7 @@ impl<'a> Section<'a> {
             && self.has_name_of(other)
             && self.flags() == other.flags()
             && self.size() == other.size()
-            && self.data() == other.data()
+            && self.has_content_of(other)
     }
 }
 
