@@ -66,7 +66,8 @@ pub fn layout_of(class: Class, sections: &[(SectionKind, Vec<u8>)]) -> Option<La
     let names_end = names_place.checked_add(names_size)?;
     let zeros = (8 - names_end % 8) % 8;
     let headers = names_end.checked_add(zeros)?;
-    let size = headers.checked_add(u64::from(entry_size(class)) * (sections.len() as u64 + 2))?;
+    let table_size = u64::from(entry_size(class)) * (sections.len() as u64 + 2);
+    let size = headers.checked_add(table_size)?;
     if class == Class::Elf32 && headers > u64::from(u32::MAX) {
         return None;
     }
