@@ -221,7 +221,9 @@ impl<'a> PackageFile<'a> {
     {
         let index = self.index_for(object)?;
         let number = index.find(object.index())?;
-        let row = index.row(number).ok()?;
+        let Ok(row) = index.row(number) else {
+            return None;
+        };
         let kind = kind_of(place_of(object, row.range(SectionKind::Types)));
         let range = row.range(kind)?;
         self.contents.of(kind).get(range.offset.0 as usize).copied()
@@ -265,7 +267,10 @@ pub fn read_index<'a>(
     if bytes.is_empty() {
         return Ok(None);
     }
-    Ok(Some(UnitIndex::parse(bytes, order).map_err(PackageError::Index)?))
+    match UnitIndex::parse(bytes, order) {
+        Ok(index) => Ok(Some(index)),
+        Err(error) => Err(PackageError::Index(error)),
+    }
 }
 
 /// The row of a number, counted from 1: `UnitIndex::row` with an error of packages.
@@ -276,7 +281,10 @@ pub fn read_index<'a>(
 pub fn read_row<'a>(index: &UnitIndex<'a>, number: u32) -> Result<Row<'a>, PackageError>
     ensures { Answers (λ x. x) result (as_error errors.Index (row_in index.now number)) }
 {
-    index.row(number).map_err(PackageError::Index)
+    match index.row(number) {
+        Ok(row) => Ok(row),
+        Err(error) => Err(PackageError::Index(error)),
+    }
 }
 
 /// The first section, in the order of columns, that a range of the row isn't inside of.
