@@ -1,9 +1,9 @@
 -- What looking a unit up in a package gives; it is found by its row.
 use Rattle.std.proofs.Common.{Bool, List, None, Ok, Option, Some, [], ap, arith, false, find}
 use Rattle.std.proofs.Common.{le-leb, length, not, refl, slice_range, sym, ℕ, ◌+◌, ◌∷◌, ◌≡◌, ◌≤◌}
-use Rattle.dwp_index.proofs.Terms.{DwarfObject, Encoding, FindsExactly, Index, IsIndex, Package}
-use Rattle.dwp_index.proofs.Terms.{Ranges, SectionKind, contribution_kinds, encoding_in, found_row}
-use Rattle.dwp_index.proofs.Terms.{identifier_of, index_for, look_count, range_in, row_in, ◌>>=◌}
+use Rattle.dwp_index.proofs.Terms.{DwarfObject, Encoding, Index, Package, Ranges, SectionKind}
+use Rattle.dwp_index.proofs.Terms.{contribution_kinds, encoding_in, found_row, identifier_of}
+use Rattle.dwp_index.proofs.Terms.{index_for, look_count, range_in, row_in, ◌>>=◌}
 use Rattle.dwp_base.specs.declared.section.Contribution.{Contribution}
 use Rattle.dwp_index.specs.Contents.{Sections, content}
 use Rattle.dwp_index.specs.Finding.{GivesWithin, HasIndex, IsNotNamed, IsUnitOf, LiesInside}
@@ -12,6 +12,7 @@ use Rattle.dwp_index.specs.Package.{FoundUnit, all_inside, first_outside, found,
 use Rattle.dwp_index.specs.Package.{found_by_row, found_counted, is_outside, row_by, row_bytes}
 use Rattle.dwp_index.specs.Package.{row_counted, row_found, row_inside, unit_at_row, unit_found}
 use Rattle.dwp_index.specs.Package.{unit_in, unit_of_row}
+use Rattle.dwp_table.proofs.Tables.{finds_exactly}
 use Rattle.dwp_units.proofs.Readings.{by-result}
 
 -- ---- the ranges
@@ -53,28 +54,23 @@ gives pack object unit count most few e = record {
   uncounted = rw e refl;
 }
 
--- what the law of look-up says
-abbrev pub FindsLaw : Type 0
-FindsLaw = (ids signatures rows : List ℕ) (x : ℕ) → IsIndex ids signatures rows → FindsExactly ids x
-    (found_row signatures rows x) (look_count signatures rows x)
-
-pub present_unit : FindsLaw → (pack : Package) (object : DwarfObject) (ids : List ℕ) (index : Index)
-    (r : ℕ) (row : Ranges) (encoding : Encoding) → HasIndex pack object ids index
-    → IsUnitOf pack object ids index r row encoding → GivesWithin pack object
-    (Some (unit_of pack object (r + 1) row encoding)) (r + 1)
+pub present_unit : (pack : Package) (object : DwarfObject) (ids : List ℕ) (index : Index) (r : ℕ)
+    (row : Ranges) (encoding : Encoding) → HasIndex pack object ids index
+    → IsUnitOf pack object ids index r row encoding
+    → GivesWithin pack object (Some (unit_of pack object (r + 1) row encoding)) (r + 1)
 unfolding found_counted
-present_unit finds pack object ids index r row encoding has unit =
-    let exact = finds ids index.signatures index.rows (identifier_of object) has.slots in
+present_unit pack object ids index r row encoding has unit =
+    let exact = finds_exactly ids index.signatures index.rows (identifier_of object) has.slots in
     gives pack object _ _ (r + 1) (exact.present_count r unit.within unit.named)
     (rw (has.index_is, exact.present_row r unit.within unit.named)
     (at_row pack object index (r + 1) _ row encoding unit.row_is unit.inside unit.header))
 
-pub absent_unit : FindsLaw → (pack : Package) (object : DwarfObject) (ids : List ℕ) (index : Index)
-    → HasIndex pack object ids index → IsNotNamed object ids → GivesWithin pack object None
-    (length ids + 1)
+pub absent_unit : (pack : Package) (object : DwarfObject) (ids : List ℕ) (index : Index)
+    → HasIndex pack object ids index → IsNotNamed object ids
+    → GivesWithin pack object None (length ids + 1)
 unfolding found_counted
-absent_unit finds pack object ids index has absent =
-    let exact = finds ids index.signatures index.rows (identifier_of object) has.slots in
+absent_unit pack object ids index has absent =
+    let exact = finds_exactly ids index.signatures index.rows (identifier_of object) has.slots in
     gives pack object None _ (length ids + 1) (exact.absent_count absent)
     (rw (has.index_is, exact.absent_row absent) refl)
 

@@ -11,8 +11,8 @@ use Rattle.dwp_index.proofs.Terms.{bind-was, encoding_in, UnexpectedEof, UnitSec
 use Rattle.dwp_bytes.specs.Input.{is_address_size, number_at, offset_at, relocated_at, split_at}
 use Rattle.dwp_bytes.specs.Input.{after, byte_at, Input, section}
 use Rattle.dwp_units.proofs.Readings.{error_gives, more_gives, test_gives, then_gives, value_gives}
-use Rattle.dwp_units.proofs.Readings.{Gives, then_split}
-use Rattle.dwp_units.specs.Units.{address_size_at, initial_length_at, older_type_at, UnitsAreTaken}
+use Rattle.dwp_units.proofs.{Readings.Gives, Readings.then_split, Units.unit_taken}
+use Rattle.dwp_units.specs.Units.{address_size_at, initial_length_at, older_type_at}
 use Rattle.dwp_units.specs.Units.{header_at, newer_at, unit_code_at, unit_type_at, units_within}
 use Rattle.dwp_units.specs.Units.{listed, older_at, type_at, Unit, unit_at, units}
 use Rattle.std.proofs.lemmas.Bool.{le-ltb, ltb-false}
@@ -259,7 +259,7 @@ pub listed_at : (r : Result (Unit × Input) ReadError) (others : Input → Liste
     × ((x.0 ≡ unit) ⊎ (slice_get (others x.1) (k - 1) ≡ Some (Ok unit)))
 listed_at r others none k unit h = grind arith
 
-module _ (taken : UnitsAreTaken) (order : Endianness) (place : UnitSection) (u : Unit) where
+module _ (order : Endianness) (place : UnitSection) (u : Unit) where
   -- where a unit was read
   pub within_at : (n p : ℕ) (bytes : List ℕ) (k : ℕ)
       → slice_get (units_within n place (plain order p bytes)) k ≡ Some (Ok u) → (q : ℕ)
@@ -269,7 +269,7 @@ module _ (taken : UnitsAreTaken) (order : Endianness) (place : UnitSection) (u :
   within_at (suc n) p bytes k given =
       let i = plain order p bytes in
       let l = listed_at (unit_at place i) (units_within n place) (eqb (length bytes) 0) k u given in
-      let t = taken place i l.0.1 l.0.0 l.1 in
+      let t = unit_taken place i l.0.1 l.0.0 l.1 in
       elim l.2 [
         | inl same ↦ (p, bytes, l.0.1, l.1 ∙ ap (λ (v : Unit). Ok (v, l.0.1)) same)
         | inr later ↦ within_at n (p + t.0.taken) (drop t.0.taken bytes) (k - 1)
@@ -281,7 +281,7 @@ module _ (taken : UnitsAreTaken) (order : Endianness) (place : UnitSection) (u :
   unfolding units
   units_alone bytes k given =
       let at = within_at (length bytes) 0 bytes k given in
-      let t = taken place (plain order at.0 at.1) at.2 u at.3 in
+      let t = unit_taken place (plain order at.0 at.1) at.2 u at.3 in
       rw t.1 ((unit_alone order place at.0 at.1).gives (u, at.2) at.3 t.0.taken
       (ap (λ (i : Input). i.place) t.0.is))
 

@@ -11,7 +11,6 @@ use Terms.{Package, part_of, range_in, refl, row_bytes, rows_of, same_kind, same
 use Terms.{sections_of, slice_get, slice_index, Some, suc, sym, take-length, true, units_in}
 use Terms.{units_of, UnitSection, with_bytes, zero, [], ℕ, ◌++◌, ◌+◌, ◌<◌, ◌∙◌, ◌∷◌, ◌≡◌, ◌≤◌}
 use Rattle.thorin_join.proofs.Units.InRows.{chosen-sort, distinct_chosen, same-sort, same_name-true}
-use Rattle.dwp_table.proofs.Tables.{finds_exactly}
 use Rattle.dwp_index.{proofs.UsedOnce.entries_once, specs.Contents.content}
 use Rattle.dwp_index.proofs.PackageLookUp.{absent_unit, no_index, present_unit}
 use Rattle.thorin_index.specs.ReadRows.{HasContributions, HasEntries, non_empty}
@@ -164,7 +163,7 @@ module _ (order : Endianness) (contents : Contents) (compilations types : Option
         record { count = g.count; few = omega (arith, g.few); counted = g.counted }
     gives None there has (Some unit) f = let at = rw has at f.at in absurd cc
     gives (Some i) there has None absent =
-        let g = absent_unit finds_exactly pack name (entry_ids own) i
+        let g = absent_unit pack name (entry_ids own) i
         (record { index_is = there; slots = has.1.slots }) absent in
         let many = length-map own (λ (row : IndexEntry). identifier_of row.id) in
         let few : g.count ≤ limit_of units =
@@ -172,7 +171,7 @@ module _ (order : Endianness) (contents : Contents) (compilations types : Option
         record { count = g.count; few = few; counted = g.counted }
     gives (Some i) there has (Some unit) f =
         let found = found-unit unit f i has.0 has.1 in
-        let g = present_unit finds_exactly pack name (entry_ids own) i f.place _ f.is.owns.encoding
+        let g = present_unit pack name (entry_ids own) i f.place _ f.is.owns.encoding
         (record { index_is = there; slots = has.1.slots }) found in
         let few : g.count ≤ limit_of units =
         grind (arith, rows-counted of rows name, found.within, g.few) in

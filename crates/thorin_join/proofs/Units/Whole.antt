@@ -76,7 +76,7 @@ module _ (order : Endianness) (place : UnitSection) where
       let more = drop t.0.taken at.1 in
       let whole_is : own ++ more ≡ at.1 = cc (t.1, take-append-drop t.0.taken at.1) in
       let s = bind-was (unit_at place (section order own)) _ unit.encoding
-      (units_alone unit_taken order place unit bytes k h) in
+      (units_alone order place unit bytes k h) in
       let moved = unit-moves order place own more at.0 s.0.0 s.0.1 s.1 in
       let same : moved.unit ≡ unit = cc (moved.read, whole_is, at.3) in
       let known : ReadsAlone order place unit = record {

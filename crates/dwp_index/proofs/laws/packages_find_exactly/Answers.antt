@@ -1,10 +1,5 @@
-use Rattle.dwp_table.proofs.Tables.{finds_exactly}
 use Rattle.dwp_index.proofs.PackageLookUp.{absent_unit, no_index, present_unit}
 use Rattle.dwp_index.proofs.laws.packages_find_exactly.Goals as goal
 
 pub returns : goal.returns
-returns c = record {
-  present = present_unit finds_exactly;
-  absent = absent_unit finds_exactly;
-  no_index = no_index;
-}
+returns c = record { present = present_unit; absent = absent_unit; no_index = no_index }
