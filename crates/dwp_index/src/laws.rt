@@ -28,13 +28,11 @@ ghost use Rattle.dwp_index.specs.Naming.{entries_of, IsIndexOfIds, numbered};
 pub fn packages_find_exactly()
     ensures present { (pack : Package) (object : DwarfObject) (ids : List ℕ) (index : Index) (r : ℕ)
         (row : Ranges) (encoding : Encoding)
-        → HasIndex pack object ids index
-        → IsUnitOf pack object ids index r row encoding
+        → HasIndex pack object ids index → IsUnitOf pack object ids index r row encoding
         → GivesWithin pack object (Some (unit_of pack object (r + 1) row encoding)) (r + 1) }
     ensures absent { (pack : Package) (object : DwarfObject) (ids : List ℕ) (index : Index)
         → HasIndex pack object ids index
-        → IsNotNamed object ids
-        → GivesWithin pack object None (length ids + 1) }
+        → IsNotNamed object ids → GivesWithin pack object None (length ids + 1) }
     ensures no_index { (pack : Package) (object : DwarfObject) → index_for pack object ≡ None
         → GivesWithin pack object None 0 }
 {}
@@ -51,37 +49,30 @@ pub fn units_are_found_by_their_rows()
 pub fn ranges_are_parts()
     ensures part { (contents : Sections) (row : Ranges) (kind : SectionKind) (range : Contribution)
         → range_in row kind ≡ Some range
-        → range.offset.0 + range.size ≤ length (content contents kind)
-        → row_bytes contents row kind
+        → range.offset.0 + range.size ≤ length (content contents kind) → row_bytes contents row kind
         ≡ slice_range (content contents kind) range.offset.0 (range.offset.0 + range.size) }
     ensures absent { (contents : Sections) (row : Ranges) (kind : SectionKind)
-        → range_in row kind ≡ None
-        → row_bytes contents row kind ≡ [] }
+        → range_in row kind ≡ None → row_bytes contents row kind ≡ [] }
 {}
 
 /// The law of units: a unit of a section is read from its own bytes alone, with the same encoding;
 /// one of version 5 also where it stands in the other section. It does nothing.
 pub fn units_are_read_alone()
     ensures alone { (order : Endianness) (place : UnitSection) (bytes : List ℕ)
-        (k : ℕ) (unit : Unit)
-        → slice_get (units place (section order bytes)) k ≡ Some (Ok unit)
+        (k : ℕ) (unit : Unit) → slice_get (units place (section order bytes)) k ≡ Some (Ok unit)
         → encoding_in order place (unit_bytes unit) ≡ Ok unit.encoding }
     ensures anywhere { (order : Endianness) (place other : UnitSection) (bytes : List ℕ)
-        (encoding : Encoding)
-        → encoding.version ≡ 5
-        → encoding_in order place bytes ≡ Ok encoding
+        (encoding : Encoding) → encoding.version ≡ 5 → encoding_in order place bytes ≡ Ok encoding
         → encoding_in order other bytes ≡ Ok encoding }
 {}
 
 /// The law of names: the used slots of an index of distinct identifiers name each of them once,
 /// with the number of its row; so do the units of a package. It does nothing.
 pub fn units_are_named_once()
-    ensures index { (ids : List ℕ) (index : Index)
-        → IsIndex ids index.signatures index.rows
+    ensures index { (ids : List ℕ) (index : Index) → IsIndex ids index.signatures index.rows
         → IsPermutation (numbered 1 ids) (used_in index 0) }
     ensures package { (compilations types : Option Index) (ids signatures : List ℕ)
-        → IsIndexOfIds compilations ids
-        → IsIndexOfIds types signatures
+        → IsIndexOfIds compilations ids → IsIndexOfIds types signatures
         → IsPermutation (entries_of ids signatures) (entries_from compilations types 0 0) }
 {}
 
@@ -90,28 +81,21 @@ pub fn units_are_named_once()
 /// another kind or of no bytes isn't of a kind. It does nothing.
 pub fn contents_are_read()
     ensures package { (bytes : List ℕ) (file : Elf) (held : SectionKind → List ℕ)
-        (compilations types : Option Index)
-        → HoldsPackage bytes file held compilations types
+        (compilations types : Option Index) → HoldsPackage bytes file held compilations types
         → package_of bytes ≡ Ok (package_with file.order held compilations types) }
     ensures held { (held : SectionKind → List ℕ) (kind : SectionKind)
         → content (sections_of held) kind ≡ held kind }
-    ensures index { (order : Endianness) (bytes : List ℕ) (index : Index)
-        → 0 < length bytes
-        → index_of order bytes ≡ Ok index
-        → index_in_section order bytes ≡ Ok (Some index) }
+    ensures index { (order : Endianness) (bytes : List ℕ) (index : Index) → 0 < length bytes
+        → index_of order bytes ≡ Ok index → index_in_section order bytes ≡ Ok (Some index) }
     ensures no_index { (order : Endianness) (bytes : List ℕ) → bytes ≡ []
         → index_in_section order bytes ≡ Ok None }
     ensures in_order { (sections : List SectionMeaning) (contents : List (SectionKind × List ℕ))
         → HoldsInOrder sections contents
         → (kind : SectionKind) → HasContent sections kind (held_of kind contents) }
-    ensures other { (section : SectionMeaning) (kind other : SectionKind)
-        → section.name ≡ Some (name_of other)
-        → same_kind other kind ≡ false
-        → is_of_kind kind section ≡ false }
+    ensures other { (section : SectionMeaning) (kind other : SectionKind) → section.name
+        ≡ Some (name_of other) → same_kind other kind ≡ false → is_of_kind kind section ≡ false }
     ensures foreign { (section : SectionMeaning) (kind : SectionKind) (name : List ℕ)
-        → section.name ≡ Some name
-        → kind_named name ≡ None
-        → is_of_kind kind section ≡ false }
+        → section.name ≡ Some name → kind_named name ≡ None → is_of_kind kind section ≡ false }
     ensures empty { (section : SectionMeaning) (kind : SectionKind) → section.size ≡ 0
         → is_of_kind kind section ≡ false }
 {}

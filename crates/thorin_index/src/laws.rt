@@ -27,10 +27,7 @@ pub fn written_index_is_read()
 /// bytes, and a table of their identifiers. Identifiers have 64 bits. It does nothing.
 pub fn written_index_has_the_entries()
     ensures { (order : Endianness) (encoding : Encoding) (entries : List IndexEntry)
-        (bytes : List ℕ)
-        → tests_under encoding entries ≡ Ok tt
-        → AreDistinct (entry_ids entries)
-        → HaveShortIds entries
-        → IsIndexText order (index_version_of encoding.version) entries bytes
+        (bytes : List ℕ) → tests_under encoding entries ≡ Ok tt → AreDistinct (entry_ids entries)
+        → HaveShortIds entries → IsIndexText order (index_version_of encoding.version) entries bytes
         → IsReadAsEntries order (index_version_of encoding.version) entries bytes }
 {}

@@ -20,21 +20,17 @@ ghost use Rattle.thorin_package_input.specs.RowPlaces.{IsFirstWith, row_by_place
 /// nothing.
 pub fn rows_are_found_by_place()
     ensures { (index : Index) (kind : SectionKind) (range : Contribution) (number : ℕ)
-        → row_by_place (Some index) kind range ≡ Some number
-        → IsFirstWith index kind range number }
+        → row_by_place (Some index) kind range ≡ Some number → IsFirstWith index kind range number }
 {}
 
 /// The first row that has a range in a section is found by it, and where none is found no row has
 /// it. It does nothing.
 pub fn every_row_is_found_by_place()
     ensures first { (index : Index) (kind : SectionKind) (range : Contribution) (number : ℕ)
-        → IsFirstWith index kind range number
-        → row_by_place (Some index) kind range ≡ Some number }
+        → IsFirstWith index kind range number → row_by_place (Some index) kind range ≡ Some number }
     ensures none { (index : Index) (kind : SectionKind) (range : Contribution)
-        → row_by_place (Some index) kind range ≡ None
-        → (number : ℕ) (row : Ranges)
-        → row_in index number ≡ Ok row
-        → range_in row kind ≢ Some range }
+        → row_by_place (Some index) kind range ≡ None → (number : ℕ) (row : Ranges)
+        → row_in index number ≡ Ok row → range_in row kind ≢ Some range }
 {}
 
 /// A package's string offsets that were rewritten have as many bytes as before, and the range of
@@ -43,8 +39,7 @@ pub fn every_row_is_found_by_place()
 pub fn packaged_rows_are_read_alike()
     ensures { (order : Endianness) (encoding : Encoding) (compilations types : Option Index)
         (section bytes : List ℕ) (before : List (List ℕ)) (written : List ℕ) (after : List (List ℕ))
-        → IsTable before
-        → packaged_offsets order encoding compilations types section bytes before
+        → IsTable before → packaged_offsets order encoding compilations types section bytes before
         ≡ Ok (written, after)
         → PackageReadsAlike order encoding compilations types section bytes before written after }
 {}
@@ -53,13 +48,10 @@ pub fn packaged_rows_are_read_alike()
 /// of any table that begins with the strings after it. It does nothing.
 pub fn rewritten_strings_are_read_alike()
     ensures { (order : Endianness) (encoding : Encoding) (section bytes : List ℕ)
-        (before : List (List ℕ)) (rewritten : List ℕ) (after final : List (List ℕ))
-        → IsTable before
+        (before : List (List ℕ)) (rewritten : List ℕ) (after final : List (List ℕ)) → IsTable before
         → remapped order encoding section bytes (length bytes) before ≡ Ok (rewritten, after)
-        → IsTable final
-        → take (length after) final ≡ after
-        → (i : ℕ)
-        → ReadsAlike order encoding section bytes (data_of final) rewritten i }
+        → IsTable final → take (length after) final ≡ after
+        → (i : ℕ) → ReadsAlike order encoding section bytes (data_of final) rewritten i }
 {}
 
 /// Two ranges of string offsets before DWARF 5, which have no header, joined are read in turn: the
