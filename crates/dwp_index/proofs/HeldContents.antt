@@ -81,27 +81,18 @@ module _ (met : SectionKind → Option (ℕ × Section)) (i : ℕ) (next : Secti
       → is_some (met own) ≡ false → (kind : SectionKind) → found_with kind (met kind) i next
       ≡ cond (same_kind kind own) (Some (i, next)) (met kind)
   unfolding is_of_kind
-  met-first full none kind = by-bool _ (same_kind kind own)
-      (λ same. rw (same, is-same kind own same)
-      (first (met own) none (rw (full, names own (section next).name named) refl)))
+  met-first full none kind =
+      let its : is_of_kind own (section next) ≡ true =
+      rw (full, names own (section next).name named) refl in
+      by-bool _ (same_kind kind own)
+      (λ same. rw (same, is-same kind own same) (grind (arith, none, its)))
       (λ other. rw other (passed-by kind other))
-    where
-      first : (before : Option (ℕ × Section)) → is_some before ≡ false
-          → is_of_kind own (section next) ≡ true → found_with own before i next ≡ Some (i, next)
-      first None none its = rw its refl
-      first (Some met) none its = absurd cc
 
   -- one more of that kind
   pub met-later : is_some (met own) ≡ true → (kind : SectionKind)
       → found_with kind (met kind) i next ≡ met kind
   met-later some kind = by-bool _ (same_kind kind own)
-      (λ same. rw (is-same kind own same) (later (met own) some))
-      (λ other. passed-by kind other)
-    where
-      later : (before : Option (ℕ × Section)) → is_some before ≡ true
-          → found_with own before i next ≡ before
-      later None some = absurd cc
-      later (Some met) some = refl
+      (λ same. rw (is-same kind own same) (grind (arith, some))) (λ other. passed-by kind other)
 
 -- ---- the walk
 
@@ -116,11 +107,8 @@ pub record IsMet (kind : SectionKind) (xs : List SectionMeaning) (i : ℕ)
 pub met-next : (kind : SectionKind) (xs : List SectionMeaning) (i : ℕ) (next : Section)
     (met : Option (ℕ × Section)) → slice_get xs i ≡ Some (section next) → IsMet kind xs i met
     → IsMet kind xs (i + 1) (found_with kind met i next)
-met-next kind xs i next (Some found) at is = record {
-  first = is.first;
-  there = is.there;
-  filled = is.filled;
-}
+met-next kind xs i next (Some found) at is =
+    record { first = is.first; there = is.there; filled = is.filled }
 met-next kind xs i next None at is = by-bool _ (is_of_kind kind (section next))
     (λ here. rw here (record {
       first = sym (find_hit (is_of_kind kind) xs i (section next) at here) ∙ is.first;
