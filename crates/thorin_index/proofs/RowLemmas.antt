@@ -2,18 +2,17 @@
 -- its hash table, and bytes that a loop adds.
 use Rattle.thorin_index.proofs.Terms
 use Terms.{All, All-push, Encoding, Endianness, Err, ErrorValue, IndexEntry, IsHashTable, IsLooked}
-use Terms.{IsPlacedAfter, List, Ok, OnErr, Result, SectionKind, Some, [], ap, arith, below_more}
-use Terms.{blank, contribution_kinds, contribution_to, entry_by, entry_ids, flat_map, flat_map_more}
-use Terms.{get_or, get_or-take, get_or_append_left, get_or_default, get_or_push, identifier_of}
-use Terms.{index_version_of, inl, inr, length, length-map, length-take, length_push, map, map_more}
-use Terms.{map_push, refl, row_of, slice_get, suc, sym, take, take_more, used_sections, with_own, ℕ}
-use Terms.{◌++◌, ◌+◌, ◌-◌, ◌<◌, ◌∙◌, ◌∷◌, ◌≡◌, ◌≤◌}
+use Terms.{IsPlacedAfter, List, Ok, OnErr, Result, Some, [], ap, arith, blank, entry_ids, flat_map}
+use Terms.{flat_map_more, get_or, get_or-take, get_or_append_left, get_or_default, get_or_push}
+use Terms.{identifier_of, index_version_of, inl, inr, length, length-map, length-take, length_push}
+use Terms.{map, map_more, map_push, refl, row_of, slice_get, suc, sym, take, take_more}
+use Terms.{used_sections, with_own, ℕ, ◌++◌, ◌+◌, ◌-◌, ◌<◌, ◌∙◌, ◌∷◌, ◌≡◌, ◌≤◌}
 use Rattle.std.proofs.{lemmas.Bool.cases_lt, lemmas.Bool.Decides.nat_tests}
 use Rattle.std.proofs.lemmas.Option.{get_or_from_slice_get, slice_get_within}
 use Rattle.dwp_table.specs.{declared.object.DwarfObject.DwarfObject, Table.HasSlots}
 use Rattle.thorin_index.specs.EntryTests.{count_test, index_tests, tests_under}
 use Rattle.thorin_index.specs.{declared.rows.Own.Own, IndexText.index_bytes, IndexText.IsIndexOf}
-use Rattle.thorin_index.{proofs.Each.by_contribution, specs.declared.rows.Row.Row}
+use Rattle.thorin_index.specs.declared.rows.Row.{Row}
 
 -- a list that begins with another isn't shorter
 pub at_least : {A : Type 0} (front all : List A) → take (length front) all ≡ front
@@ -68,29 +67,6 @@ pub row_ids : (shared : List IndexEntry) (rows : List Row)
 row_ids shared [] = refl
 row_ids shared (row ∷ rows) =
     rw (own_id row.id row.own (get_or shared row.shared blank), row_ids shared rows) refl
-
--- ---- entries that are the same
-
-abbrev SameAt : IndexEntry → IndexEntry → ℕ → Type 0
-SameAt a b k = (d : SectionKind) → contribution_to (get_or contribution_kinds k d) a
-    ≡ contribution_to (get_or contribution_kinds k d) b
-
-abbrev pub SameUpTo : ℕ → IndexEntry → IndexEntry → Type 0
-SameUpTo n a b = (k : ℕ) → k < n → SameAt a b k
-
-pub same_entries : (a b : IndexEntry) → a.encoding ≡ b.encoding → a.id ≡ b.id
-    → SameUpTo (length contribution_kinds) a b → a ≡ b
-same_entries a b encoding id same = λ i. entry_by (encoding i) (id i) (λ kind. by_contribution
-    (λ kind. contribution_to kind a ≡ contribution_to kind b) (λ k d less. same k less d)
-    refl refl refl kind i)
-
--- and one contribution more
-pub one_more : (n : ℕ) (e : SectionKind) (a b : IndexEntry) → n < 10
-    → contribution_to (get_or contribution_kinds n e) a
-    ≡ contribution_to (get_or contribution_kinds n e) b
-    → SameUpTo n a b → SameUpTo (n + 1) a b
-one_more n e a b within last same =
-    below_more (SameAt a b) n same (λ d. rw (get_or_default contribution_kinds n d e within) last)
 
 -- ---- an index of some rows
 

@@ -5,8 +5,8 @@ pub use Rattle.std.proofs.Common.{drop_at, get_or-take, length-append, length-ta
 pub use Rattle.std.proofs.Common.{All, is_some, ltb-true, mul-suc, Option, Result, take_at, vec_len}
 pub use Rattle.std.proofs.Common.{arith, codes, eq-eqb, false, filter, get_or, length, OnErr, rules}
 pub use Rattle.std.proofs.Common.{Bool, cond, drop, List, None, refl, Some, subst, take, true, zero}
-pub use Rattle.std.proofs.Common.{below_more, eqb-true, flat_map, replicate, slice_get, unwrap_or}
-pub use Rattle.std.proofs.Common.{ap, eqb, Err, inl, inr, leb, ltb, map, Ok, suc, sym}
+pub use Rattle.std.proofs.Common.{ap, eqb, eqb-true, Err, flat_map, inl, inr, leb, ltb, map, Ok}
+pub use Rattle.std.proofs.Common.{replicate, slice_get, suc, sym, unwrap_or}
 pub use Rattle.std.proofs.lemmas.List.{drop_all, get_or_append_left, get_or_default, length-take-le}
 pub use Rattle.std.proofs.lemmas.List.{at_drop_more, flat_map_more, get_or_push, length_push}
 pub use Rattle.std.proofs.lemmas.List.{get_or-map, length-map, map_more, map_push, take_more}
@@ -28,6 +28,6 @@ pub use Rattle.dwp_table.specs.Objects.{identifier_of}
 pub use Rattle.dwp_table.specs.Table.{AreDistinct, IsHashTable, IsPlacedAfter, signature_of}
 pub use Rattle.thorin_errors.specs.Errors.{ErrorValue}
 pub use Rattle.thorin_index.specs.Buckets.{IsLooked}
-pub use Rattle.thorin_index.specs.Entries.{contribution_to, entry_by, offset_or_0, size_or_0}
+pub use Rattle.thorin_index.specs.Entries.{contribution_to, offset_or_0, size_or_0}
 pub use Rattle.thorin_index.specs.EntryTests.{each, encoding_test, test_of}
 pub use Rattle.thorin_index.specs.{declared.entry.IndexEntry.IndexEntry, Rows.blank}

@@ -1,7 +1,7 @@
 //! The rows of an index, each held in few bytes: what neighbouring rows share is held once.
 
 ghost use Rattle.std.specs.Prelude.{get_or, length, Some, take, [], ◌++◌, ◌+◌, ◌<◌, ◌∷◌, ◌≡◌, ◌≤◌};
-ghost use Rattle.std.specs.Prelude.{IfOk, IsTrue, OnErr, OnOk, slice_get};
+ghost use Rattle.std.specs.Prelude.{IfOk, OnErr, OnOk, slice_get};
 ghost use Rattle.dwp_table.specs.Table.{HasSlots, IsHashTable};
 ghost use Rattle.thorin_errors.specs.Answers.{Gives};
 ghost use Rattle.thorin_index.specs.{Entries.contribution_to, EntryTests.count_test, Rows.with_own};
@@ -11,7 +11,7 @@ use crate::entry::IndexEntry;
 use crate::index_writer::bucket;
 use dwp_base::{Contribution, SectionKind};
 use dwp_bytes::Encoding;
-use dwp_table::{Bucketable, CONTRIBUTION_KINDS, DebugTypeSignature, DwarfObject};
+use dwp_table::{Bucketable, DebugTypeSignature, DwarfObject};
 use std::alloc::{AllocError, Global};
 use std::marker::Model;
 use thorin_errors::Error;
@@ -62,18 +62,6 @@ fn split(entry: &IndexEntry) -> (Own, IndexEntry)
     (Own::Nothing, shared)
 }
 
-/// Whether two entries are the same.
-fn same_entry(a: &IndexEntry, b: &IndexEntry) -> bool
-    ensures { IsTrue result → a.now ≡ b.now }
-{
-    for kind in &CONTRIBUTION_KINDS {
-        if a.contribution(*kind) != b.contribution(*kind) {
-            return false;
-        }
-    }
-    a.encoding == b.encoding && a.id == b.id
-}
-
 /// The number of an entry among others: that of the last, where it is the same, else of a new last
 /// one.
 ///
@@ -87,7 +75,7 @@ pub fn share(entries: &mut Vec<IndexEntry>, entry: &IndexEntry) -> Result<usize,
     ensures err { OnErr result (entries.new.items ≡ entries.old.items) }
 {
     let count = entries.len();
-    if count > 0 && same_entry(&entries[count - 1], entry) {
+    if count > 0 && entries[count - 1] == *entry {
         return Ok(count - 1);
     }
     entries.push(*entry)?;
