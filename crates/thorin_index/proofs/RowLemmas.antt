@@ -58,15 +58,11 @@ pub on_err : {T E P : Type 0} (r : Result T E) → P → OnErr r P
 on_err (Ok x) p = tt
 on_err (Err e) p = p
 
-own_id : (id : DwarfObject) (own : Own) (entry : IndexEntry) → (with_own id own entry).id ≡ id
-own_id id own entry = grind arith
-
 -- the identifiers of rows are those of their entries
 pub row_ids : (shared : List IndexEntry) (rows : List Row)
     → map (λ (row : Row). identifier_of row.id) rows ≡ entry_ids (map (row_of shared) rows)
 row_ids shared [] = refl
-row_ids shared (row ∷ rows) =
-    rw (own_id row.id row.own (get_or shared row.shared blank), row_ids shared rows) refl
+row_ids shared (row ∷ rows) = grind (arith, row_ids shared rows)
 
 -- ---- an index of some rows
 
