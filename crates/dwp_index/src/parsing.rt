@@ -1,22 +1,14 @@
 //! Reading an index from its bytes (DWARF 5, 7.3.5.3; the GNU page DebugFissionDWP).
 
-ghost use Rattle.std.specs.Prelude.{drop, IfOk, IsTrue, length, OnOk, [], ◌*◌, ◌+◌, ◌≡◌, ◌≤◌};
-ghost use Rattle.dwp_index.specs.IndexBytes.{columns_at, counts_of, is_slot_count, version_of};
+ghost use Rattle.std.specs.Prelude.{drop, IfOk, length, OnOk, [], ◌*◌, ◌+◌, ◌≡◌, ◌≤◌};
 ghost use Rattle.dwp_base.specs.{Numbers.number, Reading.Answers};
-ghost use Rattle.dwp_index.specs.{IndexBytes.after, IndexBytes.numbers, Places.ArePlaces};
+ghost use Rattle.dwp_index.specs.IndexBytes.{after, columns_at, numbers, version_of};
+ghost use Rattle.dwp_index.specs.Places.{ArePlaces};
 
 use crate::unit_index::NO_COLUMN;
 use dwp_base::{ByKind, Endianness};
 use dwp_bytes::ReadError;
 use dwp_table::kind_of_column;
-
-/// How many columns, rows and slots an index has.
-#[derive(Clone, Copy)]
-pub(crate) struct Sizes {
-    pub(crate) columns: u32,
-    pub(crate) units: u32,
-    pub(crate) slots: u32,
-}
 
 /// The bytes from a place on.
 #[tactic(auto, using(std::proofs::lemmas::List::take_rest))]
@@ -52,32 +44,6 @@ pub(crate) fn version_of(bytes: &[u8], order: Endianness) -> Result<u16, ReadErr
         Ok(5)
     } else {
         Err(ReadError::IndexVersion)
-    }
-}
-
-/// The counts of an index's header.
-#[tactic(auto, unfolding(crate::specs::IndexBytes::counts_of))]
-#[inline(always)]
-pub(crate) fn counts_of(bytes: &[u8], order: Endianness) -> Result<Sizes, ReadError>
-    ensures exact { Answers (λ x. record { columns = x.columns; units = x.units; slots = x.slots })
-        result (counts_of order bytes.now) }
-    ensures enough { OnOk result (16 ≤ length bytes.now) }
-    ensures slots { IfOk result (λ x. IsTrue (is_slot_count x.units x.slots)) }
-{
-    if bytes.len() < 16 {
-        return Err(ReadError::UnexpectedEof);
-    }
-    let columns = order.read_u32(&bytes[4..]);
-    let units = order.read_u32(&bytes[8..]);
-    let slots = order.read_u32(&bytes[12..]);
-    if (slots.is_power_of_two() && units < slots) || (slots == 0 && units == 0) {
-        Ok(Sizes {
-            columns,
-            units,
-            slots,
-        })
-    } else {
-        Err(ReadError::SlotCount)
     }
 }
 

@@ -7,7 +7,7 @@ ghost use Rattle.dwp_table.specs.Table.{IsIndex, FindsExactly};
 ghost use Rattle.dwp_index.specs.Index.{row_in, column_place, range_in};
 ghost use Rattle.dwp_index.specs.IndexBytes.{index_of};
 
-use crate::parsing::{after, after_rows, counts_of, read_columns, read_u32_at, tail, version_of};
+use crate::parsing::{after, after_rows, read_columns, read_u32_at, tail, version_of};
 use dwp_base::{ByKind, Contribution, ContributionOffset, Endianness, SectionKind};
 use dwp_bytes::ReadError;
 use dwp_table::{first_place, place_after};
@@ -79,25 +79,35 @@ impl<'a> UnitIndex<'a> {
     /// # Errors
     /// The first error in order of place: `UnexpectedEof`, `IndexVersion`, `SlotCount`,
     /// `UnknownColumn` or `RepeatedColumn`.
-    #[tactic(auto, unfolding(crate::specs::IndexBytes::index_of))]
+    #[tactic(auto, unfolding(crate::specs::IndexBytes::index_of, crate::specs::IndexBytes::counts_of))]
     #[inline(always)]
     pub fn parse(bytes: &'a [u8], order: Endianness) -> Result<UnitIndex<'a>, ReadError>
         ensures { Answers (λ x. x) result (index_of order bytes.now) }
     {
         let version = version_of(bytes, order)?;
-        let counts = counts_of(bytes, order)?;
+        if bytes.len() < 16 {
+            return Err(ReadError::UnexpectedEof);
+        }
+        let column_count = read_u32_at(bytes, order, 4);
+        let unit_count = read_u32_at(bytes, order, 8);
+        let slot_count = read_u32_at(bytes, order, 12);
+        if !((slot_count.is_power_of_two() && unit_count < slot_count)
+            || (slot_count == 0 && unit_count == 0))
+        {
+            return Err(ReadError::SlotCount);
+        }
         let signatures = tail(bytes, 16);
-        let rows = after(signatures, 8 * counts.slots as u64)?;
-        let columns = after(rows, 4 * counts.slots as u64)?;
-        let (places, offsets) = read_columns(columns, order, version, counts.columns)?;
-        let sizes = after_rows(offsets, counts.columns, counts.units)?;
-        after_rows(sizes, counts.columns, counts.units)?;
+        let rows = after(signatures, 8 * slot_count as u64)?;
+        let columns = after(rows, 4 * slot_count as u64)?;
+        let (places, offsets) = read_columns(columns, order, version, column_count)?;
+        let sizes = after_rows(offsets, column_count, unit_count)?;
+        after_rows(sizes, column_count, unit_count)?;
         Ok(UnitIndex {
             order,
             version,
-            column_count: counts.columns,
-            unit_count: counts.units,
-            slot_count: counts.slots,
+            column_count,
+            unit_count,
+            slot_count,
             signatures,
             rows,
             columns,
