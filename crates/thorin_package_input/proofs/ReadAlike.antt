@@ -28,31 +28,17 @@ slice_length : (bytes : List ℕ) (a b : ℕ) → a ≤ b → b ≤ length bytes
 slice_length bytes a b less within = length-take-le (b - a) (drop a bytes)
     (omega (arith, length-drop a bytes))
 
--- ---- what is known of ranges one by one
-abbrev pub NamesLaw : Type 0
-NamesLaw = (order : Endianness) (encoding : Encoding) (section bytes : List ℕ) (size : ℕ)
-    (before : List (List ℕ)) (rewritten : List ℕ) (after : List (List ℕ))
-    → IsTable before → remapped order encoding section bytes size before ≡ Ok (rewritten, after)
-    → NamesTheSame order encoding section bytes size before rewritten after
-
-abbrev pub AlikeLaw : Type 0
-AlikeLaw = (order : Endianness) (encoding : Encoding) (section bytes : List ℕ)
+-- ---- a range that was rewritten
+pub strings_alike : (order : Endianness) (encoding : Encoding) (section bytes : List ℕ)
     (before : List (List ℕ)) (rewritten : List ℕ) (after final : List (List ℕ))
     → IsTable before → remapped order encoding section bytes (length bytes) before ≡ Ok
     (rewritten, after) → IsTable final → take (length after) final ≡ after → (i : ℕ)
     → ReadsAlike order encoding section bytes (data_of final) rewritten i
-
-pub names_same : NamesLaw
-names_same order encoding section bytes size before rewritten after =
-    range_named order encoding section bytes size before (rewritten, after)
-
-pub strings_alike : AlikeLaw
 strings_alike order encoding section bytes before rewritten after final table ok =
     strings_again order encoding section bytes before rewritten after final
-    (names_same order encoding section bytes (length bytes) before rewritten after table ok)
+    (range_named order encoding section bytes (length bytes) before (rewritten, after) table ok)
 
-module _ (names : NamesLaw) (order : Endianness) (encoding : Encoding)
-    (section bytes : List ℕ) where
+module _ (order : Endianness) (encoding : Encoding) (section bytes : List ℕ) where
   -- a range was rewritten, and its strings are among those in the end
   record IsRewritten (after : List (List ℕ)) (r : Contribution) (rewritten : List ℕ) : Type 0 where
     inside : r.offset.0 + r.size ≤ length bytes
@@ -83,9 +69,8 @@ module _ (names : NamesLaw) (order : Endianness) (encoding : Encoding)
   same_size last r rs old new rewritten next named =
       ⊎_elim
       (λ (none : r.size ≡ 0). ap length (named.none none) ∙ sym none)
-      (λ some. let long = named.long some in
-      omega (arith, long, div-add-mod (r.size - header_size encoding)
-      (offset_size encoding.format)))
+      (λ some. let parts = div-add-mod (r.size - header_size encoding) (offset_size encoding.format)
+      in omega (arith, named.long some, parts))
       (cases_eq r.size 0)
 
   module _ (at : ℕ) (x : Contribution) (xs : List Contribution) (before between : List (List ℕ))
@@ -101,7 +86,8 @@ module _ (names : NamesLaw) (order : Endianness) (encoding : Encoding)
     gap_length = slice_length bytes at x.offset.0 next.behind (omega (arith, next.inside))
 
     same : NamesTheSame order encoding section (range_bytes bytes x) x.size before range between
-    same = names order encoding section (range_bytes bytes x) x.size before range between table ok
+    same = range_named order encoding section (range_bytes bytes x) x.size before (range, between)
+        table ok
 
     range_length : length range ≡ x.size
     range_length = same_size at x xs before between range next same
@@ -163,25 +149,22 @@ module _ (names : NamesLaw) (order : Endianness) (encoding : Encoding)
       let next = next_passed encoding (length bytes) at x xs passed in
       let first = bind-was _ _ (written, after) ok in
       let second = bind-was _ _ (written, after) first.2 in
-      let between = names order encoding section (range_bytes bytes x) x.size before first.0.0
-      first.0.1 table first.1 in
+      let between = range_named order encoding section (range_bytes bytes x) x.size before first.0
+      table first.1 in
       subst (λ p. AreWritten at (x ∷ xs) before p.0 p.1) (same-ok _ _ second.2)
       (more_written at x xs before first.0.1 first.0.0 second.0.0 second.0.1 next table first.1
       (all_written xs (x.offset.0 + x.size) first.0.1 second.0.0 second.0.1 next.inside
       between.table next.others second.1))
 
--- ---- the range of each row
-module _ (names : NamesLaw) (alike : AlikeLaw) (order : Endianness) (encoding : Encoding)
-    (section bytes : List ℕ) where
+  -- ---- the range of each row
   reads_alike : (written : List ℕ) (after : List (List ℕ)) (r : Contribution)
-      → IsWritten names order encoding section bytes 0 written after r → RangeReadsAlike order
-      encoding section bytes written after r
+      → IsWritten 0 written after r → RangeReadsAlike order encoding section bytes written after r
   reads_alike written after r w = record {
     inside = w.one.inside;
     alike = λ final table kept k.
         let count : length (range_bytes bytes r) ≡ r.size = slice_length bytes r.offset.0
         (r.offset.0 + r.size) (omega arith) w.one.inside ∙ omega arith in
-        rw (w.there [] refl) (alike order encoding section (range_bytes bytes r) w.one.old
+        rw (w.there [] refl) (strings_alike order encoding section (range_bytes bytes r) w.one.old
         w.rewritten w.one.new final w.one.table (rw count w.one.ok) table
         (kept_more w.one.new after final w.one.still kept) k);
   }
@@ -193,8 +176,8 @@ module _ (names : NamesLaw) (alike : AlikeLaw) (order : Endianness) (encoding : 
   unfolding packaged_offsets
   package_reads_alike compilations types before written after table ok =
       let tested = bind-was _ _ (written, after) ok in
-      let all = all_written names order encoding section bytes (offset_ranges compilations types) 0
-      before written after (omega arith) table tested.1 tested.2 in
+      let all = all_written (offset_ranges compilations types) 0 before written after (omega arith)
+      table tested.1 tested.2 in
       record {
         table = all.table;
         kept = all.kept;

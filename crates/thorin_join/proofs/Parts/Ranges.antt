@@ -3,12 +3,11 @@
 use Rattle.thorin_join.proofs.Terms
 use Terms.{ap, arith, cond, drop-append-le, Encoding, Endianness, entry_count, entry_in, eqb, false}
 use Terms.{Format, header_size, length, length-drop, length-take, List, nat_tests, None}
-use Terms.{number_front, offset_size, Ok, range_named, ReadsAlike, refl, remapped, slice_get, Some}
-use Terms.{string_at, string_for, string_in, strings_again, strings_of, suc, take-append-drop}
+use Terms.{number_front, offset_size, Ok, ReadsAlike, refl, remapped, slice_get, Some}
+use Terms.{string_at, string_for, string_in, strings_of, suc, take-append-drop}
 use Terms.{whole_entries, zero, [], ℕ, ◌*◌, ◌++◌, ◌+◌, ◌-◌, ◌∙◌, ◌∷◌, ◌≡◌, ◌≤◌, ◌⊎◌}
 use Rattle.std.proofs.lemmas.Nat.{row_fits}
 use Rattle.thorin_strings.specs.StringOffsets.{entry_bytes, header_of, remapped_entries}
-use Rattle.thorin_package_input.proofs.ReadAlike.{AlikeLaw, NamesLaw}
 use Rattle.thorin_join.specs.Strings.{each_from, offset_of_entry, offsets_in, strings_at}
 use Rattle.std.proofs.Common.{IsOk, nat_lt, take_all, ◌/◌}
 
@@ -74,15 +73,6 @@ pub range-of : (order : Endianness) (encoding : Encoding) (section bytes : List 
     → ((size ≡ 0) × (([], strings) ≡ range)) ⊎ Range order encoding section bytes size strings range
 unfolding remapped
 range-of order encoding section bytes size strings range h = grind arith
-
-pub names-same : NamesLaw
-names-same order encoding section bytes size before written after =
-    range_named order encoding section bytes size before (written, after)
-
-pub reads-alike : AlikeLaw
-reads-alike order encoding section bytes before written after final table h =
-    strings_again order encoding section bytes before written after final
-    (names-same order encoding section bytes (length bytes) before written after table h)
 
 -- the offsets
 each-at : (f : ℕ → ℕ) (i n k j : ℕ) → j ≡ i + k

@@ -8,7 +8,7 @@ use Terms.{kept_more, length, length-append, List, no_header, offset_size, Ok, P
 use Terms.{range_in, range_named, Ranges, ReadsAlike, refl, row_in, same-self, same_kind}
 use Terms.{SectionKind, Some, Source, Str, strings_again, StrOffsets, sym, take, true, Used}
 use Terms.{whole_entries, with_each_part, [], ℕ, ◌*◌, ◌++◌, ◌+◌, ◌-◌, ◌<◌, ◌∙◌, ◌∷◌, ◌≡◌, ◌≤◌, ◌⊎◌}
-use Rattle.thorin_join.proofs.Parts.Ranges.{count-none, empty-alike, names-same, reads-alike}
+use Rattle.thorin_join.proofs.Parts.Ranges.{count-none, empty-alike}
 use Rattle.thorin_join.proofs.Parts.Ranges.{whole-long, whole-read}
 use Rattle.thorin_join.proofs.Parts.Added.{each-brings, each-part, has_part-more, joined_parts-more}
 use Rattle.thorin_join.proofs.Parts.Added.{joined_parts-other, Rewritten, rewritten-package}
@@ -153,7 +153,7 @@ module _ (source : Source) (packed : is_package source.indexes ≡ true) where
       let end = ended StrOffsets ss next last rest in
       let joined : joined_parts StrOffsets last.0 ≡ w.written.0 =
       grind (arith, end, has_part-more StrOffsets, joined_parts-more StrOffsets before.0) in
-      let reads = package_reads_alike names-same reads-alike _ _ _ _ _ _ _ w.written.0 w.written.1
+      let reads = package_reads_alike _ _ _ _ _ _ _ w.written.0 w.written.1
       table (sym (rewritten-package source s.bytes before.1 packed) ∙ w.rewrites) in
       let later = (each-brings source ss _ last (rw w.is at rest)).0.follows reads.table in
       rw (same, joined) (record {
