@@ -47,8 +47,7 @@ module _ (order : Endianness) (version : ℕ) (bytes : List ℕ) (count i : ℕ)
       pub further : (unknown repeated : Bool)
           → is_none (kind_of_column version (number order 4 (drop (4 * i) bytes))) ≡ unknown
           → list_any (λ c. eqb c (number order 4 (drop (4 * i) bytes))) (numbers order 4 i bytes)
-          ≡ repeated
-          → Behind order version bytes count i ≡ cond unknown (Err UnknownColumn)
+          ≡ repeated → Behind order version bytes count i ≡ cond unknown (Err UnknownColumn)
           (cond repeated (Err RepeatedColumn) (Behind order version bytes count (i + 1)))
       unfolding columns_at new_column
       further true repeated e f = rw (more, there, e) refl
@@ -106,9 +105,8 @@ says_whether count held n (Some i) is e =
 
 -- ---- one more column
 -- the place in a list with one number more
-position_push : (test : ℕ → Bool) (i : ℕ) (xs : List ℕ) (n : ℕ)
-    → position_from test i (xs ++ n ∷ [])
-    ≡ option_or (position_from test i xs) (cond (test n) (Some (i + length xs)) None)
+position_push : (test : ℕ → Bool) (i : ℕ) (xs : List ℕ) (n : ℕ) → position_from test i
+    (xs ++ n ∷ []) ≡ option_or (position_from test i xs) (cond (test n) (Some (i + length xs)) None)
 position_push test i [] n = rw add-zero refl
 position_push test i (x ∷ xs) n = grind (arith, position_push test (i + 1) xs n)
 
@@ -116,9 +114,8 @@ abbrev place_of : Option ℕ → List ℕ → Option ℕ
 place_of number columns = option_and_then (λ c. position_from (λ n. eqb n c) 0 columns) number
 
 -- the number of a section's column has no place just where the section has none
-number_place : (version n : ℕ) (columns : List ℕ) (kind : SectionKind)
-    → kind_of_column version n ≡ Some kind
-    → column_place version columns kind ≡ position_from (λ x. eqb x n) 0 columns
+number_place : (version n : ℕ) (columns : List ℕ) (kind : SectionKind) → kind_of_column version n
+    ≡ Some kind → column_place version columns kind ≡ position_from (λ x. eqb x n) 0 columns
 unfolding column_place
 number_place version n columns kind e = rw (number_of_kind version n kind e) refl
 
@@ -132,8 +129,7 @@ same_place : (version n : ℕ) (columns : List ℕ) (kind : SectionKind)
 unfolding column_place
 same_place version n columns kind = go (column_of version kind)
   where
-    go : (o : Option ℕ) → (o ≡ Some n → ⊥)
-        → place_of o (columns ++ n ∷ []) ≡ place_of o columns
+    go : (o : Option ℕ) → (o ≡ Some n → ⊥) → place_of o (columns ++ n ∷ []) ≡ place_of o columns
     go None other = refl
     go (Some c) other = position_push (λ x. eqb x c) 0 columns n
         ∙ rw (ne_eqb n c (λ e. other (ap Some (sym e)))) (grind arith)
@@ -148,17 +144,14 @@ one_more old new version count n columns more kind longer long small are named n
     let absent : position_from (λ x. eqb x n) 0 columns ≡ None =
     sym (number_place version n columns kind named) ∙ says_none count (place_held old kind)
     (place_held old kind) (column_place version columns kind) (are kind) refl none in
-    let found : column_place version (columns ++ n ∷ []) kind ≡ Some count =
-    number_place version n (columns ++ n ∷ []) kind named
-    ∙ position_push (λ x. eqb x n) 0 columns n
-    ∙ rw (absent, eq-eqb n n refl, zero-add, long) refl in
-    rw longer (by-bool (IsPlace (count + 1) (place_held new other)
-    (column_place version (columns ++ n ∷ []) other)) (same_kind other kind)
-    (λ e. let same = is-same other kind e in
-    rw (put other, e, same, found) (refl, omega arith, small))
-    (λ e. let apart : (column_of version other ≡ Some n → ⊥) =
-    λ f. false≢true (sym e ∙ ap (λ k. same_kind k kind) (same_Some other kind
-    (sym (kind_of_number version n other f) ∙ named)) ∙ same-self kind) in
+    let found : column_place version (columns ++ n ∷ []) kind ≡ Some count = number_place version n
+    (columns ++ n ∷ []) kind named ∙ position_push (λ x. eqb x n) 0 columns n
+    ∙ rw (absent, eq-eqb n n refl, zero-add, long) refl in rw longer (by-bool
+    (IsPlace (count + 1) (place_held new other) (column_place version (columns ++ n ∷ []) other))
+    (same_kind other kind) (λ e. let same = is-same other kind e in
+    rw (put other, e, same, found) (refl, omega arith, small)) (λ e. let apart : (column_of
+    version other ≡ Some n → ⊥) = λ f. false≢true (sym e ∙ ap (λ k. same_kind k kind)
+    (same_Some other kind (sym (kind_of_number version n other f) ∙ named)) ∙ same-self kind) in
     rw (put other, e, same_place version n columns other apart)
     (wider count (place_held old other) (column_place version columns other) (are other))))
 
@@ -173,8 +166,7 @@ unfolding column_place
 none_yet p version none kind = rw (no_place (column_of version kind)) (none kind)
 
 -- a number is among the columns just where its section's column has a place
-pub among : (version n : ℕ) (columns : List ℕ) (kind : SectionKind)
-    → kind_of_column version n ≡ Some kind
-    → list_any (λ x. eqb x n) columns ≡ is_some (column_place version columns kind)
+pub among : (version n : ℕ) (columns : List ℕ) (kind : SectionKind) → kind_of_column version n
+    ≡ Some kind → list_any (λ x. eqb x n) columns ≡ is_some (column_place version columns kind)
 among version n columns kind named = sym (is_some-position (λ x. eqb x n) 0 columns)
     ∙ ap is_some (sym (number_place version n columns kind named))

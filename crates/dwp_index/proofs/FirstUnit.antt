@@ -28,24 +28,21 @@ pub encoding_first : (order : Endianness) (place : UnitSection) (bytes : List �
     → encoding_in order place bytes ≡ first_encoding (units place (section order bytes))
 unfolding encoding_in
 encoding_first order place bytes =
-    let i = section order bytes in
-    grind (arith, nat_tests, units-cases place i, no_unit place i)
+    let i = section order bytes in grind (arith, nat_tests, units-cases place i, no_unit place i)
 
 -- the encoding of such a header, whatever follows it
-header_goes : (place : UnitSection) (whole i rest : Input) → 16 ≤ length i.bytes
-    → number i.order 2 i.bytes ≡ 5 → get_or (drop 2 i.bytes) 0 0 ≡ 5
-    → get_or (drop 1 (drop 2 i.bytes)) 0 0 ≡ 8
+header_goes : (place : UnitSection) (whole i rest : Input) → 16 ≤ length i.bytes → number i.order
+    2 i.bytes ≡ 5 → get_or (drop 2 i.bytes) 0 0 ≡ 5 → get_or (drop 1 (drop 2 i.bytes)) 0 0 ≡ 8
     → ((header_at place Dwarf32 whole i >>= λ (unit : Unit). Ok (unit, rest))
-    >>= λ (unit : Unit × Input). Ok unit.0.encoding)
-    ≡ Ok (record { version = 5; format = Dwarf32; address_size = 8 })
+    >>= λ (unit : Unit × Input). Ok unit.0.encoding) ≡ Ok
+    (record { version = 5; format = Dwarf32; address_size = 8 })
 unfolding header_at newer_at unit_code_at address_size_at unit_type_at
     offset_at relocated_at number_at byte_at
 header_goes place whole i rest h version five eight =
     let two = length-drop 2 i.bytes in
     let three = length-drop 1 (drop 2 i.bytes) in
     let four = length-drop 1 (drop 1 (drop 2 i.bytes)) in
-    let last = length-drop 4 (drop 1 (drop 1 (drop 2 i.bytes))) in
-    rw (
+    let last = length-drop 4 (drop 1 (drop 1 (drop 2 i.bytes))) in rw (
       le-ltb (length i.bytes) 2 (omega arith),
       version,
       le-ltb (length (drop 2 i.bytes)) 1 (omega arith),
@@ -65,15 +62,13 @@ pub split_encoding : (order : Endianness) (place : UnitSection) (bytes body : Li
 unfolding encoding_in unit_at initial_length_at split_at number_at
 split_encoding order place bytes body n length_is narrow enough fits same version five eight =
     let left = length-drop 4 bytes in
-    let long = ap length same ∙ length-take-le n (drop 4 bytes) (omega arith) in
-    rw (
+    let long = ap length same ∙ length-take-le n (drop 4 bytes) (omega arith) in rw (
       le-ltb (length bytes) 4 (omega arith),
       length_is,
       lt-ltb n 0xfffffff0 narrow,
       le-ltb (length (drop 4 bytes)) n (omega arith),
       le-ltb (length bytes) (0 + 4 + n - 0) (omega arith),
       ← same,
-    )
-    (header_goes place _ (record (section order bytes) { place = 0 + 4; bytes = body }) _
+    ) (header_goes place _ (record (section order bytes) { place = 0 + 4; bytes = body }) _
     (omega arith) version (get_or-drop 2 body 0 0 ∙ five)
     (get_or_after_one (drop 2 body) 0 0 ∙ get_or-drop 2 body 1 0 ∙ eight))

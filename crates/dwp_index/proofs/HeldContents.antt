@@ -45,9 +45,8 @@ names kind (Some name) e = found-passes (is_named name) all_kinds kind e
 pub of-other : (kind : SectionKind) (s : SectionMeaning)
     → (option_and_then kind_named s.name ≡ Some kind → ⊥) → is_of_kind kind s ≡ false
 unfolding is_of_kind
-of-other kind s other = by-bool (is_of_kind kind s ≡ false) (is_of_kind kind s)
-    (λ its. absurd (other (named-of kind s.name (both _ (has_name kind s.name) its).1)))
-    (λ not. not)
+of-other kind s other = by-bool (is_of_kind kind s ≡ false) (is_of_kind kind s) (λ its. absurd
+    (other (named-of kind s.name (both _ (has_name kind s.name) its).1))) (λ not. not)
 
 -- ---- one more section is met
 passed : (kind : SectionKind) (met : Option (ℕ × Section)) (i : ℕ) (next : Section)
@@ -83,9 +82,8 @@ module _ (met : SectionKind → Option (ℕ × Section)) (i : ℕ) (next : Secti
   unfolding is_of_kind
   met-first full none kind =
       let its : is_of_kind own (section next) ≡ true =
-      rw (full, names own (section next).name named) refl in
-      by-bool _ (same_kind kind own)
-      (λ same. rw (same, is-same kind own same) (grind (arith, none, its)))
+      rw (full, names own (section next).name named) refl in by-bool _
+      (same_kind kind own) (λ same. rw (same, is-same kind own same) (grind (arith, none, its)))
       (λ other. rw other (passed-by kind other))
 
   -- one more of that kind
@@ -114,8 +112,7 @@ met-next kind xs i next None at is = by-bool _ (is_of_kind kind (section next))
       first = sym (find_hit (is_of_kind kind) xs i (section next) at here) ∙ is.first;
       there = at;
       filled = here;
-    }))
-    (λ other. rw other (record {
+    })) (λ other. rw other (record {
       first = sym (find_miss (is_of_kind kind) xs i (section next) at other) ∙ is.first;
       there = tt;
       filled = tt;
@@ -130,8 +127,7 @@ another_kind section kind other e ne = of-other kind section (λ named.
 
 pub foreign : (section : SectionMeaning) (kind : SectionKind) (name : List ℕ) → section.name ≡ Some
     name → kind_named name ≡ None → is_of_kind kind section ≡ false
-foreign section kind name e none = of-other kind section (λ named.
-    cc (sym none ∙ rw e at named))
+foreign section kind name e none = of-other kind section (λ named. cc (sym none ∙ rw e at named))
 
 pub empty : (section : SectionMeaning) (kind : SectionKind) → section.size ≡ 0
     → is_of_kind kind section ≡ false
@@ -164,12 +160,10 @@ held_in_order (s ∷ ss) (c ∷ cs) (inr h) kind = by-bool _ (same_kind c.0 kind
     (λ e. rw e (inl (subst (λ k. Holds s k c.1) (is-same c.0 kind e) h.0)))
     (λ e. rw e (inr (another_kind s kind c.0 h.0.name_is e, held_in_order ss cs h.1 kind)))
 
-pub package_is : (bytes : List ℕ) (file : Elf) (held : SectionKind → List ℕ)
-    (compilations types : Option Index) → elf_of bytes ≡ Ok file
-    → ((kind : SectionKind) → HasContent file.sections kind (held kind))
-    → index_in_section file.order (held CuIndex) ≡ Ok compilations → index_in_section file.order
-    (held TuIndex) ≡ Ok types
-    → package_of bytes ≡ Ok (record {
+pub package_is : (bytes : List ℕ) (file : Elf) (held : SectionKind → List ℕ) (compilations
+    types : Option Index) → elf_of bytes ≡ Ok file → ((kind : SectionKind) → HasContent
+    file.sections kind (held kind)) → index_in_section file.order (held CuIndex) ≡ Ok compilations
+    → index_in_section file.order (held TuIndex) ≡ Ok types → package_of bytes ≡ Ok (record {
       order = file.order;
       contents = sections_of held;
       compilations = compilations;

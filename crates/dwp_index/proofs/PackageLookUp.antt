@@ -34,25 +34,19 @@ none_outside contents row inside = find-no (λ kind. is_outside (content content
 
 -- ---- the look-up
 at_row : (pack : Package) (object : DwarfObject) (index : Index) (number count : ℕ) (row : Ranges)
-    (encoding : Encoding) → row_in index number ≡ Ok row → LiesInside pack.contents row
-    → encoding_in pack.order (own_place object row) (own_bytes pack.contents object
-    row) ≡ Ok encoding
-    → unit_at_row pack object index number count ≡ Ok
-    (Some (unit_of pack object number row encoding), count)
+    (encoding : Encoding) → row_in index number ≡ Ok row
+    → LiesInside pack.contents row → encoding_in pack.order (own_place object row)
+    (own_bytes pack.contents object row) ≡ Ok encoding → unit_at_row pack object index number count
+    ≡ Ok (Some (unit_of pack object number row encoding), count)
 unfolding unit_at_row unit_in
 at_row pack object index number count row encoding there inside read =
     rw (there, none_outside pack.contents row inside, read) refl
 
-gives : (pack : Package) (object : DwarfObject) (unit : Option FoundUnit) (count most : ℕ)
-    → count ≤ most → found_counted pack object ≡ Ok (unit, count)
-    → GivesWithin pack object unit most
+gives : (pack : Package) (object : DwarfObject) (unit : Option FoundUnit) (count most : ℕ) → count
+    ≤ most → found_counted pack object ≡ Ok (unit, count) → GivesWithin pack object unit most
 unfolding found
-gives pack object unit count most few e = record {
-  count = count;
-  few = few;
-  counted = e;
-  uncounted = rw e refl;
-}
+gives pack object unit count most few e =
+    record { count = count; few = few; counted = e; uncounted = rw e refl }
 
 pub present_unit : (pack : Package) (object : DwarfObject) (ids : List ℕ) (index : Index) (r : ℕ)
     (row : Ranges) (encoding : Encoding) → HasIndex pack object ids index
@@ -65,9 +59,8 @@ present_unit pack object ids index r row encoding has unit =
     (rw (has.index_is, exact.present_row r unit.within unit.named)
     (at_row pack object index (r + 1) _ row encoding unit.row_is unit.inside unit.header))
 
-pub absent_unit : (pack : Package) (object : DwarfObject) (ids : List ℕ) (index : Index)
-    → HasIndex pack object ids index → IsNotNamed object ids
-    → GivesWithin pack object None (length ids + 1)
+pub absent_unit : (pack : Package) (object : DwarfObject) (ids : List ℕ) (index : Index) → HasIndex
+    pack object ids index → IsNotNamed object ids → GivesWithin pack object None (length ids + 1)
 unfolding found_counted
 absent_unit pack object ids index has absent =
     let exact = finds_exactly ids index.signatures index.rows (identifier_of object) has.slots in
@@ -81,10 +74,9 @@ no_index pack object e = gives pack object None 0 0 (omega arith) (rw e refl)
 
 -- ---- the parts
 pub row_bytes-part : (contents : Sections) (row : Ranges) (kind : SectionKind)
-    (range : Contribution) → range_in row kind ≡ Some range → range.offset.0 + range.size ≤ length
-    (content contents kind)
-    → row_bytes contents row kind ≡ slice_range (content contents kind) range.offset.0
-    (range.offset.0 + range.size)
+    (range : Contribution) → range_in row kind ≡ Some range
+    → range.offset.0 + range.size ≤ length (content contents kind) → row_bytes contents row kind
+    ≡ slice_range (content contents kind) range.offset.0 (range.offset.0 + range.size)
 unfolding row_bytes
 row_bytes-part contents row kind range e inside =
     rw (e, le-leb (range.offset.0 + range.size) (length (content contents kind)) inside) refl
@@ -97,29 +89,25 @@ row_bytes-absent contents row kind e = rw e refl
 module _ (pack : Package) (object : DwarfObject) where
   -- a range outside is told by both
   ranged : (number count : ℕ) (row : Ranges) (outside : Option SectionKind)
-      → first_outside pack.contents row ≡ outside
-      → (unit_in pack object number row >>= λ unit. Ok (Some unit, count))
-      ≡ (row_inside pack number count row >>= unit_of_row pack object)
+      → first_outside pack.contents row ≡ outside → (unit_in pack object number row >>= λ unit. Ok
+      (Some unit, count)) ≡ (row_inside pack number count row >>= unit_of_row pack object)
   unfolding unit_in
   ranged number count row None e = sym (ap (λ (o : Option SectionKind).
       (all_inside o >>= λ inside. Ok (Some (number, row), count)) >>= unit_of_row pack object) e)
   ranged number count row (Some kind) e = rw e refl
 
-  numbered : (index : Index) (number : Option ℕ) (count : ℕ)
-      → unit_found pack object index number count
-      ≡ (row_found pack index number count >>= unit_of_row pack object)
+  numbered : (index : Index) (number : Option ℕ) (count : ℕ) → unit_found pack
+      object index number count ≡ (row_found pack index number count >>= unit_of_row pack object)
   unfolding unit_at_row
   numbered index None count = refl
-  numbered index (Some number) count = by-result _ (row_in index number)
-      (λ row e. rw e (ranged number count row (first_outside pack.contents row) refl))
-      (λ cause e. rw e refl)
+  numbered index (Some number) count = by-result _ (row_in index number) (λ row e. rw e
+      (ranged number count row (first_outside pack.contents row) refl)) (λ cause e. rw e refl)
 
   indexed : (index : Option Index)
       → found_by pack object index ≡ (row_by pack object index >>= unit_of_row pack object)
   indexed None = refl
-  indexed (Some index) = numbered index
-      (found_row index.signatures index.rows (identifier_of object))
-      (look_count index.signatures index.rows (identifier_of object))
+  indexed (Some index) = numbered index (found_row index.signatures index.rows
+      (identifier_of object)) (look_count index.signatures index.rows (identifier_of object))
 
 pub by_row : (pack : Package) (object : DwarfObject)
     → found_counted pack object ≡ found_by_row pack object

@@ -72,9 +72,8 @@ offset_front Dwarf64 = eight
 module _ {order : Endianness} where
   -- some bytes, of which a value is read
   takes : {A : Type 0} (n : ℕ) (value : Input → A) → ((p q k : ℕ) (bytes : List ℕ) → n ≤ k
-      → value (plain order q (take k bytes)) ≡ value (plain order p bytes))
-      → Alone order (λ i. cond (ltb (length i.bytes) n) (Err UnexpectedEof)
-      (Ok (value i, after n i)))
+      → value (plain order q (take k bytes)) ≡ value (plain order p bytes)) → Alone order
+      (λ i. cond (ltb (length i.bytes) n) (Err UnexpectedEof) (Ok (value i, after n i)))
   takes n value same = record {
     at = λ p q bytes. test_gives (ltb (length bytes) n) (λ _. error_gives)
         (λ some. let fits : n ≤ length bytes = ltb-false _ _ some in value_gives (record {
@@ -120,14 +119,12 @@ module _ {order : Endianness} where
 
   -- a reading, and what goes on from it
   then : {A B C : Type 0} {view : C → B × Input} {read : Reading (A × Input)}
-      (f g : A × Input → Result C ReadError) → Alone order read
-      → ((a : A) → Again order view (λ i. f (a, i)) (λ i. g (a, i)))
-      → Again order view (λ i. read i >>= f) (λ i. read i >>= g)
+      (f g : A × Input → Result C ReadError) → Alone order read → ((a : A) → Again order view
+      (λ i. f (a, i)) (λ i. g (a, i))) → Again order view (λ i. read i >>= f) (λ i. read i >>= g)
   then {C = C} {view = view} {read = read} f g first second = record {
     at = λ p q bytes. then_gives (first.at p q bytes) (λ a one.
-        let m = one.taken in
-        subst (λ (i : Input). Gives C (f (a.0, i)) (IsAgain order view (λ j. read j >>= g) p q
-        bytes)) (sym one.left)
+        let m = one.taken in subst (λ (i : Input). Gives C
+        (f (a.0, i)) (IsAgain order view (λ j. read j >>= g) p q bytes)) (sym one.left)
         (more_gives ((second a.0).at (p + m) (q + m) (drop m bytes)) (λ x two. record {
           taken = m + two.taken;
           fits = omega (arith, one.fits, two.fits, length-drop m bytes);
@@ -200,8 +197,7 @@ module _ {order : Endianness} where
         (older_at place format version other)
     unfolding older_at
     older_again version = then _ _ (offset_alone format) (λ offset. then _ _ address_size_alone
-        (λ size. then _ _ (older_type_alone place format)
-        (λ t. value _ (λ i. refl) (λ i. refl))))
+        (λ size. then _ _ (older_type_alone place format) (λ t. value _ (λ i. refl) (λ i. refl))))
 
     newer_again : Again order header_view (newer_at format whole) (newer_at format other)
     unfolding newer_at
@@ -234,8 +230,7 @@ unit_alone order place p bytes = then_gives (length_alone.at p 0 bytes) (λ len 
     let size : k ≡ m + n = omega arith in
     let length' = first.again (m + n) (omega arith) in
     let place' : 0 + m + n - 0 ≡ m + n = omega arith in
-    let head' = head.again n (omega (arith, head.fits)) in
-    rw (
+    let head' = head.again n (omega (arith, head.fits)) in rw (
       size,
       length'.1,
       length'.2,
@@ -269,8 +264,7 @@ module _ (order : Endianness) (place : UnitSection) (u : Unit) where
   within_at (suc n) p bytes k given =
       let i = plain order p bytes in
       let l = listed_at (unit_at place i) (units_within n place) (eqb (length bytes) 0) k u given in
-      let t = unit_taken place i l.0.1 l.0.0 l.1 in
-      elim l.2 [
+      let t = unit_taken place i l.0.1 l.0.0 l.1 in elim l.2 [
         | inl same ↦ (p, bytes, l.0.1, l.1 ∙ ap (λ (v : Unit). Ok (v, l.0.1)) same)
         | inr later ↦ within_at n (p + t.0.taken) (drop t.0.taken bytes) (k - 1)
             (rw t.0.is at later)

@@ -80,14 +80,12 @@ slot-within rows k some = grind (arith, get_or_past rows k 0)
 
 rows_have_each : (ids rows : List ℕ) → IsHashTable ids rows → HasEach (length ids) rows
 rows_have_each ids rows table = record {
-  each = λ r h.
-      let at = table.placed r h in
-      let slot = place (length rows) (get_or ids r 0) at.0 in
-      let row : get_or rows slot 0 ≡ suc r = omega (arith, at.1.here) in
-      (slot, slot-within rows slot (omega (arith, row)), row);
+  each = λ r h. let at = table.placed r h in
+      let slot = place (length rows) (get_or ids r 0) at.0 in let row : get_or rows slot 0
+      ≡ suc r = omega (arith, at.1.here) in (slot, slot-within rows slot (omega (arith, row)), row);
   most = table.only;
-  once = λ k l some same. table.once k l (slot-within rows k some)
-      (slot-within rows l (omega (arith, some, same))) some same;
+  once = λ k l some same. table.once k l
+      (slot-within rows k some) (slot-within rows l (omega (arith, some, same))) some same;
 }
 
 used-map : (ids rows : List ℕ)
@@ -117,8 +115,7 @@ numbered-from : (before ids : List ℕ) (r : ℕ) → r ≡ suc (length before) 
 numbered-from before [] r e = refl
 numbered-from before (x ∷ ids) r e =
     let longer : r + 1 ≡ suc (length (before ++ x ∷ [])) =
-    omega (arith, length-append before (x ∷ [])) in
-    rw (
+    omega (arith, length-append before (x ∷ [])) in rw (
       numbered-from (before ++ x ∷ []) ids (r + 1) longer,
       append_assoc,
       ← named-at before ids x r e,
@@ -126,10 +123,9 @@ numbered-from before (x ∷ ids) r e =
 
 pub slots_once : (ids : List ℕ) (index : Index) → IsIndex ids index.signatures index.rows
     → IsPermutation (numbered 1 ids) (used_in index 0)
-slots_once ids index is =
-    rw (numbered-from [] ids 1 (omega arith), used-named ids index is)
-    (IsPermutation-map (named ids) _ _ (each_once (length ids) index.rows
-    (rows_have_each ids index.rows is.table)))
+slots_once ids index is = rw
+    (numbered-from [] ids 1 (omega arith), used-named ids index is) (IsPermutation-map
+    (named ids) _ _ (each_once (length ids) index.rows (rows_have_each ids index.rows is.table)))
 
 used_once : (index : Option Index) (ids : List ℕ) → IsIndexOfIds index ids
     → IsPermutation (numbered 1 ids) (used_from index 0)
@@ -139,7 +135,6 @@ used_once (Some index) ids is = slots_once ids index is
 pub entries_once : (compilations types : Option Index) (ids signatures : List ℕ)
     → IsIndexOfIds compilations ids → IsIndexOfIds types signatures
     → IsPermutation (entries_of ids signatures) (entries_from compilations types 0 0)
-entries_once compilations types ids signatures c t =
-    IsPermutation-append _ _ _ _
+entries_once compilations types ids signatures c t = IsPermutation-append _ _ _ _
     (IsPermutation-map compilation_entry _ _ (used_once compilations ids c))
     (IsPermutation-map type_entry _ _ (used_once types signatures t))

@@ -14,8 +14,7 @@ pub slots-length : (u : Inside) (v : Index) → index_in u ≡ v → length v.ro
 slots-length u v e = rw (← e) (length-numbers u.order 4 u.slot_count u.rows.now)
 
 pub units-length : (u : Inside) (v : Index) → index_in u ≡ v → length v.offsets ≡ u.unit_count
-units-length u v e =
-    rw (← e) (length-number_rows u.order u.column_count u.unit_count u.offsets.now)
+units-length u v e = rw (← e) (length-number_rows u.order u.column_count u.unit_count u.offsets.now)
 
 -- a row's range, by the place of the section's column
 pub range-by : (row : Ranges) (kind : SectionKind) (place : Option ℕ)
@@ -64,9 +63,8 @@ module _ (signatures rows : List ℕ) (x : ℕ) where
     end-on used other = end-by false
         (rw (ne_eqb (get_or rows at 0) 0 used, ne_eqb (get_or signatures at 0) x other) refl)
 
-    pub ended : (get_or rows at 0 ≡ 0) ⊎ (get_or signatures at 0 ≡ x)
-        → (found_row signatures rows x ≡ row_of (get_or rows at 0))
-        × (look_count signatures rows x ≡ i + 1)
+    pub ended : (get_or rows at 0 ≡ 0) ⊎ (get_or signatures at 0 ≡ x) → (found_row signatures rows x
+        ≡ row_of (get_or rows at 0)) × (look_count signatures rows x ≡ i + 1)
     unfolding found_row look_count
     ended ends =
         let end = end-by true

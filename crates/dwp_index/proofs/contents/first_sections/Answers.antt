@@ -7,8 +7,7 @@ use Rattle.dwp_index.proofs.contents.first_sections.Goals as goal
 
 pub loop-i-preserved : goal.loop-i-preserved
 loop-i-preserved c kind =
-    let xs = (elf c.args.file.now).sections in
-    elim c.match-section.branch [
+    let xs = (elf c.args.file.now).sections in elim c.match-section.branch [
       | in-Some w ↦
           let at = sym c.section.ensures.found ∙ ap (option_map section) w.in-Some.is in
           rw (w.firsts-is, w.meet.ensures kind) (met-next kind xs c.loop-i.i w.in-Some.next

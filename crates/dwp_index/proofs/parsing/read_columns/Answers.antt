@@ -19,9 +19,8 @@ pub returns-in_default-clause-exact : goal.returns-in_default-clause-exact
 returns-in_default-clause-exact c =
     let none = ap (λ n. is_none (kind_of_column c.args.version n))
     (sym c.read_u32_at-number.ensures) ∙ ap is_none (sym c.kind_of_column.ensures) ∙ ap is_none
-    c.in_default.is in
-    sym c.loop-i.invariant.so_far ∙ further c.args.order c.args.version c.args.bytes.now
-    c.args.count c.loop-i.i c.loop-i-test.true (omega arith) true _ none refl
+    c.in_default.is in sym c.loop-i.invariant.so_far ∙ further c.args.order c.args.version
+    c.args.bytes.now c.args.count c.loop-i.i c.loop-i-test.true (omega arith) true _ none refl
 
 pub returns-then-get-clause-exact : goal.returns-then-get-clause-exact
 returns-then-get-clause-exact c =

@@ -24,8 +24,7 @@ pub returns-then-size-eq0 : goal.returns-then-size-eq0
 returns-then-size-eq0 c =
     let inside = c.self.inside in
     let says = says_some _ _ _ _ (c.self.invariant.places c.args.kind)
-    (sym (c.get-place.ensures.value NO_COLUMN)) c.if-place.false in
-    rw (
+    (sym (c.get-place.ensures.value NO_COLUMN)) c.if-place.false in rw (
       ← c.self.view_is,
       range-by (ranges_in inside) c.args.kind _ says.0,
       get_or-numbers inside.order 4 inside.column_count inside.sizes.now c.get-place.result 0
@@ -40,8 +39,7 @@ returns c =
     let says = says_some _ _ _ _ (c.self.invariant.places c.args.kind)
     (sym (c.get-place.ensures.value NO_COLUMN)) c.if-place.false in
     let number = λ (bytes : List ℕ). get_or-numbers inside.order 4 inside.column_count bytes
-    c.get-place.result 0 says.1 in
-    rw (
+    c.get-place.result 0 says.1 in rw (
       ← c.self.view_is,
       range-by (ranges_in inside) c.args.kind _ says.0,
       number inside.offsets.now,

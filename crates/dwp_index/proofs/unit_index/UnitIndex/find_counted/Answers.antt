@@ -5,9 +5,8 @@ use Rattle.dwp_index.proofs.Views.{end-on, end-start, ended, row_of-used, slots-
 use Rattle.dwp_index.proofs.unit_index.UnitIndex.find_counted.Goals as goal
 
 -- what the row and the count of a look-up say in a table of distinct identifiers
-told : (signatures rows : List ℕ) (x : ℕ) (row : Option ℕ) (count : ℕ)
-    → row ≡ found_row signatures rows x → count ≡ look_count signatures rows x
-    → (count ≤ length rows)
+told : (signatures rows : List ℕ) (x : ℕ) (row : Option ℕ) (count : ℕ) → row
+    ≡ found_row signatures rows x → count ≡ look_count signatures rows x → (count ≤ length rows)
     × ((ids : List ℕ) → IsIndex ids signatures rows → FindsExactly ids x row count)
     × ((ids : List ℕ) → IsIndex ids signatures rows → count ≤ length ids + 1)
 told signatures rows x row count row_is count_is = rw (row_is, count_is) (
