@@ -7,8 +7,7 @@ pub returns-then-eq-clause-there : goal.returns-then-eq-clause-there
 returns-then-eq-clause-there c =
     let same : c.index.result.now ≡ c.args.entry.now = grind (arith, c.if-eq.ensures) in
     slice_get-get_or c.args.entries.now.items (c.len-count.result - 1) c.index.result.now
-    (omega (arith, c.len-count.ensures, c.if-count-gt0.true))
-    ∙ ap Some (sym c.index.ensures ∙ same)
+    (omega (arith, c.len-count.ensures, c.if-count-gt0.true)) ∙ ap Some (sym c.index.ensures ∙ same)
 
 pub returns-clause-there : goal.returns-clause-there
 returns-clause-there c =
