@@ -38,16 +38,13 @@ module _ {X : Type 0} (t : X → Bool) (f : ℕ → X) where
   finds : (a n end : ℕ) → a + n ≡ end
       → IsFound a end (position_from t a (map f (range_with_len a n)))
   finds a zero end e = λ j from below. absurd (omega arith)
-  finds a (suc n) end e = by-bool _ (t (f a))
-      (λ passes. rw passes (record {
-        low = omega arith;
-        high = omega arith;
-        here = passes;
-        before = λ j from below. absurd (omega arith);
-      }))
-      (λ fails. let others = finds (a + 1) n end (omega arith) in
-      rw fails (one_fails a end (position_from t (a + 1) (map f (range_with_len (a + 1) n))) fails
-      others))
+  finds a (suc n) end e = by-bool _ (t (f a)) (λ passes. rw passes (record {
+    low = omega arith;
+    high = omega arith;
+    here = passes;
+    before = λ j from below. absurd (omega arith);
+  })) (λ fails. let others = finds (a + 1) n end (omega arith) in rw fails
+      (one_fails a end (position_from t (a + 1) (map f (range_with_len (a + 1) n))) fails others))
 
 -- ---- a row's range
 pub range_is : (range : Contribution) (found : Option Contribution) → is_range range found ≡ true
@@ -95,10 +92,8 @@ module _ (index : Index) (kind : SectionKind) (range : Contribution) where
         has = row.2;
         low = first.low;
         high = omega (arith, first.high);
-        first = λ lower other below there has.
-            let passes = has_range lower other there has in
-            let fails = first.before lower (numbered index lower other there).0 below in
-            cc;
+        first = λ lower other below there has. let passes = has_range lower other there has in
+            let fails = first.before lower (numbered index lower other there).0 below in cc;
       }
 
   pub first_row : (number : ℕ) → row_by_place (Some index) kind range ≡ Some number
@@ -113,8 +108,7 @@ module _ (index : Index) (kind : SectionKind) (range : Contribution) where
       let within = numbered index number row there in
       let passes = has_range number row there has in
       let nowhere = rw none at rows in
-      let fails = nowhere number within.0 (omega (arith, within.1)) in
-      cc
+      let fails = nowhere number within.0 (omega (arith, within.1)) in cc
 
   pub first_found : (number : ℕ) → IsFirstWith index kind range number
       → row_by_place (Some index) kind range ≡ Some number

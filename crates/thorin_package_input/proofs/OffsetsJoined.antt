@@ -14,9 +14,8 @@ use Rattle.thorin_strings.specs.StringOffsets.{named_at, offset_at}
 use Rattle.thorin_strings.proofs.NamedEntries.{as_error_ok}
 
 -- a number in front doesn't depend on what follows it
-pub number_front : (order : Endianness) (format : Format) (xs ys : List ℕ)
-    → offset_size format ≤ length
-    xs → number order (offset_size format) (xs ++ ys) ≡ number order (offset_size format) xs
+pub number_front : (order : Endianness) (format : Format) (xs ys : List ℕ) → offset_size format ≤
+    length xs → number order (offset_size format) (xs ++ ys) ≡ number order (offset_size format) xs
 number_front order format xs ys within = grind (arith, get_or_append_left)
 
 pub no_header : (encoding : Encoding) → encoding.version < 5 → header_size encoding ≡ 0
@@ -55,8 +54,7 @@ module _ (order : Endianness) (encoding : Encoding) (first second : List ℕ) (n
   entry_before i less =
       let room : i * width + width ≤ n * width = row_fits i width n width less (omega arith) in
       let at : header_size encoding + i * width + width ≤ length first =
-      omega (arith, header, long) in
-      rw (
+      omega (arith, header, long) in rw (
         lt-ltb i (entry_count encoding (length (first ++ second))) (omega (arith, count_all)),
         lt-ltb i (entry_count encoding (length first)) (omega (arith, count_first)),
         drop-append-le (header_size encoding + i * width) first second (omega arith),
@@ -74,12 +72,10 @@ module _ (order : Endianness) (encoding : Encoding) (first second : List ℕ) (n
       let at : header_size encoding + i * width ≡ n * width + (header_size encoding + later *
       width) = omega (arith, header, ap (λ m. m * width) is, add-mul n later width) in
       let same : ltb i (entry_count encoding (length (first ++ second))) ≡ ltb later
-      (entry_count encoding (length second)) = grind (arith, nat_tests, count_all) in
-      rw (
+      (entry_count encoding (length second)) = grind (arith, nat_tests, count_all) in rw (
         same,
         at,
-        ← drop-drop (header_size encoding + later * width) (n * width)
-            (first ++ second),
+        ← drop-drop (header_size encoding + later * width) (n * width) (first ++ second),
         drop_at first second (n * width) long,
       ) refl
 
@@ -90,9 +86,8 @@ module _ (order : Endianness) (encoding : Encoding) (first second : List ℕ) (n
   joined_read strings i = grind (arith, nat_tests, entry_before i, entry_behind i)
 
 -- ---- a rewritten range of string offsets reads as it read before
-offset_is : (order : Endianness) (format : Format) (bytes : List ℕ) (at offset : ℕ)
-    → offset_at order format bytes at ≡ Ok offset → number order (offset_size format)
-    (drop at bytes) ≡ offset
+offset_is : (order : Endianness) (format : Format) (bytes : List ℕ) (at offset : ℕ) → offset_at
+    order format bytes at ≡ Ok offset → number order (offset_size format) (drop at bytes) ≡ offset
 unfolding offset_at
 offset_is order format bytes at offset h = (guard-ok _ _ _ _ h).1
 
@@ -102,8 +97,7 @@ named_read : (order : Endianness) (encoding : Encoding) (section bytes : List �
     bytes i ≡ Ok string → string_in order encoding section bytes i ≡ Ok (Some string)
 unfolding string_in entry_in named_at
 named_read order encoding section bytes i string less h =
-    let offset = bind-was _ _ string h in
-    grind (
+    let offset = bind-was _ _ string h in grind (
       arith,
       nat_tests,
       offset_is order encoding.format bytes _ offset.0 (as_error_ok _ _ offset.0 offset.1),
@@ -122,14 +116,12 @@ pub strings_again : (order : Endianness) (encoding : Encoding) (section bytes : 
     → take (length after) final ≡ after → (i : ℕ) → ReadsAlike order encoding section bytes
     (data_of final) rewritten i
 strings_again order encoding section bytes before rewritten after final names final_table kept i =
-    ⊎_elim
-    (λ less.
+    ⊎_elim (λ less.
     let one = names.named i less in
     let old = named_read order encoding section bytes i one.string less one.old in
     let new = named_read order encoding (data_of final) rewritten i one.string
     (omega (arith, names.count)) (one.new final final_table kept) in
-    record { readable = rw old refl; same = new ∙ sym old })
-    (λ past.
+    record { readable = rw old refl; same = new ∙ sym old }) (λ past.
     let old = past_read order encoding section bytes i past in
     let new = past_read order encoding (data_of final) rewritten i (omega (arith, names.count)) in
     record { readable = rw old refl; same = new ∙ sym old })

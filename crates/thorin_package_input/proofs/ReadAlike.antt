@@ -19,9 +19,8 @@ use Rattle.thorin_package_input.proofs.RowRanges.{compilation_there, IsIn, type_
 -- ---- parts of lists
 slice_front : (front range rest : List ℕ) (a b : ℕ) → length front ≡ a → length range ≡ b - a
     → slice_range (front ++ range ++ rest) a b ≡ range
-slice_front front range rest a b front_is range_is =
-    rw (append_assoc, drop_at front (range ++ rest) a front_is)
-    (take_at range rest (b - a) range_is)
+slice_front front range rest a b front_is range_is = rw
+    (append_assoc, drop_at front (range ++ rest) a front_is) (take_at range rest (b - a) range_is)
 
 slice_length : (bytes : List ℕ) (a b : ℕ) → a ≤ b → b ≤ length bytes
     → length (slice_range bytes a b) ≡ b - a
@@ -66,19 +65,15 @@ module _ (order : Endianness) (encoding : Encoding) (section bytes : List ℕ) w
   same_size : (last : ℕ) (r : Contribution) (rs : List Contribution) (old new : List (List ℕ))
       (rewritten : List ℕ) → IsNext encoding (length bytes) last r rs → NamesTheSame order encoding
       section (range_bytes bytes r) r.size old rewritten new → length rewritten ≡ r.size
-  same_size last r rs old new rewritten next named =
-      ⊎_elim
-      (λ (none : r.size ≡ 0). ap length (named.none none) ∙ sym none)
-      (λ some. let parts = div-add-mod (r.size - header_size encoding) (offset_size encoding.format)
-      in omega (arith, named.long some, parts))
-      (cases_eq r.size 0)
+  same_size last r rs old new rewritten next named = ⊎_elim (λ (none : r.size ≡ 0). ap length
+      (named.none none) ∙ sym none) (λ some. let parts = div-add-mod (r.size - header_size encoding)
+      (offset_size encoding.format) in omega (arith, named.long some, parts)) (cases_eq r.size 0)
 
   module _ (at : ℕ) (x : Contribution) (xs : List Contribution) (before between : List (List ℕ))
       (range rest : List ℕ) (after : List (List ℕ))
       (next : IsNext encoding (length bytes) at x xs) (table : IsTable before)
       (ok : remapped order encoding section (range_bytes bytes x) x.size before ≡ Ok
-      (range, between))
-      (behind : AreWritten (x.offset.0 + x.size) xs between rest after) where
+      (range, between)) (behind : AreWritten (x.offset.0 + x.size) xs between rest after) where
     abbrev gap : List ℕ
     gap = slice_range bytes at x.offset.0
 
@@ -107,8 +102,7 @@ module _ (order : Endianness) (encoding : Encoding) (section bytes : List ℕ) w
           let regrouped : front ++ ((gap ++ range) ++ rest) ≡ ((front ++ gap) ++ range) ++ rest =
           simp append_assoc in
           rw regrouped (slice_front (front ++ gap) range rest x.offset.0 (x.offset.0 + x.size)
-          (omega (arith, length-append {A = ℕ}, gap_length))
-          (omega (arith, range_length)));
+          (omega (arith, length-append {A = ℕ}, gap_length)) (omega (arith, range_length)));
     }
 
     later_written : (r : Contribution) → IsWritten (x.offset.0 + x.size) rest after r

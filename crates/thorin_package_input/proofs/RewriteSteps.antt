@@ -19,11 +19,9 @@ pub record IsNext (encoding : Encoding) (size last : ℕ) (r : Contribution)
   pub others : ranges_test encoding size (r.offset.0 + r.size) rs ≡ Ok tt
 
 tests_passed : (a b c d e f g : ℕ) (bad overlapping : ErrorValue) (rest : Result (Unit {0})
-    ErrorValue) → cond (not (leb a b && leb c d && eqb e 0)) (Err bad)
-    (cond (ltb f g) (Err overlapping) rest) ≡ Ok tt
-    → (a ≤ b) × (c ≤ d) × (e ≡ 0) × (g ≤ f) × (rest ≡ Ok tt)
-tests_passed a b c d e f g bad overlapping rest passed =
-    grind (arith, nat_tests)
+    ErrorValue) → cond (not (leb a b && leb c d && eqb e 0)) (Err bad) (cond (ltb f g)
+    (Err overlapping) rest) ≡ Ok tt → (a ≤ b) × (c ≤ d) × (e ≡ 0) × (g ≤ f) × (rest ≡ Ok tt)
+tests_passed a b c d e f g bad overlapping rest passed = grind (arith, nat_tests)
 
 pub next_passed : (encoding : Encoding) (size last : ℕ) (r : Contribution) (rs : List Contribution)
     → ranges_test encoding size last (r ∷ rs) ≡ Ok tt → IsNext encoding size last r rs
@@ -32,8 +30,7 @@ next_passed encoding size last r rs h =
     let whole = (r.size - header_size encoding) % offset_size encoding.format in
     let parts = tests_passed (r.offset.0 + r.size) size (header_size encoding) r.size whole
     r.offset.0 last (BadStringOffsets r.offset.0) (OverlappingStringOffsets r.offset.0)
-    (ranges_test encoding size (r.offset.0 + r.size) rs) h in
-    assumption
+    (ranges_test encoding size (r.offset.0 + r.size) rs) h in assumption
 
 -- ---- what was written, in front of what is to come
 abbrev Rewriting : Type 0
@@ -63,9 +60,8 @@ module _ {order : Endianness} {encoding : Encoding} {section bytes : List ℕ}
     -- at the end
     pub all_written : length ranges ≤ n → whole ≡ Ok (out ++ drop at bytes, strings)
     unfolding rewritten_from
-    all_written past =
-        sym so_far.all ∙ at_drop_all (λ rs. onto out (rewritten_from order encoding section bytes at
-        rs strings)) ranges n past
+    all_written past = sym so_far.all ∙ at_drop_all
+        (λ rs. onto out (rewritten_from order encoding section bytes at rs strings)) ranges n past
 
     -- one more
     module _ (d : Contribution) (less : n < length ranges) where
@@ -73,9 +69,8 @@ module _ {order : Endianness} {encoding : Encoding} {section bytes : List ℕ}
       r = get_or ranges n d
 
       pub next : IsNext encoding (length bytes) at r (drop (n + 1) ranges)
-      next = next_passed encoding (length bytes) at r (drop (n + 1) ranges)
-          (sym (at_drop_more (ranges_test encoding (length bytes) at) ranges n d less)
-          ∙ so_far.passed)
+      next = next_passed encoding (length bytes) at r (drop (n + 1) ranges) (sym
+          (at_drop_more (ranges_test encoding (length bytes) at) ranges n d less) ∙ so_far.passed)
 
       abbrev range_of_next : Rewriting
       range_of_next = remapped order encoding section (slice_range bytes r.offset.0

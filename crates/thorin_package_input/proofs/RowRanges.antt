@@ -33,8 +33,7 @@ rows_there : (rows : List (Option Contribution)) (ranges : List Contribution) (r
 rows_there [] ranges r k at = absurd cc
 rows_there (row ∷ rows) ranges r zero at =
     let there = rows_still rows (insert_key place_cmp ranges r) r
-    (inserted ranges r r (inl refl)) in
-    grind (arith, there)
+    (inserted ranges r r (inl refl)) in grind (arith, there)
 rows_there (row ∷ rows) ranges r (suc k) at = grind (arith, rows_there rows)
 
 -- ---- of both indexes
@@ -57,9 +56,8 @@ module _ (index : Index) (number : ℕ) (row : Ranges) (r : Contribution) (there
     ≡ Ok row) (has : range_in row StrOffsets ≡ Some r) where
   pub compilation_there : (types : Option Index) → IsIn r (offset_ranges (Some index) types)
   unfolding offset_ranges
-  compilation_there types = index_still types (with_rows (Some index) []) r
-      (rows_there (ranges_of index StrOffsets) [] r (number - 1)
-      (row_at index number row r there has))
+  compilation_there types = index_still types (with_rows (Some index) []) r (rows_there
+      (ranges_of index StrOffsets) [] r (number - 1) (row_at index number row r there has))
 
   pub type_there : (compilations : Option Index) → IsIn r (offset_ranges compilations (Some index))
   unfolding offset_ranges

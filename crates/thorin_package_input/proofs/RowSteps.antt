@@ -11,15 +11,13 @@ use Rattle.std.proofs.lemmas.List.FromFn.{length-map-range_with_len, get_or-map-
 use Rattle.thorin_package_input.specs.RowPlaceFields.{pair_cmp}
 
 -- ---- the ranges from a row on
-pub ranges_from : (index : Index) (kind : SectionKind) (n : ℕ) → n < length index.offsets
-    → drop n (ranges_of index kind) ≡ range_of_row index kind (n + 1) ∷ drop (n + 1)
-    (ranges_of index kind)
+pub ranges_from : (index : Index) (kind : SectionKind) (n : ℕ) → n < length index.offsets → drop n
+    (ranges_of index kind) ≡ range_of_row index kind (n + 1) ∷ drop (n + 1) (ranges_of index kind)
 unfolding ranges_of
 ranges_from index kind n less =
     let f = range_of_row index kind in
-    let count = length index.offsets in
-    drop_more (map f (range_with_len 1 count)) n None
-    (omega (arith, length-map-range_with_len f 1 count))
+    let count = length index.offsets in drop_more
+    (map f (range_with_len 1 count)) n None (omega (arith, length-map-range_with_len f 1 count))
     ∙ rw (get_or-map-range_with_len f 1 count n (n + 1) None less (omega arith)) refl
 
 pub ranges_none : (index : Index) (kind : SectionKind) (n : ℕ) → length index.offsets ≤ n
@@ -30,8 +28,7 @@ ranges_none index kind n past =
     drop_all n _ (omega (arith, count))
 
 -- ---- keys of place and size
-same_key : (a b c d : ℕ) → is_eq (ordering_then (nat_cmp a b) (nat_cmp c d)) ≡
-    (eqb a b && eqb c d)
+same_key : (a b c d : ℕ) → is_eq (ordering_then (nat_cmp a b) (nat_cmp c d)) ≡ (eqb a b && eqb c d)
 same_key a b c d = grind (arith, nat_tests)
 
 pub key_test : (r range : Contribution) → is_at (pair_cmp (r.offset.0, r.size))
@@ -46,22 +43,19 @@ pub record HasFrom (rows : BTreeMap (ℕ × ℕ) ℕ) (index : Index) (kind : Se
 
 pub from_end : (rows : BTreeMap (ℕ × ℕ) ℕ) (index : Index) (kind : SectionKind) (n : ℕ)
     → rows.entries ≡ [] → length index.offsets ≤ n → HasFrom rows index kind n
-from_end rows index kind n empty past = record {
-  each = λ range. rw (empty, ranges_none index kind n past) refl;
-}
+from_end rows index kind n empty past =
+    record { each = λ range. rw (empty, ranges_none index kind n past) refl }
 
 -- the row before
-module _ (index : Index) (kind : SectionKind) (number : ℕ) (some : 0 < number)
-    (within : number ≤ length index.offsets) (rows : BTreeMap (ℕ × ℕ) ℕ)
-    (has : HasFrom rows index kind number) where
+module _ (index : Index) (kind : SectionKind) (number : ℕ) (some : 0 < number) (within : number
+    ≤ length index.offsets) (rows : BTreeMap (ℕ × ℕ) ℕ) (has : HasFrom rows index kind number) where
   abbrev n : ℕ
   n = number - 1
 
   each_before : (range : Contribution) → get pair_cmp rows (range.offset.0, range.size)
       ≡ position_from (is_range range) (n + 1 + 1) (drop (n + 1) (ranges_of index kind))
   each_before range =
-      let same : n + 1 ≡ number = omega arith in
-      rw same (has.each range)
+      let same : n + 1 ≡ number = omega arith in rw same (has.each range)
 
   pub from_absent : range_of_row index kind (n + 1) ≡ None → HasFrom rows index kind n
   from_absent absent = record {
@@ -72,15 +66,13 @@ module _ (index : Index) (kind : SectionKind) (number : ℕ) (some : 0 < number)
       → range_of_row index kind (n + 1) ≡ Some r
       → Updates pair_cmp rows new (r.offset.0, r.size) (Some (n + 1)) → HasFrom new index kind n
   from_range new r there updates = record {
-    each = λ range. updates.0 (range.offset.0, range.size)
-        ∙ rw (ranges_from index kind n (omega arith), there, key_test r range, each_before range)
-        refl;
+    each = λ range. updates.0 (range.offset.0, range.size) ∙ rw
+        (ranges_from index kind n (omega arith), there, key_test r range, each_before range) refl;
   }
 
 -- ---- ranges as keys
-pub map-insert_key : (keys : List (ℕ × ℕ)) (key : ℕ × ℕ)
-    → map range_at (insert_key pair_cmp keys key) ≡ insert_key place_cmp
-    (map range_at keys) (range_at key)
+pub map-insert_key : (keys : List (ℕ × ℕ)) (key : ℕ × ℕ) → map range_at
+    (insert_key pair_cmp keys key) ≡ insert_key place_cmp (map range_at keys) (range_at key)
 map-insert_key [] key = refl
 map-insert_key (x ∷ xs) key = grind (arith, map-insert_key xs key)
 

@@ -32,9 +32,8 @@ slice_bounds-one-end c =
 pub returns-in_err-bytes-clause-meaning : goal.returns-in_err-bytes-clause-meaning
 returns-in_err-bytes-clause-meaning c =
     let p = err_from_is_err_and c.from_residual-in_err-bytes.result
-    c.from_residual-in_err-bytes.ensures.1 in
-    rw (p.1, p.2) (λ other. one_refused c.loop-range.invariant.so_far _ c.loop-range-test.true _
-    (c.in_err-bytes.ensures.meaning other))
+    c.from_residual-in_err-bytes.ensures.1 in rw (p.1, p.2) (λ other. one_refused
+    c.loop-range.invariant.so_far _ c.loop-range-test.true _ (c.in_err-bytes.ensures.meaning other))
 
 pub loop-range-preserved : goal.loop-range-preserved
 loop-range-preserved c = record {
@@ -46,9 +45,7 @@ loop-range-preserved c = record {
 }
 
 pub returns-clause-meaning : goal.returns-clause-meaning
-returns-clause-meaning c =
-    all_written c.loop-range.invariant.so_far c.loop-range-test.false
-    ∙ rw (
-      ← take_rest c.args.section.now.offsets.now c.loop-range.at,
-      ← c.in_ok-extend_from_slice-3.ensures.items,
-    ) refl
+returns-clause-meaning c = all_written c.loop-range.invariant.so_far c.loop-range-test.false ∙ rw (
+  ← take_rest c.args.section.now.offsets.now c.loop-range.at,
+  ← c.in_ok-extend_from_slice-3.ensures.items,
+) refl
