@@ -24,8 +24,14 @@ use thorin_errors::Error;
 use thorin_find::{header_of, short_kind};
 use thorin_identity::RangeTables;
 
-/// The identifier that a unit's own bytes give, where it has one; or why it can't be read.
-type OwnIdentifier = Result<Option<DwarfObject>, String>;
+/// What a unit's own bytes say of its identifier.
+#[derive(Drop)]
+pub(crate) enum OwnIdentifier {
+    Is(DwarfObject),
+    Nameless,
+    /// Why it can't be read.
+    Unread(String),
+}
 
 /// The places of a unit's own bytes and its abbreviations: what they say depends on nothing else.
 #[derive(Clone, Copy, PartialEq)]
@@ -140,7 +146,7 @@ fn read<'a>(
 {
     match header_of(unit, object, pack.order()) {
         Ok(header) => read_behind(tables, unit, &header),
-        Err(error) => Ok(Err(format!(in tables.alloc; "{error}")?)),
+        Err(error) => Ok(OwnIdentifier::Unread(format!(in tables.alloc; "{error}")?)),
     }
 }
 
@@ -162,8 +168,9 @@ fn read_behind<'a>(
         .saturating_add(size)
         .min(tables.first.bytes().len() as u64);
     match tables.identifier(start as usize, end as usize, header) {
-        Ok(own) => Ok(Ok(own)),
-        Err(error) => Ok(Err(format!(in tables.alloc; "{error}")?)),
+        Ok(Some(own)) => Ok(OwnIdentifier::Is(own)),
+        Ok(None) => Ok(OwnIdentifier::Nameless),
+        Err(error) => Ok(OwnIdentifier::Unread(format!(in tables.alloc; "{error}")?)),
     }
 }
 
@@ -184,7 +191,7 @@ fn own_fault(
     ensures { IsTextOf (TellsOwn object (said_of own.now)) object result }
 {
     match own {
-        Ok(Some(own)) => {
+        OwnIdentifier::Is(own) => {
             if *own == object {
                 return Ok(None);
             }
@@ -192,8 +199,8 @@ fn own_fault(
             let id = own.index();
             some(format!(in alloc; "its own identifier is {kind} 0x{id:016x}"))
         }
-        Ok(None) => some(format!(in alloc; "it has no identifier of its own")),
-        Err(cause) => {
+        OwnIdentifier::Nameless => some(format!(in alloc; "it has no identifier of its own")),
+        OwnIdentifier::Unread(cause) => {
             let cause = cause.as_str();
             some(format!(in alloc; "its own identifier can't be read: {cause}"))
         }
