@@ -8,6 +8,7 @@ use Rattle.thorin_check.proofs.Terms.{AreApart, Contains, HasRange, range_in, sa
 use Rattle.thorin_check.proofs.Terms.{arith, false, get_or, length, nat_eq, nat_le, nat_lt, row_in}
 use Rattle.thorin_check.proofs.Terms.{Bool, inl, inr, List, min, None, not, refl, Some, take, true}
 use Rattle.thorin_check.{proofs.Terms.sym, specs.declared.overlaps.Placed.Placed}
+use Rattle.dwp_base.proofs.Bools.{neither}
 use Rattle.std.proofs.{lemmas.List.Elements.All-more, lemmas.List.Sorted.Contains-permutation}
 use Rattle.dwp_index.specs.Package.{index_for, Package}
 use Rattle.thorin_check.specs.Overlaps.{overlap, range_by_index, row_range, same_range, slot_range}
@@ -203,11 +204,10 @@ module _ (pack : Package) (slots : List UnitEntry) (kinds : List SectionKind) (i
       → (any ≡ false → AreApart pack slots (take i kinds))
       → HasRanges pack slots (get_or kinds i d) ranges → (more ≡ false → AllPairs IsApart lent)
       → (any || more) ≡ false → AreApart pack slots (take (i + 1) kinds)
-  apart_on false false ranges lent same before has apart e =
-      All-more (AreApartIn pack slots) kinds i d lt (before refl)
-      (slots_apart pack slots (get_or kinds i d) ranges has (rw same at (apart refl)))
-  apart_on false true ranges lent same before has apart e = absurd cc
-  apart_on true more ranges lent same before has apart e = absurd cc
+  apart_on any more ranges lent same before has apart e =
+      let both = neither any more e in
+      All-more (AreApartIn pack slots) kinds i d lt (before both.0)
+      (slots_apart pack slots (get_or kinds i d) ranges has (rw same at (apart both.1)))
 
 -- ranges in another order
 pub ranges_sorted : (pack : Package) (slots : List UnitEntry) (kind : SectionKind)
