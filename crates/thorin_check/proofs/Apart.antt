@@ -91,18 +91,14 @@ pub gone_on : (ranges : List Placed) (i : ℕ) (e : Placed) → i < length range
     → farthest ≤ further
     → min ((get_or ranges i e).offset + (get_or ranges i e).size) (2 ^ 64 - 1) ≤ further
     → (any || not behind) ≡ false → GoneThrough ranges (i + 1) further (Some (get_or ranges i e))
-gone_on ranges i e lt farthest further before false twin true g last goes more end none =
-    gone_more ranges i e lt farthest further before (g refl)
-    (here (goes refl)) more end
-  where
-    here : (twin ≡ true) ⊎ ((farthest ≤ (get_or ranges i e).offset) × (farthest < 2 ^ 64 - 1))
-        → (j : ℕ) (d : Placed) → j < i → IsApart (get_or ranges j d) (get_or ranges i e)
-    here (inl is) = same_here ranges i farthest before (g refl) (get_or ranges i e) (last is)
-    here (inr le) =
-        behind_here ranges i farthest before (g refl) (get_or ranges i e) le.0 le.1
-gone_on ranges i e lt farthest further before false twin false g last goes more end none =
-    absurd cc
-gone_on ranges i e lt farthest further before true twin behind g last goes more end none = absurd cc
+gone_on ranges i e lt farthest further before any twin behind g last goes more end none =
+    let both = neither any (not behind) none in
+    let so_far = g both.0 in
+    let is_behind : behind ≡ true = grind (arith, both.1) in
+    gone_more ranges i e lt farthest further before so_far (elim (goes is_behind) [
+      | inl is ↦ same_here ranges i farthest before so_far (get_or ranges i e) (last is)
+      | inr le ↦ behind_here ranges i farthest before so_far (get_or ranges i e) le.0 le.1
+    ]) more end
 
 -- ---- ranges of slots
 
