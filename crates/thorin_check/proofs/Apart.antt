@@ -17,9 +17,6 @@ use Rattle.thorin_check.specs.Overlaps.{overlap, range_by_index, row_range, same
 pub one_range : (a b : Option Contribution) → same_range a b ≡ true → a ≡ b
 one_range a b e = grind (arith, nat_tests)
 
-before_or : (j k : ℕ) → j < k + 1 → (j < k) ⊎ (j ≡ k)
-before_or j k lt = grind arith
-
 -- ---- sorted ranges, gone through
 
 -- how far ranges were gone through
@@ -43,7 +40,8 @@ module _ (ranges : List Placed) (i farthest : ℕ) (before : Option Placed)
       let last = g.last x is in
       let same = last.2 d in
       let next = last.1 in
-      elim (before_or j last.0 (omega arith)) [
+      let or : (j < last.0) ⊎ (j ≡ last.0) = grind arith in
+      elim or [
         | inl less ↦ elim (g.apart j last.0 d less (omega arith)) [
           | inl alike ↦ inl (alike.0 ∙ same.0, alike.1 ∙ same.1, alike.2 ∙ same.2)
           | inr behind ↦ inr (rw same.0 at behind)
@@ -144,9 +142,6 @@ read_alike p q a s t some p_at p_of q_at q_of p_by q_by apart = grind (arith)
 
 module _ (pack : Package) (slots : List UnitEntry) (kind : SectionKind) (ranges : List Placed)
     (has : HasRanges pack slots kind ranges) (apart : AllPairs IsApart ranges) where
-  order : (j k : ℕ) → (j < k) ⊎ ((j ≡ k) ⊎ (k < j))
-  order j k = grind arith
-
   -- of two ranges among these one is apart from the other
   placed_apart : (p q : Placed) → Contains ranges p → Contains ranges q
       → IsApart p q ⊎ IsApart q p
@@ -154,7 +149,8 @@ module _ (pack : Package) (slots : List UnitEntry) (kind : SectionKind) (ranges 
       let is : get_or ranges one.0 p ≡ p = one.2 in
       let so : get_or ranges other.0 p ≡ q =
       get_or_default ranges other.0 p q other.1 ∙ other.2 in
-      elim (order one.0 other.0) [
+      let or : (one.0 < other.0) ⊎ ((one.0 ≡ other.0) ⊎ (other.0 < one.0)) = grind arith in
+      elim or [
         | inl less ↦ inl (rw (is, so) at (apart one.0 other.0 p less other.1))
         | inr (inl this) ↦ (let alike : p ≡ q = rw (← this, is) at so in
             inl (rw alike (inl (refl, refl, refl))))
