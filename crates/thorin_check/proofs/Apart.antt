@@ -100,27 +100,10 @@ gone_on ranges i e lt farthest further before any twin behind g last goes more e
 
 -- ---- ranges of slots
 
-begun : (range : Option Contribution) (offset size : ℕ) → contribution offset size ≡ range
-    → (c : Contribution) → range ≡ Some c → 0 < c.size
-begun range offset size e c is = grind (arith, nat_tests)
-
-range_has : (row : Ranges) (kind : SectionKind) (place : Option ℕ)
-    → column_place row.version row.columns kind ≡ place → (c : Contribution)
-    → range_in row kind ≡ Some c → 0 < c.size
-unfolding range_in
-range_has row kind None column c is = let none = rw column at is in absurd cc
-range_has row kind (Some i) column c is = begun (Some c) _ _ (rw column at is) c refl
-
-row_has : (row : Result Ranges ReadError) (kind : SectionKind) (c : Contribution)
-    → row_range row kind ≡ Some c → 0 < c.size
-row_has (Ok row) kind c is = range_has row kind (column_place row.version row.columns kind) refl c
-    is
-row_has (Err cause) kind c is = absurd cc
-
 index_has : (index : Option Index) (row : ℕ) (kind : SectionKind) (c : Contribution)
     → range_by_index index row kind ≡ Some c → 0 < c.size
-index_has None row kind c is = absurd cc
-index_has (Some index) row kind c is = row_has (row_in index row) kind c is
+unfolding range_in
+index_has index row kind c is = grind (arith, nat_tests)
 
 -- two ranges are the same, or one ends where the other begins, or before
 abbrev AreTwoApart : Contribution → Contribution → Type 0
