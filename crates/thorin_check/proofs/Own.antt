@@ -68,9 +68,13 @@ module _ (contents : Sections) (row : Ranges) where
       each IsInside (find_misses
       (λ kind. is_outside (content contents kind) (range_in row kind)) IsInside
       (λ kind. inside_of (content contents kind) (range_in row kind)) contribution_kinds
-      (kinds.Str ∷ kinds.CuIndex ∷ kinds.TuIndex ∷ [])
-      (absent_inside kinds.Str refl refl, (absent_inside kinds.CuIndex refl refl,
-      (absent_inside kinds.TuIndex refl refl, tt))) e)
+      (kinds.Str ∷ kinds.CuIndex ∷ kinds.TuIndex ∷ []) (
+        absent_inside kinds.Str refl refl,
+        (
+          absent_inside kinds.CuIndex refl refl,
+          (absent_inside kinds.TuIndex refl refl, tt),
+        ),
+      ) e)
 
 -- ---- the unit that is found
 
@@ -110,27 +114,19 @@ module _ (pack : Package) (object : DwarfObject) (unit : FoundUnit) where
         bytes = rw same refl;
       }
 
-  at_row : (index : Index) (number count : ℕ) (x : Option FoundUnit × ℕ)
-      → index_for pack object ≡ Some index
-      → found_row index.signatures index.rows (identifier_of object) ≡ Some number
-      → x.0 ≡ Some unit → unit_at_row pack object index number count ≡ Ok x
-      → IsRowOf pack object unit
+  by_number : (index : Index) (number : Option ℕ) (count : ℕ) (x : Option FoundUnit × ℕ)
+      → found_row index.signatures index.rows (identifier_of object) ≡ number
+      → index_for pack object ≡ Some index → x.0 ≡ Some unit
+      → unit_found pack object index number count ≡ Ok x → IsRowOf pack object unit
   unfolding unit_at_row
-  at_row index number count x there looked is e =
+  by_number index None count x looked there is e = absurd cc
+  by_number index (Some number) count x looked there is e =
       let row = bind-was (as_error errors.Index (row_in index number)) _ _ e in
       let made = bind-was (unit_in pack object number row.0) _ _ row.2 in
       let same = same-ok _ _ made.2 in
       let this = same_Some made.0 unit (ap (λ (p : Option FoundUnit × ℕ). p.0) same ∙ is) in
       read_in index number row.0 there looked (read_ok (row_in index number) row.0 row.1)
       (rw this at made.1)
-
-  by_number : (index : Index) (number : Option ℕ) (count : ℕ) (x : Option FoundUnit × ℕ)
-      → found_row index.signatures index.rows (identifier_of object) ≡ number
-      → index_for pack object ≡ Some index → x.0 ≡ Some unit
-      → unit_found pack object index number count ≡ Ok x → IsRowOf pack object unit
-  by_number index None count x looked there is e = absurd cc
-  by_number index (Some number) count x looked there is e =
-      at_row index number count x there looked is e
 
   by_index : (index : Option Index) (x : Option FoundUnit × ℕ) → index_for pack object ≡ index
       → x.0 ≡ Some unit → found_by pack object index ≡ Ok x → IsRowOf pack object unit
