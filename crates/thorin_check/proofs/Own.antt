@@ -34,8 +34,7 @@ use Rattle.thorin_check.specs.contracts.abbreviations.UnitPlacePartialEq.TheImpl
 
 outside_none : (outside : Option SectionKind) (x : Unit {0}) → all_inside outside ≡ Ok x
     → outside ≡ None
-outside_none None x e = refl
-outside_none (Some kind) x e = absurd cc
+outside_none outside x e = grind (arith)
 
 -- what holds of each that isn't found, and of some behind these
 find_misses : {X : Type 0} (p : X → Bool) (Q : X → Type 0) → ((x : X) → p x ≡ false → Q x)
@@ -91,8 +90,7 @@ pub record IsRowOf (pack : Package) (object : DwarfObject) (unit : FoundUnit) : 
 module _ (pack : Package) (object : DwarfObject) (unit : FoundUnit) where
   read_ok : (read : Result Ranges ReadError) (row : Ranges) → as_error errors.Index read ≡ Ok row
       → read ≡ Ok row
-  read_ok (Ok x) row e = ap Ok (same-ok x row e)
-  read_ok (Err cause) row e = absurd cc
+  read_ok read row e = grind (arith)
 
   read_in : (index : Index) (number : ℕ) (row : Ranges) → index_for pack object ≡ Some index
       → found_row index.signatures index.rows (identifier_of object) ≡ Some number
@@ -152,8 +150,7 @@ bytes_are bytes (Some c) inside =
     rw (fits, back) (drop-take c.offset.0 c.size bytes)
 
 section_back : (s : UnitSection) → section_by (is_in_types s) ≡ s
-section_back Info = refl
-section_back Types = refl
+section_back s = grind (arith)
 
 module _ (pack : Package) (object : DwarfObject) (unit : FoundUnit)
     (is : found pack object ≡ Ok (Some unit)) where
