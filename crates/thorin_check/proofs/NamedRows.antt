@@ -45,17 +45,9 @@ row_or kind first row {a} {b} c text result le p e q =
 
 -- ---- slots in the order of their rows
 
--- what holds of two compilation units and of two type units
-pub of_one_kind : (P : Bool → DwarfObject → DwarfObject → Type 0)
-    → ((x y : DwoId) → P false (Compilation x) (Compilation y))
-    → ((x y : DebugTypeSignature) → P true (TypeUnit x) (TypeUnit y)) → (is_types : Bool)
-    → (a b : DwarfObject) → is_of is_types a ≡ true → is_of is_types b ≡ true → P is_types a b
-of_one_kind P cu tu is_types a b is so = grind (arith, cu, tu)
-
 le_of : (m n : ℕ) (is_types : Bool) (a b : DwarfObject) → is_of is_types a ≡ true
     → is_of is_types b ≡ true → place_by a m ≤ place_by b n → m ≤ n
-le_of m n = of_one_kind (λ is_types a b. place_by a m ≤ place_by b n → m ≤ n) (λ x y le. le)
-    (λ x y le. omega arith)
+le_of m n is_types a b is so le = grind (arith)
 
 module _ (kind : List ℕ) (is_types : Bool) (end : ℕ) (slots : List UnitEntry) where
   -- a slot of the index names a row before the next, or none of its rows

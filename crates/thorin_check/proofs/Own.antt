@@ -239,21 +239,19 @@ from_row pack object unit is =
     let row = row_of_found pack object unit is in
     rw (row.contents, row.order, row.bytes) refl
 
-place_of_types : (range : Option Contribution) (x y : DebugTypeSignature)
-    → place_of (TypeUnit x) range ≡ place_of (TypeUnit y) range
-place_of_types None x y = refl
-place_of_types (Some range) x y = refl
+place_alike : (is_types : Bool) (a b : DwarfObject) (range : Option Contribution)
+    → is_of is_types a ≡ true → is_of is_types b ≡ true → place_of a range ≡ place_of b range
+place_alike is_types a b range is so = grind (arith)
 
 alike_in_row : (pack : Package) (row : Ranges) (is_types : Bool) (a b : DwarfObject)
     → is_of is_types a ≡ true → is_of is_types b ≡ true
     → own_in_row pack a row ≡ own_in_row pack b row
-alike_in_row pack row = of_one_kind (λ is_types a b. own_in_row pack a row ≡ own_in_row pack b row)
-    (λ x y. refl) (λ x y. rw (place_of_types (range_in row kinds.Types) x y) refl)
+alike_in_row pack row is_types a b is so =
+    rw (place_alike is_types a b (range_in row kinds.Types) is so) refl
 
 one_index : (pack : Package) (is_types : Bool) (a b : DwarfObject) → is_of is_types a ≡ true
     → is_of is_types b ≡ true → index_for pack a ≡ index_for pack b
-one_index pack = of_one_kind (λ is_types a b. index_for pack a ≡ index_for pack b)
-    (λ x y. refl) (λ x y. refl)
+one_index pack is_types a b is so = grind (arith)
 
 -- the units of one row give one identifier
 pub own_once : (pack : Package) (is_types : Bool) (a b : DwarfObject) (one other : FoundUnit)
