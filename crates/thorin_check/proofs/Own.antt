@@ -13,7 +13,7 @@ use Rattle.dwp_index.specs.Package.{all_inside, FoundUnit, is_outside, unit_at_r
 use Rattle.dwp_index.specs.Package.{found, part_of, unit_in}
 use Rattle.thorin_check.specs.Remembered.{bytes_at, is_in_types, IsReadIn, numbers_of, section_by}
 use Rattle.thorin_check.specs.Remembered.{own_at, place_in, said_of}
-use Rattle.thorin_check.proofs.{NamedRows.of_one_kind, Terms.ap, Terms.find, Terms.refl, Terms.true}
+use Rattle.thorin_check.proofs.Terms.{ap, find, refl, true}
 use Rattle.dwp_base.proofs.EveryKind.{each, HoldsAll}
 use Rattle.dwp_index.specs.Finding.{LiesInside, own_bytes, own_place, unit_of}
 use Rattle.dwp_table.specs.{Objects.identifier_of, Probing.found_row}
@@ -69,10 +69,9 @@ module _ (contents : Sections) (row : Ranges) where
       (λ kind. inside_of (content contents kind) (range_in row kind)) contribution_kinds
       (kinds.Str ∷ kinds.CuIndex ∷ kinds.TuIndex ∷ []) (
         absent_inside kinds.Str refl refl,
-        (
-          absent_inside kinds.CuIndex refl refl,
-          (absent_inside kinds.TuIndex refl refl, tt),
-        ),
+        absent_inside kinds.CuIndex refl refl,
+        absent_inside kinds.TuIndex refl refl,
+        tt,
       ) e)
 
 -- ---- the unit that is found
