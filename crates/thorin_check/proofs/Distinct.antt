@@ -82,8 +82,9 @@ module _ (pack : Package) (listed : Listed) where
     -- those of the next one have the range before
     pub first_again : before ≡ Some (get_or listed i e).0 → (faults : List FaultValue)
         → TellsFirst i before faults → TellsFirst (i + 1) before faults
-    first_again same faults t = grind (arith, All-more (IsOneOf t.objects) listed i e lt t.others
-        (t.last (get_or listed i e).0 same))
+    first_again same faults t =
+        let others = All-more (IsOneOf t.objects) listed i e lt t.others
+        (t.last (get_or listed i e).0 same) in grind (arith, others)
 
     -- those of the next one were told of
     pub first_more : (are : All (IsOfUnit pack) listed) → IsBehind before (get_or listed i e).0

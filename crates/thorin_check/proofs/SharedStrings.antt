@@ -195,8 +195,9 @@ module _ (pack : Package) (old : UnreadStrings) (unit : FoundUnit) (object : Dwa
           };
           kept = λ other there. elim there [
             | inl all ↦ inl all
-            | inr listed ↦ inr (listed.0, rw unread (Contains-append_left old.unread.items
-                ((range, object) ∷ []) (other, listed.0) listed.1))
+            | inr listed ↦ (let among = Contains-append_left old.unread.items
+                ((range, object) ∷ []) (other, listed.0) listed.1 in
+                inr (listed.0, rw unread among))
           ];
           added = λ other e. rw (← this other e) here;
         }

@@ -196,8 +196,9 @@ module _ (offer : Offer) (reading : Reading) (pack : Package) where
 
   has_units : (executable : List ℕ) → TellsExecutable offer reading pack executable []
       → HasUnitsOf offer reading pack executable
-  has_units executable t = grind (arith, of_named executable (room_of t.bytes)
-      (skeletons_by reading.nameless t.bytes) t.tells)
+  has_units executable t =
+      let named = of_named executable (room_of t.bytes) (skeletons_by reading.nameless t.bytes)
+      t.tells in grind (arith, named)
 
   all_units : (executables : List (Bor (List ℕ)))
       → TellsExecutables offer reading pack executables []

@@ -174,10 +174,11 @@ fn text_of_clash(
     if overlap(unit.range(kind), second.range(kind)) {
         return some(clash_text(alloc, kind, other, false));
     }
+    let tables = SectionKind::Abbrev;
     if has_units(kind)
         && unit.range(kind).is_some()
         && is_same(unit.range(kind), second.range(kind))
-        && !is_same(unit.range(SectionKind::Abbrev), second.range(SectionKind::Abbrev))
+        && !is_same(unit.range(tables), second.range(tables))
     {
         return some(clash_text(alloc, kind, other, true));
     }

@@ -229,8 +229,8 @@ comes_behind : (result given : Result ℕ Failure) (front rest : List ℕ)
     → Comes result (record { printed = rest; answer = given }) middle new
     → Comes result (record { printed = front ++ rest; answer = given }) old new
 comes_behind result given front rest old middle new printed h =
-    grind (arith, Appends-trans old middle new front rest printed,
-    begun_front old middle new front rest printed)
+    let part = begun_front old middle new front rest printed in
+    grind (arith, Appends-trans old middle new front rest printed, part)
 
 module _ (form : ListForm) (pack : Package) (entries : List UnitEntry)
     (by_row : AreByRow pack entries)
