@@ -129,14 +129,11 @@ module _ {X : Type 0} (P : X → List FaultValue → Type 0) where
       grind (arith, append_assoc, for_each_more ys x h.rest more h.is_rest p)
 
   -- those of one more
-  pub told_more : (xs ys : List X) (x : X) {a b c : Progress} → ys ≡ xs ++ (x ∷ [])
-      → Told (ForEach P xs) a b → Told (P x) b c → Told (ForEach P ys) a c
-  told_more xs ys x e p q = rw e (told_then (for_each_more xs x) p q)
-
   pub told_next : (xs : List X) (i : ℕ) (d : X) {a b c : Progress} → i < length xs
       → Told (ForEach P (take i xs)) a b → Told (P (get_or xs i d)) b c
       → Told (ForEach P (take (i + 1) xs)) a c
-  told_next xs i d lt p q = told_more (take i xs) _ (get_or xs i d) (take_more xs i d lt) p q
+  told_next xs i d lt p q =
+      rw (take_more xs i d lt) (told_then (for_each_more (take i xs) (get_or xs i d)) p q)
 
   -- all of them
   pub told_all : (xs : List X) (i : ℕ) {a b : Progress} → length xs ≤ i
