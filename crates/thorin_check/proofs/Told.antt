@@ -80,10 +80,6 @@ module _ (P Q : List FaultValue → Type 0) (Stops : Failure → Type 0) (a b c 
       → TellsOr Stops Q b c result → TellsOr Stops R a c result
   then_or R joins result p q = grind (arith, told_then {R = R} {c = c} joins p, Appends-trans)
 
-  pub in_turn_or : (result : Outcome) → Told P a b → TellsOr Stops Q b c result
-      → TellsOr Stops (InTurn P Q) a c result
-  in_turn_or result p q = then_or (InTurn P Q) in_turn result p q
-
 -- a fault was put behind what waits, and counted
 module _ (fault : FaultValue) (form : Form) (written : Option (List ℕ)) (held more : List ℕ)
     (count next : ℕ) (put : more ≡ held ++ fault_text form fault)

@@ -1,6 +1,6 @@
 use Rattle.thorin_check.proofs.Terms.{contribution_kinds, err_from_is_err_and, not, ◌&&◌, ◌≡◌}
-use Rattle.thorin_check.proofs.Told.{in_turn_or, stopped_behind, told_all, told_next, told_then}
-use Rattle.thorin_check.proofs.{Terms.rules, Told.in_turn}
+use Rattle.thorin_check.proofs.Told.{in_turn, stopped_behind, then_or, told_all, told_next}
+use Rattle.thorin_check.proofs.{Terms.rules, Told.told_then}
 use Rattle.thorin_check.specs.Faults.{lacks_abbreviations, lacks_strings}
 use Rattle.thorin_check.proofs.tables.check_tables.Goals as goal
 
@@ -60,8 +60,8 @@ returns g c =
     let result = c.check_rows-2.result in
     let columns = told_all _ contribution_kinds c.loop-kind.kind-index c.loop-kind-test.false
     c.loop-kind.invariant in
-    in_turn_or _ _ _ _ _ _ result (told_then in_turn
+    then_or _ _ _ _ _ _ _ in_turn result (told_then in_turn
     (rw abbreviations at c.in_ok-check_section.ensures)
     (rw strings at c.in_ok-check_section-2.ensures))
-    (in_turn_or _ _ _ _ _ _ result (told_then in_turn c.in_ok-check_versions.ensures columns)
-    (in_turn_or _ _ _ _ _ _ result compilations types))
+    (then_or _ _ _ _ _ _ _ in_turn result (told_then in_turn c.in_ok-check_versions.ensures
+    columns) (then_or _ _ _ _ _ _ _ in_turn result compilations types))
