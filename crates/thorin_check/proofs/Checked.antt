@@ -153,11 +153,6 @@ module _ (pack : Package) (executable : List ℕ) where
       (told_as h (λ faults broken. at_end room ([], Some (error_of error)) faults refl broken))
   named_broken room listed a b error (Err failure) aside known h = h
 
--- one that was left is left no more
-pub left_shorter : (left after : Listed) (first : Named) → left ≡ (first ∷ after.0, after.1)
-    → length after.0 < length left.0
-left_shorter left after first e = rw e (omega arith)
-
 module _ (offer : Offer) where
   -- ---- failures
 

@@ -1,6 +1,5 @@
 use Rattle.thorin_check.proofs.Terms.{IsOfPrinting, err_from_is_err_and, refl}
-use Rattle.thorin_check.proofs.Checked.{broken_behind, left_shorter, on_bare, on_end, on_long}
-use Rattle.thorin_check.proofs.Checked.{on_next}
+use Rattle.thorin_check.proofs.Checked.{broken_behind, on_bare, on_end, on_long, on_next}
 use Rattle.thorin_check.proofs.Told.{none_told, told_then, told_as, then_or, stopped_behind}
 use Rattle.thorin_check.proofs.executables.check_listed.Goals as goal
 
@@ -16,7 +15,7 @@ loop-unit-preserved g c =
 
 pub loop-unit-smaller : goal.loop-unit-smaller
 loop-unit-smaller g c =
-    left_shorter _ _ _ (rw c.in-Ok-Some.field-0-is at c.in-Ok-Some.ensures.next)
+    rw (rw c.in-Ok-Some.field-0-is at c.in-Ok-Some.ensures.next) (omega arith)
 
 pub returns-then-not-has_room : goal.returns-then-not-has_room
 returns-then-not-has_room g c =
