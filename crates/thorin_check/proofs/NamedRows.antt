@@ -89,19 +89,6 @@ module _ (kind : List ℕ) (is_types : Bool) (end : ℕ) (slots : List UnitEntry
       → IsPast next slot
   passed_by next slot e is = grind (arith, nat_tests)
 
-  pub covers_past : (i next : ℕ) (e : UnitEntry) (faults : List FaultValue) → i < length slots
-      → is_next is_types end (get_or slots i e) next ≡ false → Covers i next faults
-      → Covers (i + 1) next faults
-  covers_past i next e faults lt past c = record {
-    before = c.before;
-    past = λ k d below. below_more (λ k. (d : UnitEntry) → IsPast next (get_or slots k d)) i
-        (λ k h d. c.past k d h)
-        (λ d. rw (get_or_default slots i d e lt) (passed_by next (get_or slots i e) past)) k below
-        d;
-    some = c.some;
-    within = c.within;
-  }
-
   -- no slot names a row from the next up to that of a slot, or up to the end
   module _ (i next last : ℕ) (faults : List FaultValue) (c : Covers i next faults)
       (behind : (k : ℕ) (d : UnitEntry) → i ≤ k → k < length slots
@@ -217,8 +204,14 @@ module _ (kind : List ℕ) (is_types : Bool) (end : ℕ) (slots : List UnitEntry
   pub covers_skipped : (i next : ℕ) (e : UnitEntry) (is : Bool) {a b : Progress}
       → i < length slots → is ≡ is_next is_types end (get_or slots i e) next → is ≡ false
       → Told (Covers i next) a b → Told (Covers (i + 1) next) a b
-  covers_skipped i next e is lt same past t =
-      told_as t (λ faults. covers_past i next e faults lt (sym same ∙ past))
+  covers_skipped i next e is lt same past t = told_as t (λ faults c. record {
+    before = c.before;
+    past = λ k d below. below_more (λ k. (d : UnitEntry) → IsPast next (get_or slots k d)) i
+        (λ k h d. c.past k d h) (λ d. rw (get_or_default slots i d e lt)
+        (passed_by next (get_or slots i e) (sym same ∙ past))) k below d;
+    some = c.some;
+    within = c.within;
+  })
 
   pub covers_all : (i next : ℕ) (faults told : List FaultValue) → length slots ≤ i
       → Covers i next faults → Is (row_faults kind next end) told
