@@ -119,23 +119,21 @@ module _ (kind : List ℕ) (is_types : Bool) (end : ℕ) (slots : List UnitEntry
           get_or-range_with_len next (last - next) (row - next) row (omega arith) ∙ back,
         )
 
-    all_unnamed : All (IsUnnamed slots is_types end) (range_with_len next (last - next))
-    all_unnamed = All-from_get_or (IsUnnamed slots is_types end)
-        (range_with_len next (last - next)) 0
-        (λ k lt. let here : k < last - next = rw (length-range_with_len next (last - next)) at lt in
-        let some = c.some in
-        rw (get_or-range_with_len next (last - next) k 0 here)
-        (omega arith, omega arith, unnamed_between (next + k) (omega arith) (omega arith)))
-
     pub reached : (told : List FaultValue) → Is (row_faults kind next last) told
         → TellsBefore last (faults ++ told)
     reached told is =
         let b = c.before in
+        let some = c.some in
+        let unnamed = All-from_get_or (IsUnnamed slots is_types end)
+        (range_with_len next (last - next)) 0
+        (λ k lt. let here : k < last - next = rw (length-range_with_len next (last - next)) at lt in
+        rw (get_or-range_with_len next (last - next) k 0 here)
+        (omega arith, omega arith, unnamed_between (next + k) (omega arith) (omega arith))) in
         record {
           rows = b.rows ++ range_with_len next (last - next);
           are = rw (b.are, is)
               (sym (map-append (row_fault kind) b.rows (range_with_len next (last - next))));
-          unnamed = All-append (IsUnnamed slots is_types end) b.rows _ b.unnamed all_unnamed;
+          unnamed = All-append (IsUnnamed slots is_types end) b.rows _ b.unnamed unnamed;
           others = λ row some lt. elim (at row next) [
             | inl before ↦ elim (b.others row some before) [
               | inl told ↦ inl (Contains-append_left b.rows _ row told)
