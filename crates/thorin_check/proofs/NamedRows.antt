@@ -81,10 +81,6 @@ module _ (kind : List ℕ) (is_types : Bool) (end : ℕ) (slots : List UnitEntry
     within = omega arith;
   }
 
-  past_on : (next later : ℕ) (slot : UnitEntry) → next ≤ later → IsPast next slot
-      → IsPast later slot
-  past_on next later slot le h is = let past = h is in grind (arith)
-
   passed_by : (next : ℕ) (slot : UnitEntry) → is_next is_types end slot next ≡ false
       → IsPast next slot
   passed_by next slot e is = grind (arith, nat_tests)
@@ -183,8 +179,7 @@ module _ (kind : List ℕ) (is_types : Bool) (end : ℕ) (slots : List UnitEntry
           };
           past = λ k d below. below_more
               (λ k. (d : UnitEntry) → IsPast ((get_or slots i e).row + 1) (get_or slots k d)) i
-              (λ k h d. past_on next ((get_or slots i e).row + 1) (get_or slots k d)
-              (omega arith) (c.past k d h))
+              (λ k h d is. let past = c.past k d h is in grind (arith))
               (λ d is. rw (get_or_default slots i d e lt) (inl (omega arith))) k below d;
           some = omega arith;
           within = omega arith;
