@@ -61,21 +61,17 @@ module _ (pack : Package) (entry : UnitEntry) where
   looked_up (Ok None) h = absurd (some_told _ _ h)
   looked_up (Ok (Some unit)) h = (unit, refl, h)
 
-  in_its_row : (unit : FoundUnit) → TellsFound pack entry unit []
-      → (unit.number ≡ entry.row) × TellsInRow pack entry.object unit (is_bare pack unit) []
-  in_its_row unit h = grind (arith)
-
-  whole_row : (unit : FoundUnit) (bare : Bool) → TellsInRow pack entry.object unit bare []
-      → (bare ≡ false) × TellsItself pack entry.object unit []
-  whole_row unit bare h = grind (arith)
-
   by_own : (own : Option (Option DwarfObject)) → TellsOwn entry.object own []
       → own ≡ Some (Some entry.object)
   by_own own h = grind (arith)
 
-  its_own : (unit : FoundUnit) → TellsItself pack entry.object unit []
-      → own_of entry.object unit ≡ Some (Some entry.object)
-  its_own unit h = grind (arith, by_own (own_of entry.object unit))
+  whole_row : (unit : FoundUnit) (bare : Bool) → TellsInRow pack entry.object unit bare []
+      → (bare ≡ false) × (own_of entry.object unit ≡ Some (Some entry.object))
+  whole_row unit bare h = grind (arith, by_own (own_of entry.object unit))
+
+  in_its_row : (unit : FoundUnit) → TellsFound pack entry unit [] → (unit.number ≡ entry.row)
+      × (is_bare pack unit ≡ false) × (own_of entry.object unit ≡ Some (Some entry.object))
+  in_its_row unit h = grind (arith, whole_row unit (is_bare pack unit))
 
 -- ---- strings
 
@@ -134,7 +130,6 @@ unfolding TellsUnit
 sound_unit pack objects none entry h =
     let looked = looked_up pack entry (found pack entry.object) h.0 in
     let row = in_its_row pack entry looked.0 looked.2 in
-    let whole = whole_row pack entry looked.0 (is_bare pack looked.0) row.1 in
     let place = row_of_found pack entry.object looked.0 looked.1 in
     let has = rw looked.1 at (h.1 refl) in
     record {
@@ -142,8 +137,8 @@ sound_unit pack objects none entry h =
       is_found = looked.1;
       in_row = row.0;
       inside = place.inside;
-      has_abbreviations = whole.0;
-      own = its_own pack entry looked.0 whole.1;
+      has_abbreviations = row.1;
+      own = row.2;
       strings = strings_end pack objects none entry.object looked.0 looked.1 has;
     }
 
