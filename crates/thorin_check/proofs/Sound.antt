@@ -52,8 +52,7 @@ none_for_each P (x ∷ xs) h =
 
 module _ (pack : Package) (entry : UnitEntry) where
   none_unread : (object : DwarfObject) (cause : PackageError) → IsUnread object cause [] → ⊥
-  none_unread object (errors.Range kind) h = some_told _ _ h
-  none_unread object _ h = some_told _ _ h.1
+  none_unread object cause h = grind (arith)
 
   looked_up : (looked : Result (Option FoundUnit) PackageError) → TellsLooked pack entry looked []
       → (unit : FoundUnit) × (looked ≡ Ok (Some unit)) × TellsFound pack entry unit []
