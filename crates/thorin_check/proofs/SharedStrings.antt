@@ -89,16 +89,10 @@ read_alike : (order : Endianness) (encoding : Encoding) (strings bytes : List �
 unfolding string_in entry_in
 read_alike order encoding strings bytes i = refl
 
-none_in_none : (encoding : Encoding) (format : Format) → encoding.format ≡ format
-    → entry_count encoding 0 ≡ 0
-none_in_none encoding Dwarf32 is = rw is (omega arith)
-none_in_none encoding Dwarf64 is = rw is (omega arith)
-
 no_string : (order : Endianness) (encoding : Encoding) (strings : List ℕ) (i : ℕ)
     → result_err (string_in order encoding strings [] i) ≡ None
 unfolding string_in entry_in
-no_string order encoding strings i =
-    let none = none_in_none encoding encoding.format refl in grind (arith, nat_tests)
+no_string order encoding strings i = grind (arith, nat_tests)
 
 -- ---- strings of a unit
 
