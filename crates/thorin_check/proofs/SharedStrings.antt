@@ -79,16 +79,6 @@ pub same_range : (before : Option StringRange) (range : StringRange)
     → IsTrue (option_eq ranges.eq-value.it before (Some range)) → before ≡ Some range
 same_range before range equal = grind (arith, nat_tests)
 
--- the size of addresses is nothing to strings
-read_alike : (order : Endianness) (encoding : Encoding) (strings bytes : List ℕ) (i : ℕ)
-    → string_in order (record {
-      version = encoding.version;
-      format = encoding.format;
-      address_size = 0;
-    }) strings bytes i ≡ string_in order encoding strings bytes i
-unfolding string_in entry_in
-read_alike order encoding strings bytes i = refl
-
 no_string : (order : Endianness) (encoding : Encoding) (strings : List ℕ) (i : ℕ)
     → result_err (string_in order encoding strings [] i) ≡ None
 unfolding string_in entry_in
@@ -101,13 +91,12 @@ module _ (pack : Package) (object : DwarfObject) (unit : FoundUnit)
   by_range : (c : Option Contribution) → range_in unit.row StrOffsets ≡ c
       → (range : StringRange) → option_map (range_by unit.encoding) c ≡ Some range → (i : ℕ)
       → string_by pack range i ≡ string_of unit i
-  unfolding row_bytes
+  unfolding row_bytes string_in entry_in
   by_range None there range e i = absurd cc
   by_range (Some c) there range e i =
       let row = row_of_found pack object unit is in
       let same = same_Some (range_by unit.encoding c) range e in
-      rw (← same, row.contents, row.order, there)
-      (read_alike pack.order unit.encoding (content pack.contents Str) _ i)
+      rw (← same, row.contents, row.order, there) refl
 
   -- a unit's strings are those of its string offsets
   pub of_range : (range : StringRange) → range_of unit ≡ Some range → (i : ℕ)
