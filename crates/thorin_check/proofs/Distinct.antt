@@ -19,11 +19,6 @@ use Rattle.thorin_check.specs.Strings.{HasOffsets, IsBehind, IsRangeOfOne, numbe
 use Rattle.thorin_check.proofs.SharedStrings.{has_strings}
 use Rattle.thorin_check.proofs.Told.{for_each_more, in_turn, tells_as, told_as, told_next}
 
-among_more : (pack : Package) (objects more : List DwarfObject) (range : StringRange)
-    → IsRangeOfOne pack objects range → IsRangeOfOne pack (objects ++ more) range
-among_more pack objects more range one =
-    grind (arith, Contains-append_left objects more one.object one.is_one)
-
 -- a unit has no string offsets behind some, if there are some
 abbrev pub IsUpTo : Package → Option StringRange → DwarfObject → Type 0
 IsUpTo pack None object = ⊥
@@ -116,7 +111,8 @@ module _ (pack : Package) (listed : Listed) where
               object faults more t.told told;
           others = All-more (IsOneOf (t.objects ++ (object ∷ []))) listed i e lt
               (All-weaker (IsOneOf t.objects) (IsOneOf (t.objects ++ (object ∷ [])))
-              (λ one. among_more pack t.objects (object ∷ []) one.0) (take i listed) t.others) here;
+              (λ one h. let is = Contains-append_left t.objects (object ∷ []) h.object h.is_one in
+              grind (arith)) (take i listed) t.others) here;
         }
 
   pub first_all : (i : ℕ) (before : Option StringRange) → length listed ≤ i
