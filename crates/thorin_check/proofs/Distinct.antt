@@ -170,9 +170,6 @@ units_then pack entries listed faults more units strings = (
       strings.told,
 )
 
-by_count : (any : Bool) (m n : ℕ) → (any && nat_eq n m) ≡ false → n ≡ m → any ≡ false
-by_count any m n e same = grind (arith, nat_tests)
-
 -- nothing was told of units, so the number of faults stayed
 module _ (pack : Package) (entries : List UnitEntry) (listed : Listed) (any : Bool) where
   pub units_apart : {a b : Progress}
@@ -181,7 +178,8 @@ module _ (pack : Package) (entries : List UnitEntry) (listed : Listed) (any : Bo
       → Told (TellsUnitsOnly pack listed entries) a b
   units_apart {a} {b} apart not_all t =
       let none = λ (none : t.faults ≡ []).
-      apart (by_count any a.count b.count not_all (rw none at t.counted)) in
+      let same : b.count ≡ a.count = rw none at t.counted in
+      apart (grind (arith, nat_tests)) in
       let are : TellsUnitsOnly pack listed entries t.faults = (t.are, none) in
       grind (arith)
 
