@@ -213,11 +213,6 @@ listed_behind false form lines false front waiting text given all split h = reco
       (ap (before front) h.is);
 }
 
--- why printing failed
-begun_comes : (failure : Failure) (meant : Answer) (old new : Option (List ℕ))
-    → IsOfPrinting failure → HasBeginning old new meant.printed → Comes (Err failure) meant old new
-begun_comes failure meant old new cause h = grind (arith)
-
 begun_front : (old middle new : Option (List ℕ)) (front rest : List ℕ) → Appends old middle front
     → HasBeginning middle new rest → HasBeginning old new (front ++ rest)
 begun_front old middle new front rest printed h =
@@ -246,7 +241,7 @@ module _ (form : ListForm) (pack : Package) (entries : List UnitEntry)
     by_row = by_row;
     meant = record { printed = Lines.printed; answer = answer_of Lines.is_all };
     listed = listed_alone form.columns form Lines Lines.is_all refl;
-    comes = begun_comes failure _ old new b.cause b.begun;
+    comes = grind (arith, b.cause, b.begun);
   }
 
   module _ (is_all : Bool) (middle : Option (List ℕ)) (waiting : List ℕ)
