@@ -270,10 +270,6 @@ module _ (form : ListForm) (pack : Package) (entries : List UnitEntry)
 
 -- ---- what came of it
 
-pub same_entries : (pack : Package) (entries lent : List UnitEntry) → lent ≡ entries
-    → AreByRow pack entries → AreByRow pack lent
-same_entries pack entries lent same h = rw same h
-
 -- the file was read and listed
 pub file_listed : (offer : Offer) (path bytes lent : List ℕ) (form : ListForm) (pack : Package)
     (old new : Option (List ℕ)) (result : Result ℕ Failure) → offer path (Ok bytes) → lent ≡ bytes

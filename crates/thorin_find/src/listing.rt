@@ -2,7 +2,7 @@
 
 ghost use Rattle.std.specs.Prelude.{IfErr, IfOk, OnOk, string_bytes, [], ◌++◌, ◌≡◌};
 ghost use Rattle.thorin_find.specs.Listing.{IsListedIn, range_size, unit_line, unit_names, view_of};
-ghost use Rattle.thorin_find.specs.Listing.{ListsPackage, PrintsFront, PrintsLines, range_sizes};
+ghost use Rattle.thorin_find.specs.Listing.{PrintsFront, PrintsLines, range_sizes};
 ghost use Rattle.thorin_find.specs.Listing.{AddsLine, AreByRow, front_of, lines_of, place_by};
 ghost use Rattle.thorin_find.specs.Listing.{Begins, Lists};
 ghost use Rattle.dwp_index.specs.{Entries.entries_from, Package.found};
@@ -43,7 +43,7 @@ pub struct ListForm {
 /// # Errors
 /// `Input` where the file can't be read, `Malformed` where it is no package or a unit can't be
 /// looked up, `Line` or `Memory`.
-#[tactic(auto, using(crate::proofs::Listed::not_listed, crate::proofs::Listed::same_entries))]
+#[tactic(auto, using(crate::proofs::Listed::not_listed))]
 pub fn list_by<F: FileReader, O: Write>(
     alloc: Global,
     files: &F,
@@ -59,12 +59,17 @@ pub fn list_by<F: FileReader, O: Write>(
         return Err(Failure::Malformed);
     };
     let entries = entries_by_row(alloc, &package)?;
+    let entries = entries.as_slice();
     let listed = Listed {
         pack: &package,
         file_size: bytes.len(),
         form,
     };
-    list_entries(alloc, listed, entries.as_slice(), out)
+    let mut waiting = String::new(alloc);
+    let mut ranges = UnitRanges::new(alloc);
+    let is_all = print_lines(listed, entries, &mut ranges, &mut waiting, out)?;
+    let given = put_rest(listed, is_all, &mut ranges, &mut waiting)?;
+    answer(waiting.as_bytes(), given, out)
 }
 
 /// A package that is listed.
@@ -74,24 +79,6 @@ struct Listed<'m, 'a> {
     /// How many bytes its file has.
     file_size: usize,
     form: ListForm,
-}
-
-/// Lists the units of a package.
-fn list_entries<O: Write>(
-    alloc: Global,
-    listed: Listed<'_, '_>,
-    entries: &[UnitEntry],
-    out: &mut O,
-) -> Result<u8, Failure>
-    requires { AreByRow listed.pack.now entries.now }
-    ensures { ListsPackage listed.entry.form listed.entry.pack.now (O.contents out.old)
-        (O.contents out.new) result }
-{
-    let mut waiting = String::new(alloc);
-    let mut ranges = UnitRanges::new(alloc);
-    let is_all = print_lines(listed, entries, &mut ranges, &mut waiting, out)?;
-    let given = put_rest(listed, is_all, &mut ranges, &mut waiting)?;
-    answer(waiting.as_bytes(), given, out)
 }
 
 /// Adds what stands behind the lines: totals where sizes are asked for, or columns. Answers what is
