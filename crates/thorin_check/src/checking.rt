@@ -1,6 +1,6 @@
 //! `thorin check`.
 
-ghost use Rattle.thorin_check.specs.Checking.{ChecksIndexed, Finishes, IsOfChecking, TellsPackage};
+ghost use Rattle.thorin_check.specs.Checking.{Finishes, IsOfChecking, TellsPackage};
 ghost use Rattle.std.specs.Prelude.{string_bytes};
 ghost use Rattle.thorin_check.specs.{Apart.AreApartOr, Checking.Checks};
 ghost use Rattle.thorin_find.specs.Listing.{AreByRow};
@@ -55,7 +55,18 @@ pub fn check_by<F: FileReader, O: Write>(
         entries,
         overlaps: &overlaps,
     };
-    check_indexed(alloc, files, indexed, executables, reading, out)
+    let mut faults = Faults {
+        form: reading.form,
+        waiting: String::new(alloc),
+        count: 0,
+    };
+    match check_all(files, indexed, executables, reading, &mut faults, out) {
+        Ok(()) => finish(entries.len(), &mut faults, out),
+        Err(failure) => {
+            let _ = print(faults.waiting.as_str(), out);
+            Err(failure)
+        }
+    }
 }
 
 /// A package that is checked.
@@ -66,36 +77,6 @@ pub(crate) struct IndexedPackage<'m, 'a> {
     pub entries: &'m [UnitEntry],
     /// What their ranges have in common.
     pub overlaps: &'m Overlaps,
-}
-
-/// Checks a package for what its slots name, and prints all of it. Answers the status. Where it
-/// stops, it prints what waits, as far as the writer takes it.
-fn check_indexed<F: FileReader, O: Write>(
-    alloc: Global,
-    files: &F,
-    indexed: IndexedPackage<'_, '_>,
-    executables: &[&str],
-    reading: Reading,
-    out: &mut O,
-) -> Result<u8, Failure>
-    requires by_row { AreByRow indexed.pack.now indexed.entries.now }
-    requires apart { AreApartOr indexed.overlaps.now.clash indexed.pack.now indexed.entries.now }
-    ensures { ChecksIndexed (F.offer files.now)
-        (record { paths = executables.now; reading = reading }) indexed.entry.pack.now
-        (O.contents out.old) (O.contents out.new) result }
-{
-    let mut faults = Faults {
-        form: reading.form,
-        waiting: String::new(alloc),
-        count: 0,
-    };
-    match check_all(files, indexed, executables, reading, &mut faults, out) {
-        Ok(()) => finish(indexed.entries.len(), &mut faults, out),
-        Err(failure) => {
-            let _ = print(faults.waiting.as_str(), out);
-            Err(failure)
-        }
-    }
 }
 
 /// Checks the units, the sections that units need and the rows, and that each split unit which the

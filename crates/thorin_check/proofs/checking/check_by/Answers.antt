@@ -1,5 +1,6 @@
-use Rattle.thorin_check.proofs.Checked.{file_checked, file_malformed, file_without_index}
-use Rattle.thorin_check.proofs.{Checked.not_checked, Terms.err_from_is_err_and}
+use Rattle.thorin_check.proofs.Checked.{checked, file_checked, file_malformed, not_checked}
+use Rattle.thorin_check.proofs.Checked.{file_without_index, printed_some}
+use Rattle.thorin_check.proofs.Terms.{err_from_is_err_and, grown, refl}
 use Rattle.thorin_check.proofs.checking.check_by.Goals as goal
 
 pub returns-in_err-bytes : goal.returns-in_err-bytes
@@ -17,8 +18,20 @@ returns-then-has_no_index g c =
     file_without_index _ _ _ _ _ c.in_ok-bytes.ensures.read c.as_slice.ensures.value _ _ _
     c.in-Ok.ensures c.has_no_index.ensures c.if-has_no_index.true
 
+pub returns-in-Ok-check_all : goal.returns-in-Ok-check_all
+returns-in-Ok-check_all g c =
+    file_checked _ _ _ _ _ c.in_ok-bytes.ensures.read c.as_slice.ensures.value _ _ _
+    c.finish.result _ c.in-Ok.ensures c.has_no_index.ensures c.if-has_no_index.false
+    (checked (g.F.FileReader.offer c.args.files.now)
+    (record { paths = c.args.executables.now; reading = c.args.reading }) _
+    c.as_slice-entries.result.now _ _ _ c.finish.result
+    (rw c.as_slice-entries.ensures.value c.in_ok-entries.ensures) refl c.new.ensures.bytes refl
+    c.in-Ok-check_all.ensures c.finish.ensures)
+
 pub returns : goal.returns
 returns g c =
-    file_checked _ _ _ _ _ c.in_ok-bytes.ensures.read c.as_slice.ensures.value _ _ _
-    c.check_indexed.result _ c.in-Ok.ensures c.has_no_index.ensures c.if-has_no_index.false
-    c.check_indexed.ensures
+    file_checked _ _ _ _ _ c.in_ok-bytes.ensures.read c.as_slice.ensures.value _ _ _ _ _
+    c.in-Ok.ensures c.has_no_index.ensures c.if-has_no_index.false (
+      c.in-Err.ensures.0,
+      grown _ _ _ c.in-Err.ensures.1 (printed_some _ _ _ c.print.result c.print.ensures),
+    )
