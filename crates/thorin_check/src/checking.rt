@@ -62,6 +62,7 @@ pub fn check_by<F: FileReader, O: Write>(
     };
     match check_all(files, indexed, executables, reading, &mut faults, out) {
         Ok(()) => finish(entries.len(), &mut faults, out),
+        // What waits is printed, as far as the writer takes it.
         Err(failure) => {
             let _ = print(faults.waiting.as_str(), out);
             Err(failure)
