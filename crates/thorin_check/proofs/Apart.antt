@@ -105,18 +105,10 @@ index_has : (index : Option Index) (row : ℕ) (kind : SectionKind) (c : Contrib
 unfolding range_in
 index_has index row kind c is = grind (arith, nat_tests)
 
--- two ranges are the same, or one ends where the other begins, or before
-abbrev AreTwoApart : Contribution → Contribution → Type 0
-AreTwoApart a b = ((a.offset.0 ≡ b.offset.0) × (a.size ≡ b.size))
-    ⊎ ((a.offset.0 + a.size ≤ b.offset.0) ⊎ (b.offset.0 + b.size ≤ a.offset.0))
-
-not_overlap : (a b : Contribution) → 0 < a.size → 0 < b.size → AreTwoApart a b
-    → overlap (Some a) (Some b) ≡ false
-not_overlap a b some more apart = grind (arith, nat_tests)
-
-two_apart : (p q : Placed) (a b : Contribution) → p.offset ≡ a.offset.0 → p.size ≡ a.size
-    → q.offset ≡ b.offset.0 → q.size ≡ b.size → IsApart p q ⊎ IsApart q p → AreTwoApart a b
-two_apart p q a b p_at p_of q_at q_of apart = grind (arith)
+not_overlap : (p q : Placed) (a b : Contribution) → 0 < a.size → 0 < b.size
+    → p.offset ≡ a.offset.0 → p.size ≡ a.size → q.offset ≡ b.offset.0 → q.size ≡ b.size
+    → IsApart p q ⊎ IsApart q p → overlap (Some a) (Some b) ≡ false
+not_overlap p q a b some more p_at p_of q_at q_of apart = grind (arith, nat_tests)
 
 read_alike : (p q : Placed) (a : Contribution) (s t : Option Contribution) → 0 < a.size
     → p.offset ≡ a.offset.0 → p.size ≡ a.size → q.offset ≡ a.offset.0 → q.size ≡ a.size
@@ -140,11 +132,6 @@ module _ (pack : Package) (slots : List UnitEntry) (kind : SectionKind) (ranges 
         | inr (inr more) ↦ inr (rw (is, so) at (apart other.0 one.0 p more one.1))
       ]
 
-  both_apart : (a b : Contribution) (s t : Option Contribution) → HasRange ranges a s
-      → HasRange ranges b t → AreTwoApart a b
-  both_apart a b s t one other = two_apart one.0 other.0 a b one.2 one.3 other.2 other.3
-      (placed_apart one.0 other.0 one.1 other.1)
-
   both_alike : (a : Contribution) (s t : Option Contribution) → 0 < a.size → HasRange ranges a s
       → HasRange ranges a t → s ≡ t
   both_alike a s t some one other = read_alike one.0 other.0 a s t some one.2 one.3 other.2
@@ -155,9 +142,11 @@ module _ (pack : Package) (slots : List UnitEntry) (kind : SectionKind) (ranges 
   slots_by a b is so None s here there = refl
   slots_by a b is so (Some r) None here there = refl
   slots_by a b is so (Some r) (Some s) here there =
-      not_overlap r s (index_has (index_for pack a.object) a.row kind r here)
-      (index_has (index_for pack b.object) b.row kind s there)
-      (both_apart r s _ _ (has a is r here) (has b so s there))
+      let one = has a is r here in
+      let other = has b so s there in
+      not_overlap one.0 other.0 r s (index_has (index_for pack a.object) a.row kind r here)
+      (index_has (index_for pack b.object) b.row kind s there) one.2 one.3 other.2 other.3
+      (placed_apart one.0 other.0 one.1 other.1)
 
   -- two slots that share the bytes of a unit
   slots_alike : (a b : UnitEntry) → Contains slots a → Contains slots b
