@@ -132,11 +132,6 @@ module _ (pack : Package) (slots : List UnitEntry) (kind : SectionKind) (ranges 
         | inr (inr more) ↦ inr (rw (is, so) at (apart other.0 one.0 p more one.1))
       ]
 
-  both_alike : (a : Contribution) (s t : Option Contribution) → 0 < a.size → HasRange ranges a s
-      → HasRange ranges a t → s ≡ t
-  both_alike a s t some one other = read_alike one.0 other.0 a s t some one.2 one.3 other.2
-      other.3 one.4 other.4 (placed_apart one.0 other.0 one.1 other.1)
-
   slots_by : (a b : UnitEntry) → Contains slots a → Contains slots b → (r s : Option Contribution)
       → slot_range pack a kind ≡ r → slot_range pack b kind ≡ s → overlap r s ≡ false
   slots_by a b is so None s here there = refl
@@ -152,8 +147,11 @@ module _ (pack : Package) (slots : List UnitEntry) (kind : SectionKind) (ranges 
   slots_alike : (a b : UnitEntry) → Contains slots a → Contains slots b
       → AreReadAlike pack kind a b
   slots_alike a b is so units range here there =
-      rw units at (both_alike range _ _ (index_has (index_for pack a.object) a.row kind range here)
-      (has a is range here) (has b so range there))
+      let one = has a is range here in
+      let other = has b so range there in
+      rw units at (read_alike one.0 other.0 range _ _
+      (index_has (index_for pack a.object) a.row kind range here) one.2 one.3 other.2 other.3
+      one.4 other.4 (placed_apart one.0 other.0 one.1 other.1))
 
   pub slots_apart : AreApartIn pack slots kind
   slots_apart a b is so = (
