@@ -49,12 +49,6 @@ module _ (ranges : List Placed) (i farthest : ℕ) (before : Option Placed)
         | inr this ↦ rw this (inl same)
       ]
 
-  -- it begins behind all
-  pub behind_here : farthest ≤ x.offset → farthest < 2 ^ 64 - 1 → IsHere
-  behind_here le some j d lt =
-      let end = g.ends j d lt in
-      inr (omega arith)
-
 -- one more range was gone through
 pub gone_more : (ranges : List Placed) (i : ℕ) (e : Placed) → i < length ranges
     → (farthest further : ℕ) (before : Option Placed) → GoneThrough ranges i farthest before
@@ -95,7 +89,7 @@ gone_on ranges i e lt farthest further before any twin behind g last goes more e
     let is_behind : behind ≡ true = grind (arith, both.1) in
     gone_more ranges i e lt farthest further before so_far (elim (goes is_behind) [
       | inl is ↦ same_here ranges i farthest before so_far (get_or ranges i e) (last is)
-      | inr le ↦ behind_here ranges i farthest before so_far (get_or ranges i e) le.0 le.1
+      | inr le ↦ λ j d lt. let end = so_far.ends j d lt in inr (omega (arith, le.0, le.1))
     ]) more end
 
 -- ---- ranges of slots
