@@ -29,44 +29,22 @@ pub record GoneThrough (ranges : List Placed) (i farthest : ℕ)
   pub last : (range : Placed) → IsLast before range → (k : ℕ) × (k + 1 ≡ i)
       × ((d : Placed) → IsSame (get_or ranges k d) range)
 
-module _ (ranges : List Placed) (i farthest : ℕ) (before : Option Placed)
-    (g : GoneThrough ranges i farthest before) (x : Placed) where
-  abbrev pub IsHere : Type 0
-  IsHere = (j : ℕ) (d : Placed) → j < i → IsApart (get_or ranges j d) x
-
-  -- the next range is the same as the last
-  pub same_here : IsLast before x → IsHere
-  same_here is j d lt =
-      let last = g.last x is in
-      let same = last.2 d in
-      let next = last.1 in
-      let or : (j < last.0) ⊎ (j ≡ last.0) = grind arith in
-      elim or [
-        | inl less ↦ elim (g.apart j last.0 d less (omega arith)) [
-          | inl alike ↦ inl (alike.0 ∙ same.0, alike.1 ∙ same.1, alike.2 ∙ same.2)
-          | inr behind ↦ inr (rw same.0 at behind)
-        ]
-        | inr this ↦ rw this (inl same)
+-- the next range is the same as the last
+same_here : (ranges : List Placed) (i farthest : ℕ) (before : Option Placed)
+    → GoneThrough ranges i farthest before → (x : Placed) → IsLast before x → (j : ℕ) (d : Placed)
+    → j < i → IsApart (get_or ranges j d) x
+same_here ranges i farthest before g x is j d lt =
+    let last = g.last x is in
+    let same = last.2 d in
+    let next = last.1 in
+    let or : (j < last.0) ⊎ (j ≡ last.0) = grind arith in
+    elim or [
+      | inl less ↦ elim (g.apart j last.0 d less (omega arith)) [
+        | inl alike ↦ inl (alike.0 ∙ same.0, alike.1 ∙ same.1, alike.2 ∙ same.2)
+        | inr behind ↦ inr (rw same.0 at behind)
       ]
-
--- one more range was gone through
-pub gone_more : (ranges : List Placed) (i : ℕ) (e : Placed) → i < length ranges
-    → (farthest further : ℕ) (before : Option Placed) → GoneThrough ranges i farthest before
-    → ((j : ℕ) (d : Placed) → j < i → IsApart (get_or ranges j d) (get_or ranges i e))
-    → farthest ≤ further
-    → min ((get_or ranges i e).offset + (get_or ranges i e).size) (2 ^ 64 - 1) ≤ further
-    → GoneThrough ranges (i + 1) further (Some (get_or ranges i e))
-gone_more ranges i e lt farthest further before g here more end = record {
-  apart = λ j k d less below. below_more
-      (λ k. j < k → IsApart (get_or ranges j d) (get_or ranges k d)) i
-      (λ k below less. g.apart j k d less below)
-      (λ less. rw (get_or_default ranges i d e lt) (here j d less)) k below less;
-  ends = λ k d below. below_more
-      (λ k. min ((get_or ranges k d).offset + (get_or ranges k d).size) (2 ^ 64 - 1) ≤ further) i
-      (λ k below. let one = g.ends k d below in omega arith)
-      (rw (get_or_default ranges i d e lt) end) k below;
-  last = λ range is. (i, refl, λ d. rw (get_or_default ranges i d e lt) is);
-}
+      | inr this ↦ rw this (inl same)
+    ]
 
 -- a range is the same as the one before, or begins behind all, as its tests tell
 pub is_behind : (twin : Bool) (farthest offset : ℕ)
@@ -74,6 +52,7 @@ pub is_behind : (twin : Bool) (farthest offset : ℕ)
     → (twin ≡ true) ⊎ ((farthest ≤ offset) × (farthest < 2 ^ 64 - 1))
 is_behind twin farthest offset e = grind (arith, nat_tests)
 
+-- one more range was gone through
 pub gone_on : (ranges : List Placed) (i : ℕ) (e : Placed) → i < length ranges
     → (farthest further : ℕ) (before : Option Placed) (any twin behind : Bool)
     → (any ≡ false → GoneThrough ranges i farthest before)
@@ -86,11 +65,23 @@ pub gone_on : (ranges : List Placed) (i : ℕ) (e : Placed) → i < length range
 gone_on ranges i e lt farthest further before any twin behind g last goes more end none =
     let both = neither any (not behind) none in
     let so_far = g both.0 in
-    let is_behind : behind ≡ true = grind (arith, both.1) in
-    gone_more ranges i e lt farthest further before so_far (elim (goes is_behind) [
+    let passed : behind ≡ true = grind (arith, both.1) in
+    let here : (j : ℕ) (d : Placed) → j < i → IsApart (get_or ranges j d) (get_or ranges i e) =
+    elim (goes passed) [
       | inl is ↦ same_here ranges i farthest before so_far (get_or ranges i e) (last is)
       | inr le ↦ λ j d lt. let end = so_far.ends j d lt in inr (omega (arith, le.0, le.1))
-    ]) more end
+    ] in
+    record {
+      apart = λ j k d less below. below_more
+          (λ k. j < k → IsApart (get_or ranges j d) (get_or ranges k d)) i
+          (λ k below less. so_far.apart j k d less below)
+          (λ less. rw (get_or_default ranges i d e lt) (here j d less)) k below less;
+      ends = λ k d below. below_more
+          (λ k. min ((get_or ranges k d).offset + (get_or ranges k d).size) (2 ^ 64 - 1) ≤ further)
+          i (λ k below. let one = so_far.ends k d below in omega arith)
+          (rw (get_or_default ranges i d e lt) end) k below;
+      last = λ range is. (i, refl, λ d. rw (get_or_default ranges i d e lt) is);
+    }
 
 -- ---- ranges of slots
 
