@@ -1,7 +1,8 @@
 use Rattle.thorin_check.proofs.Terms.{arith, err_from_is_err_and, Ok, refl, string_of}
 use Rattle.std.proofs.lemmas.List.FromFn.{map-range_with_len_more}
 use Rattle.thorin_check.{proofs.SharedStrings.of_found, specs.Faults.TellsNumbered}
-use Rattle.thorin_check.proofs.Told.{none_told, strings_some, text_stopped, text_told, told_more}
+use Rattle.thorin_check.proofs.Told.{for_each_more, none_told, strings_some, text_stopped}
+use Rattle.thorin_check.proofs.Told.{text_told, told_then}
 use Rattle.thorin_check.proofs.strings.check_strings_of.Goals as goal
 
 pub returns-in-Ok-None : goal.returns-in-Ok-None
@@ -19,11 +20,11 @@ pub loop-i-preserved : goal.loop-i-preserved
 loop-i-preserved g c =
     let i = c.loop-i.i in
     let unit = c.in-Ok-Some.unit in
-    told_more (TellsNumbered c.args.object) _ _ (i, string_of unit i)
-    (map-range_with_len_more (λ k. (k, string_of unit k)) 0 i i (omega arith))
+    rw (map-range_with_len_more (λ k. (k, string_of unit k)) 0 i i (omega arith))
+    (told_then (for_each_more (TellsNumbered c.args.object) _ (i, string_of unit i))
     c.loop-i.invariant
     (text_told _ _ _ _ _ (Ok tt) (c.string_text-text.ensures c.args.object)
-    c.in_ok-tell.ensures)
+    c.in_ok-tell.ensures))
 
 pub returns-in_err-tell : goal.returns-in_err-tell
 returns-in_err-tell g c =
