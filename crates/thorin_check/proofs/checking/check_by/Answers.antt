@@ -1,12 +1,12 @@
 use Rattle.thorin_check.proofs.Checked.{checked, file_checked, file_malformed, not_checked}
 use Rattle.thorin_check.proofs.Checked.{file_without_index, printed_some}
-use Rattle.thorin_check.proofs.Terms.{err_from_is_err_and, grown, refl}
+use Rattle.thorin_check.proofs.Terms.{exit_is, grown, refl}
 use Rattle.thorin_check.proofs.checking.check_by.Goals as goal
 
 pub returns-in_err-bytes : goal.returns-in_err-bytes
 returns-in_err-bytes g c =
-    let p = err_from_is_err_and c.from_residual.result c.from_residual.ensures.1 in
-    rw (p.1, p.2) (not_checked _ _ _ _ _ c.in_err-bytes.ensures.refused)
+    rw (exit_is c.from_residual.result c.from_residual.ensures.1) (not_checked _ _ _ _ _
+    c.in_err-bytes.ensures.refused)
 
 pub returns-in_default : goal.returns-in_default
 returns-in_default g c =

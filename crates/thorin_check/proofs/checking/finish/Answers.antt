@@ -1,17 +1,15 @@
-use Rattle.thorin_check.proofs.Terms.{arith, err_from_is_err_and, flushed, nat_tests, not_flushed}
+use Rattle.thorin_check.proofs.Terms.{arith, exit_is, flushed, nat_tests, not_flushed}
 use Rattle.thorin_check.proofs.checking.finish.Goals as goal
 
 pub returns-in_err-print : goal.returns-in_err-print
 returns-in_err-print g c =
     let exit = c.from_residual-in_err-print in
-    let p = err_from_is_err_and exit.result exit.ensures.1 in
-    rw (p.1, p.2) c.in_err-print.ensures
+    rw (exit_is exit.result exit.ensures.1) c.in_err-print.ensures
 
 pub returns-in_err-flush : goal.returns-in_err-flush
 returns-in_err-flush g c =
     let exit = c.from_residual-in_err-flush in
-    let p = err_from_is_err_and exit.result exit.ensures.1 in
-    rw (p.1, p.2) (
+    rw (exit_is exit.result exit.ensures.1) (
       c.in_err-flush.ensures.cause,
       not_flushed _ _ _ _ c.in_ok-print.ensures c.in_err-flush.ensures.kept,
     )

@@ -1,13 +1,12 @@
-use Rattle.thorin_check.proofs.Terms.{err_from_is_err_and, rules, ◌≡◌}
+use Rattle.thorin_check.proofs.Terms.{exit_is, rules, ◌≡◌}
 use Rattle.thorin_check.specs.Faults.{room_of}
 use Rattle.thorin_check.proofs.Checked.{executable_read, executable_unread, named_broken}
 use Rattle.thorin_check.proofs.executables.check_executable.Goals as goal
 
 pub returns-in_err-read : goal.returns-in_err-read
 returns-in_err-read g c =
-    let p = err_from_is_err_and c.from_residual.result c.from_residual.ensures.1 in
-    rw (p.1, p.2) (executable_unread (g.F.FileReader.offer c.args.files.now)
-    c.args.executable.now _ _ c.in_err-read.ensures.refused)
+    rw (exit_is c.from_residual.result c.from_residual.ensures.1) (executable_unread
+    (g.F.FileReader.offer c.args.files.now) c.args.executable.now _ _ c.in_err-read.ensures.refused)
 
 pub returns-in-Ok : goal.returns-in-Ok
 returns-in-Ok g c =

@@ -1,4 +1,4 @@
-use Rattle.thorin_check.proofs.Terms.{IsOfPrinting, err_from_is_err_and, refl}
+use Rattle.thorin_check.proofs.Terms.{IsOfPrinting, exit_is, refl}
 use Rattle.thorin_check.proofs.Checked.{broken_behind, on_bare, on_end, on_long, on_next}
 use Rattle.thorin_check.proofs.Told.{none_told, told_then, told_as, then_or, stopped_behind}
 use Rattle.thorin_check.proofs.executables.check_listed.Goals as goal
@@ -28,9 +28,8 @@ returns-then-not-has_room g c =
 
 pub returns-in_err-check_skeleton-in-Ok-Some : goal.returns-in_err-check_skeleton-in-Ok-Some
 returns-in_err-check_skeleton-in-Ok-Some g c =
-    let p = err_from_is_err_and c.from_residual.result c.from_residual.ensures.1 in
-    rw (p.1, p.2) (stopped_behind _ c.loop-unit.invariant
-    c.in_err-check_skeleton-in-Ok-Some.ensures)
+    rw (exit_is c.from_residual.result c.from_residual.ensures.1) (stopped_behind _
+    c.loop-unit.invariant c.in_err-check_skeleton-in-Ok-Some.ensures)
 
 pub returns-then-is_first : goal.returns-then-is_first
 returns-then-is_first g c =

@@ -1,4 +1,4 @@
-use Rattle.thorin_check.proofs.Terms.{All, err_from_is_err_and, IsOfUnit, none_grown, Ok, sym, ◌∙◌}
+use Rattle.thorin_check.proofs.Terms.{All, exit_is, IsOfUnit, none_grown, Ok, sym, ◌∙◌}
 use Rattle.thorin_check.proofs.Distinct.{first_again, first_more, first_none, listed_before}
 use Rattle.std.proofs.lemmas.List.Sorted.{All-permutation}
 use Rattle.thorin_check.proofs.{Distinct.first_all, SharedStrings.same_range}
@@ -24,8 +24,8 @@ loop-i-preserved-then-eq g c =
 pub returns-in_err-check_strings_of : goal.returns-in_err-check_strings_of
 returns-in_err-check_strings_of g c =
     let exit = c.from_residual-in_err-check_strings_of in
-    let p = err_from_is_err_and exit.result exit.ensures.1 in
-    rw (p.1, p.2) (stopped_behind _ c.loop-i.invariant c.in_err-check_strings_of.ensures)
+    rw (exit_is exit.result exit.ensures.1) (stopped_behind _ c.loop-i.invariant
+    c.in_err-check_strings_of.ensures)
 
 pub returns : goal.returns
 returns g c =

@@ -1,4 +1,4 @@
-use Rattle.thorin_check.proofs.Terms.{arith, err_from_is_err_and, Ok, refl, string_of}
+use Rattle.thorin_check.proofs.Terms.{arith, exit_is, Ok, refl, string_of}
 use Rattle.std.proofs.lemmas.List.FromFn.{map-range_with_len_more}
 use Rattle.thorin_check.{proofs.SharedStrings.of_found, specs.Faults.TellsNumbered}
 use Rattle.thorin_check.proofs.Told.{for_each_more, none_told, strings_some, text_stopped}
@@ -28,8 +28,8 @@ loop-i-preserved g c =
 
 pub returns-in_err-tell : goal.returns-in_err-tell
 returns-in_err-tell g c =
-    let p = err_from_is_err_and c.from_residual.result c.from_residual.ensures.1 in
-    rw (p.1, p.2) (text_stopped _ _ _ _ c.loop-i.invariant c.in_err-tell.ensures)
+    rw (exit_is c.from_residual.result c.from_residual.ensures.1) (text_stopped _ _ _ _
+    c.loop-i.invariant c.in_err-tell.ensures)
 
 pub returns : goal.returns
 returns g c =

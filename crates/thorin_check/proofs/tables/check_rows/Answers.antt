@@ -1,4 +1,4 @@
-use Rattle.thorin_check.proofs.Terms.{err_from_is_err_and, sym, ◌∙◌}
+use Rattle.thorin_check.proofs.Terms.{exit_is, sym, ◌∙◌}
 use Rattle.thorin_check.proofs.NamedRows.{covers_none, covers_told, covers_all}
 use Rattle.thorin_check.proofs.Told.{none_told, then_or, stopped_behind}
 use Rattle.thorin_check.proofs.tables.check_rows.Goals as goal
@@ -13,8 +13,8 @@ loop-i-preserved g c = covers_told _ _ _ _ c.requires.sorted c.loop-i.i _ _ _ c.
 
 pub returns-in_err-tell_rows : goal.returns-in_err-tell_rows
 returns-in_err-tell_rows g c =
-    let p = err_from_is_err_and c.from_residual.result c.from_residual.ensures.1 in
-    rw (p.1, p.2) (stopped_behind _ c.loop-i.invariant c.in_err-tell_rows.ensures)
+    rw (exit_is c.from_residual.result c.from_residual.ensures.1) (stopped_behind _
+    c.loop-i.invariant c.in_err-tell_rows.ensures)
 
 pub returns : goal.returns
 returns g c =

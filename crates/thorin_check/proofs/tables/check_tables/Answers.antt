@@ -1,4 +1,4 @@
-use Rattle.thorin_check.proofs.Terms.{contribution_kinds, err_from_is_err_and, not, ◌&&◌, ◌≡◌}
+use Rattle.thorin_check.proofs.Terms.{contribution_kinds, exit_is, not, ◌&&◌, ◌≡◌}
 use Rattle.thorin_check.proofs.Told.{in_turn, stopped_behind, then_or, told_all, told_next}
 use Rattle.thorin_check.proofs.{Terms.rules, Told.told_then}
 use Rattle.thorin_check.specs.Faults.{lacks_abbreviations, lacks_strings}
@@ -6,21 +6,18 @@ use Rattle.thorin_check.proofs.tables.check_tables.Goals as goal
 
 pub returns-in_err-check_section : goal.returns-in_err-check_section
 returns-in_err-check_section g c =
-    let p = err_from_is_err_and c.from_residual.result c.from_residual.ensures.1 in
-    rw (p.1, p.2) c.in_err-check_section.ensures
+    rw (exit_is c.from_residual.result c.from_residual.ensures.1) c.in_err-check_section.ensures
 
 pub returns-in_err-check_section-2 : goal.returns-in_err-check_section-2
 returns-in_err-check_section-2 g c =
     let exit = c.from_residual-in_err-check_section-2 in
-    let p = err_from_is_err_and exit.result exit.ensures.1 in
-    rw (p.1, p.2) (stopped_behind _ c.in_ok-check_section.ensures
+    rw (exit_is exit.result exit.ensures.1) (stopped_behind _ c.in_ok-check_section.ensures
     c.in_err-check_section-2.ensures)
 
 pub returns-in_err-check_versions : goal.returns-in_err-check_versions
 returns-in_err-check_versions g c =
     let exit = c.from_residual-in_err-check_versions in
-    let p = err_from_is_err_and exit.result exit.ensures.1 in
-    rw (p.1, p.2) (stopped_behind _ c.in_ok-check_section.ensures
+    rw (exit_is exit.result exit.ensures.1) (stopped_behind _ c.in_ok-check_section.ensures
     (stopped_behind _ c.in_ok-check_section-2.ensures c.in_err-check_versions.ensures))
 
 pub loop-kind-preserved : goal.loop-kind-preserved
@@ -31,8 +28,7 @@ loop-kind-preserved g c =
 pub returns-in_err-check_section-3 : goal.returns-in_err-check_section-3
 returns-in_err-check_section-3 g c =
     let exit = c.from_residual-in_err-check_section-3 in
-    let p = err_from_is_err_and exit.result exit.ensures.1 in
-    rw (p.1, p.2) (stopped_behind _ c.in_ok-check_section.ensures
+    rw (exit_is exit.result exit.ensures.1) (stopped_behind _ c.in_ok-check_section.ensures
     (stopped_behind _ c.in_ok-check_section-2.ensures
     (stopped_behind _ c.in_ok-check_versions.ensures
     (stopped_behind _ c.loop-kind.invariant c.in_err-check_section-3.ensures))))
@@ -40,8 +36,7 @@ returns-in_err-check_section-3 g c =
 pub returns-in_err-check_rows : goal.returns-in_err-check_rows
 returns-in_err-check_rows g c =
     let exit = c.from_residual-in_err-check_rows in
-    let p = err_from_is_err_and exit.result exit.ensures.1 in
-    rw (p.1, p.2) (stopped_behind _ c.in_ok-check_section.ensures
+    rw (exit_is exit.result exit.ensures.1) (stopped_behind _ c.in_ok-check_section.ensures
     (stopped_behind _ c.in_ok-check_section-2.ensures
     (stopped_behind _ c.in_ok-check_versions.ensures
     (stopped_behind _ c.loop-kind.invariant c.in_err-check_rows.ensures))))

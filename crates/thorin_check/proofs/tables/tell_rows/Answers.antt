@@ -1,4 +1,4 @@
-use Rattle.thorin_check.proofs.Terms.{arith, Err, err_from_is_err_and, Ok, rules, ◌≡◌}
+use Rattle.thorin_check.proofs.Terms.{arith, Err, exit_is, Ok, rules, ◌≡◌}
 use Rattle.thorin_check.{proofs.NamedRows.row_or, specs.Faults.row_text}
 use Rattle.thorin_check.proofs.tables.tell_rows.Goals as goal
 
@@ -11,10 +11,10 @@ loop-row-preserved g c =
 pub returns-in_err-tell_of_package : goal.returns-in_err-tell_of_package
 unfolding row_text
 returns-in_err-tell_of_package g c =
-    let p = err_from_is_err_and c.from_residual.result c.from_residual.ensures.1 in
-    rw (p.1, p.2) (row_or c.args.kind.now c.args.first c.loop-row.row-counter _
-    c.format-text.result (Err c.in_err-tell_of_package.field-0.0) (omega arith)
-    c.loop-row.invariant (search rules) c.in_err-tell_of_package.ensures)
+    rw (exit_is c.from_residual.result c.from_residual.ensures.1) (row_or c.args.kind.now
+    c.args.first c.loop-row.row-counter _ c.format-text.result (Err
+    c.in_err-tell_of_package.field-0.0) (omega arith) c.loop-row.invariant (search rules)
+    c.in_err-tell_of_package.ensures)
 
 pub returns : goal.returns
 returns g c =

@@ -1,4 +1,4 @@
-use Rattle.thorin_check.proofs.Terms.{err_from_is_err_and}
+use Rattle.thorin_check.proofs.Terms.{exit_is}
 use Rattle.thorin_check.proofs.Distinct.{text_made, text_seen, seen_next, units_apart, units_then}
 use Rattle.thorin_check.proofs.Told.{text_stopped, then_or, told_all}
 use Rattle.thorin_check.proofs.units.check_units.Goals as goal
@@ -15,8 +15,8 @@ loop-i-preserved g c =
 
 pub returns-in_err-tell : goal.returns-in_err-tell
 returns-in_err-tell g c =
-    let p = err_from_is_err_and c.from_residual.result c.from_residual.ensures.1 in
-    rw (p.1, p.2) (text_stopped _ _ _ _ c.loop-i.invariant.told c.in_err-tell.ensures)
+    rw (exit_is c.from_residual.result c.from_residual.ensures.1) (text_stopped _ _ _ _
+    c.loop-i.invariant.told c.in_err-tell.ensures)
 
 pub returns : goal.returns
 returns g c =
