@@ -105,15 +105,9 @@ impl UnitRanges {
         for kind in CONTRIBUTION_KINDS.iter().chain(&others) {
             let size = pack.content(*kind).len() as u64;
             if size != 0 {
-                totals.push(Total {
-                    name: kind.short_name(),
-                    size,
-                    ranges: if others.contains(kind) {
-                        None
-                    } else {
-                        Some(self.range_total(kind.rank()))
-                    },
-                })?;
+                let name = kind.short_name();
+                let ranges = (!others.contains(kind)).then_some(self.range_total(kind.rank()));
+                totals.push(Total { name, size, ranges })?;
             }
         }
         totals.push(Total {
