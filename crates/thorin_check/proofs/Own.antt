@@ -9,7 +9,9 @@ use Rattle.thorin_check.proofs.Terms.{arith, false, Index, List, None, own_by, o
 use Rattle.thorin_check.proofs.Terms.{bind-was, by-bool, range_in, same_Some, Sections, TypeUnit}
 use Rattle.dwp_index.specs.Package.{encoding_in, first_outside, found_counted, lies_inside, Package}
 use Rattle.dwp_index.specs.Package.{as_error, found_by, index_for, kind_of, place_of, row_bytes}
-use Rattle.dwp_index.specs.Package.{all_inside, FoundUnit, is_outside, unit_at_row, unit_found}
+use Rattle.dwp_index.specs.Package.{FoundUnit, is_outside, unit_at_row}
+use Rattle.dwp_index.proofs.PackageLookUp.{by_row}
+use Rattle.std.proofs.Common.{option_map}
 use Rattle.dwp_index.specs.Package.{found, part_of, unit_in}
 use Rattle.thorin_check.specs.Remembered.{bytes_at, is_in_types, IsReadIn, numbers_of, section_by}
 use Rattle.thorin_check.specs.Remembered.{own_at, place_in, said_of}
@@ -31,10 +33,6 @@ use Rattle.dwp_index.specs.declared.error.PackageError.TheVariants as errors
 use Rattle.thorin_check.specs.contracts.abbreviations.UnitPlacePartialEq.TheImpl as places
 
 -- ---- its ranges
-
-outside_none : (outside : Option SectionKind) (x : Unit {0}) → all_inside outside ≡ Ok x
-    → outside ≡ None
-outside_none outside x e = grind (arith)
 
 -- what holds of each that isn't found, and of some behind these
 find_misses : {X : Type 0} (p : X → Bool) (Q : X → Type 0) → ((x : X) → p x ≡ false → Q x)
@@ -77,65 +75,33 @@ module _ (contents : Sections) (row : Ranges) where
 -- ---- the unit that is found
 
 pub record IsRowOf (pack : Package) (object : DwarfObject) (unit : FoundUnit) : Type 0 where
-  pub index : Index
-  pub index_is : index_for pack object ≡ Some index
-  pub looked : found_row index.signatures index.rows (identifier_of object) ≡ Some unit.number
-  pub row : row_in index unit.number ≡ Ok unit.row
+  pub row : option_map (λ index. row_in index unit.number) (index_for pack object)
+      ≡ Some (Ok unit.row)
   pub inside : LiesInside pack.contents unit.row
   pub contents : unit.contents ≡ pack.contents
   pub order : unit.order ≡ pack.order
   pub bytes : unit.bytes ≡ own_bytes pack.contents object unit.row
 
-module _ (pack : Package) (object : DwarfObject) (unit : FoundUnit) where
-  read_ok : (read : Result Ranges ReadError) (row : Ranges) → as_error errors.Index read ≡ Ok row
-      → read ≡ Ok row
-  read_ok read row e = grind (arith)
+module _ (pack : Package) (object : DwarfObject) (unit : FoundUnit)
+    (is : found pack object ≡ Ok (Some unit)) where
+  row_read : option_map (λ index. row_in index unit.number) (index_for pack object)
+      ≡ Some (Ok unit.row)
+  unfolding found found_counted unit_at_row unit_in
+  row_read = grind arith
 
-  read_in : (index : Index) (number : ℕ) (row : Ranges) → index_for pack object ≡ Some index
-      → found_row index.signatures index.rows (identifier_of object) ≡ Some number
-      → row_in index number ≡ Ok row → unit_in pack object number row ≡ Ok unit
-      → IsRowOf pack object unit
-  unfolding unit_in
-  read_in index number row there looked read e =
-      let inside = bind-was (all_inside (first_outside pack.contents row)) _ _ e in
-      let made = bind-was (as_error errors.Unit (encoding_in pack.order _ _)) _ _ inside.2 in
-      let same : unit ≡ unit_of pack object number row made.0 = sym (same-ok _ _ made.2) in
-      record {
-        index = index;
-        index_is = there;
-        looked = rw same looked;
-        row = rw same read;
-        inside = rw same (all_inside_of pack.contents row (outside_none _ inside.0 inside.1));
-        contents = rw same refl;
-        order = rw same refl;
-        bytes = rw same refl;
-      }
+  unit_read : (first_outside pack.contents unit.row ≡ None) × (unit.contents ≡ pack.contents)
+      × (unit.order ≡ pack.order) × (unit.bytes ≡ own_bytes pack.contents object unit.row)
+  unfolding found unit_in
+  unit_read = grind (arith, by_row pack object)
 
-  by_number : (index : Index) (number : Option ℕ) (count : ℕ) (x : Option FoundUnit × ℕ)
-      → found_row index.signatures index.rows (identifier_of object) ≡ number
-      → index_for pack object ≡ Some index → x.0 ≡ Some unit
-      → unit_found pack object index number count ≡ Ok x → IsRowOf pack object unit
-  unfolding unit_at_row
-  by_number index None count x looked there is e = absurd cc
-  by_number index (Some number) count x looked there is e =
-      let row = bind-was (as_error errors.Index (row_in index number)) _ _ e in
-      let made = bind-was (unit_in pack object number row.0) _ _ row.2 in
-      let same = same-ok _ _ made.2 in
-      let this = same_Some made.0 unit (ap (λ (p : Option FoundUnit × ℕ). p.0) same ∙ is) in
-      read_in index number row.0 there looked (read_ok (row_in index number) row.0 row.1)
-      (rw this at made.1)
-
-  by_index : (index : Option Index) (x : Option FoundUnit × ℕ) → index_for pack object ≡ index
-      → x.0 ≡ Some unit → found_by pack object index ≡ Ok x → IsRowOf pack object unit
-  by_index None x there is e = absurd cc
-  by_index (Some index) x there is e = by_number index
-      (found_row index.signatures index.rows (identifier_of object)) _ x refl there is e
-
-  pub row_of_found : found pack object ≡ Ok (Some unit) → IsRowOf pack object unit
-  unfolding found found_counted
-  row_of_found e =
-      let counted = bind-was (found_counted pack object) _ _ e in
-      by_index (index_for pack object) counted.0 refl (same-ok _ _ counted.2) counted.1
+  pub row_of_found : IsRowOf pack object unit
+  row_of_found = record {
+    row = row_read;
+    inside = all_inside_of pack.contents unit.row unit_read.0;
+    contents = unit_read.1;
+    order = unit_read.2;
+    bytes = unit_read.3;
+  }
 
 -- the bytes of a range, by its numbers
 pub bytes_are : (bytes : List ℕ) (range : Option Contribution)
@@ -260,10 +226,8 @@ pub own_once : (pack : Package) (is_types : Bool) (a b : DwarfObject) (one other
 own_once pack is_types a b one other is so here there same =
     let row = row_of_found pack a one here in
     let again = row_of_found pack b other there in
-    let index : row.index ≡ again.index = same_Some row.index again.index
-    (sym row.index_is ∙ one_index pack is_types a b is so ∙ again.index_is) in
-    let ranges : one.row ≡ other.row = same-ok one.row other.row
-    (sym (rw (index, same) at row.row) ∙ again.row) in
+    let ranges : one.row ≡ other.row = same-ok one.row other.row (same_Some (Ok one.row)
+    (Ok other.row) (sym (rw (one_index pack is_types a b is so, same) at row.row) ∙ again.row)) in
     let middle : own_in_row pack a one.row ≡ own_in_row pack b other.row =
     rw ranges (alike_in_row pack other.row is_types a b is so) in
     from_row pack a one here ∙ middle ∙ sym (from_row pack b other there)
