@@ -56,16 +56,15 @@ impl<F: FileReader> FileReader for PlainReader<'_, F> {
 
     fn read(&self, path: &str) -> io::Result<Vec<u8>> {
         let mut bytes = self.files.read(path)?;
-        if self.decompresses {
-            let left = decompress(self.alloc, &mut bytes, false)?;
-            self.compression.set(left);
+        let left = if self.decompresses {
+            decompress(self.alloc, &mut bytes, false)?
         } else {
-            self.compression
-                .set(match plain_length(&bytes, Asked::OfUnits) {
-                    Ok(None) | Err(DecompressError::Read(_)) => Compression::None,
-                    _ => Compression::Left,
-                });
-        }
+            match plain_length(&bytes, Asked::OfUnits) {
+                Ok(None) | Err(DecompressError::Read(_)) => Compression::None,
+                _ => Compression::Left,
+            }
+        };
+        self.compression.set(left);
         self.kind.set(kind_of(&bytes));
         Ok(bytes)
     }
