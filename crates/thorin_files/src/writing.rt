@@ -59,11 +59,21 @@ struct Access {
     group: u32,
 }
 
+/// What stands at OUT.
+#[derive(Clone, Copy)]
+enum Standing {
+    /// A regular file that may be written, or nothing.
+    File(Option<Access>),
+    /// A symbolic link to such a file.
+    Link(Access),
+    /// What no other file may take the place of.
+    Other,
+}
+
 /// Writes a file OUT. Where OUT is a regular file, or isn't there, the contents are written under a
-/// name beside it that then becomes OUT: a write that fails leaves OUT as it was. So is the file
-/// that a symbolic link OUT leads to. Anything else, as a device, a pipe or a link to nothing, is
-/// written as it stands, and so is OUT where no file can be made beside it, or where that can't
-/// become OUT.
+/// name beside it that then becomes OUT: a write that fails leaves OUT as it was. So is the file that
+/// a symbolic link OUT leads to. Anything else, as a device, a pipe or a link to nothing, is written
+/// as it stands, and so is OUT where no file can be made beside it, or where that can't become OUT.
 ///
 /// # Errors
 /// `Io` where OUT can't be written, `Memory`.
@@ -72,9 +82,13 @@ pub fn write<C: FileContents>(
     contents: &C,
     output: &str,
 ) -> Result<(), FileError> {
-    let is_done = match place_of(rt, output)? {
-        Some((path, access)) => is_replaced(rt, contents, path.as_str(), access)?,
-        None => false,
+    let is_done = match standing_of(rt, output)? {
+        Standing::File(access) => is_replaced(rt, contents, output, access)?,
+        Standing::Link(access) => match target_of(rt, output) {
+            Some(path) => is_replaced(rt, contents, path.as_str(), Some(access))?,
+            None => false,
+        },
+        Standing::Other => false,
     };
     if !is_done {
         let file = File::options().write(true).create(true).open(rt, output)?;
@@ -83,16 +97,10 @@ pub fn write<C: FileContents>(
     Ok(())
 }
 
-/// The file in whose place OUT is written: OUT, where it is a regular file or nothing, or the one
-/// that a link there leads to. And who may read and write it: it must be one that may be written.
-/// None where anything else stands there.
-fn place_of(
-    rt: &HostRuntime,
-    output: &str,
-) -> Result<Option<(PathBuf, Option<Access>)>, FileError> {
-    let path = PathBuf::from_str(rt.alloc(), output)?;
+/// What stands at OUT; a regular file there, or behind a link, must be one that may be written.
+fn standing_of(rt: &HostRuntime, output: &str) -> Result<Standing, FileError> {
     let Ok(own) = fs::symlink_metadata(rt, output) else {
-        return Ok(Some((path, None)));
+        return Ok(Standing::File(None));
     };
     let is_link = own.is_symlink();
     let found = if is_link {
@@ -107,14 +115,13 @@ fn place_of(
                 mode: metadata.mode() & 0o777,
                 group: metadata.gid(),
             };
-            let path = if is_link {
-                target_of(rt, output)
+            Ok(if is_link {
+                Standing::Link(access)
             } else {
-                Some(path)
-            };
-            Ok(path.map(|path| (path, Some(access))))
+                Standing::File(Some(access))
+            })
         }
-        _ => Ok(None),
+        _ => Ok(Standing::Other),
     }
 }
 
