@@ -77,6 +77,7 @@ pub(crate) struct PlaceRead {
 /// bytes: these are read once.
 #[derive(Drop)]
 pub(crate) struct Remembered<'a> {
+    alloc: Global,
     tables: TablesByTurns<'a>,
     shared: BTreeMap<[u64; 3], PlaceRead>,
 }
@@ -88,6 +89,7 @@ impl<'a> Remembered<'a> {
     {
         let order = pack.order();
         Remembered {
+            alloc,
             tables: TablesByTurns {
                 alloc,
                 order,
@@ -119,21 +121,22 @@ impl<'a> Remembered<'a> {
             let place = UnitPlace::of(unit, object);
             if let Some(read) = self.shared.get(&place.key()) {
                 if read.place == place {
-                    return own_fault(self.tables.alloc, &read.own, object);
+                    return own_fault(self.alloc, &read.own, object);
                 }
             }
-            let own = read(&mut self.tables, pack, object, unit)?;
-            let text = own_fault(self.tables.alloc, &own, object)?;
+            let own = read(self.alloc, &mut self.tables, pack, object, unit)?;
+            let text = own_fault(self.alloc, &own, object)?;
             self.shared.insert(place.key(), PlaceRead { place, own })?;
             return Ok(text);
         }
-        let own = read(&mut self.tables, pack, object, unit)?;
-        own_fault(self.tables.alloc, &own, object)
+        let own = read(self.alloc, &mut self.tables, pack, object, unit)?;
+        own_fault(self.alloc, &own, object)
     }
 }
 
 /// Reads what a unit's own bytes say of its identifier.
 fn read<'a>(
+    alloc: Global,
     tables: &mut TablesByTurns<'a>,
     pack: &PackageFile<'a>,
     object: DwarfObject,
@@ -145,13 +148,14 @@ fn read<'a>(
     ensures kept { tables.new ≡ tables.old }
 {
     match header_of(unit, object, pack.order()) {
-        Ok(header) => read_behind(tables, unit, &header),
-        Err(error) => Ok(OwnIdentifier::Unread(format!(in tables.alloc; "{error}")?)),
+        Ok(header) => read_behind(alloc, tables, unit, &header),
+        Err(error) => Ok(OwnIdentifier::Unread(format!(in alloc; "{error}")?)),
     }
 }
 
 /// The identifier that a unit with this header says itself, by its abbreviations.
 fn read_behind<'a>(
+    alloc: Global,
     tables: &mut TablesByTurns<'a>,
     unit: &PackagedUnit<'a>,
     header: &UnitHeader<SliceReader<'a>>,
@@ -170,7 +174,7 @@ fn read_behind<'a>(
     match tables.identifier(start as usize, end as usize, header) {
         Ok(Some(own)) => Ok(OwnIdentifier::Is(own)),
         Ok(None) => Ok(OwnIdentifier::Nameless),
-        Err(error) => Ok(OwnIdentifier::Unread(format!(in tables.alloc; "{error}")?)),
+        Err(error) => Ok(OwnIdentifier::Unread(format!(in alloc; "{error}")?)),
     }
 }
 
