@@ -24,14 +24,8 @@ use thorin_errors::Error;
 use thorin_find::{header_of, short_kind};
 use thorin_identity::RangeTables;
 
-/// What a unit's own bytes say of its identifier.
-#[derive(Drop)]
-pub(crate) enum OwnIdentifier {
-    Is(DwarfObject),
-    Nameless,
-    /// Why it can't be read.
-    Unread(String),
-}
+/// The identifier that a unit's own bytes give, where it has one; or why it can't be read.
+type OwnIdentifier = Result<Option<DwarfObject>, String>;
 
 /// The places of a unit's own bytes and its abbreviations: what they say depends on nothing else.
 #[derive(Clone, Copy, PartialEq)]
@@ -149,7 +143,7 @@ fn read<'a>(
 {
     match header_of(unit, object, pack.order()) {
         Ok(header) => read_behind(alloc, tables, unit, &header),
-        Err(error) => Ok(OwnIdentifier::Unread(format!(in alloc; "{error}")?)),
+        Err(error) => Ok(Err(format!(in alloc; "{error}")?)),
     }
 }
 
@@ -172,9 +166,8 @@ fn read_behind<'a>(
         .saturating_add(size)
         .min(tables.first.bytes().len() as u64);
     match tables.identifier(start as usize, end as usize, header) {
-        Ok(Some(own)) => Ok(OwnIdentifier::Is(own)),
-        Ok(None) => Ok(OwnIdentifier::Nameless),
-        Err(error) => Ok(OwnIdentifier::Unread(format!(in alloc; "{error}")?)),
+        Ok(own) => Ok(Ok(own)),
+        Err(error) => Ok(Err(format!(in alloc; "{error}")?)),
     }
 }
 
@@ -195,7 +188,7 @@ fn own_fault(
     ensures { IsTextOf (TellsOwn object (said_of own.now)) object result }
 {
     match own {
-        OwnIdentifier::Is(own) => {
+        Ok(Some(own)) => {
             if *own == object {
                 return Ok(None);
             }
@@ -203,8 +196,8 @@ fn own_fault(
             let id = own.index();
             some(format!(in alloc; "its own identifier is {kind} 0x{id:016x}"))
         }
-        OwnIdentifier::Nameless => some(format!(in alloc; "it has no identifier of its own")),
-        OwnIdentifier::Unread(cause) => {
+        Ok(None) => some(format!(in alloc; "it has no identifier of its own")),
+        Err(cause) => {
             let cause = cause.as_str();
             some(format!(in alloc; "its own identifier can't be read: {cause}"))
         }
