@@ -17,7 +17,6 @@ pub use Rattle.thorin_check.specs.Rendering.{fault_text, FaultValue, of_executab
 pub use Rattle.thorin_check.specs.Telling.{counted_on, fault_count, ForEach, Is, IsFault, Progress}
 pub use Rattle.thorin_check.specs.Telling.{InTurn, so_far, Tells, TellsOr, Told}
 pub use Rattle.std.proofs.lemmas.Bool.Decides.{nat_tests}
-pub use Rattle.thorin_find.proofs.Pieces.{exit_is}
 pub use Rattle.std.proofs.lemmas.List.{drop-take, get_or_default, map-append, take_more}
 pub use Rattle.std.proofs.lemmas.Option.{same_Some}
 pub use Rattle.std.specs.List.{All, AllPairs, Contains, flat_map, IsAmong, list_any, range_with_len}

@@ -8,7 +8,8 @@ use Rattle.thorin_check.proofs.Terms.{codes, false, grown, IfOk, List, min, None
 use Rattle.thorin_check.proofs.Terms.{arith, get_or, length, own_of, Prints, Result, String, Tells}
 use Rattle.thorin_check.proofs.Terms.{append-nil, counted_on, fault_text, IsSomeText, of_package}
 use Rattle.thorin_check.proofs.Terms.{decimal, Global, InTurn, of_unit, Option, Outcome, TellsOr}
-use Rattle.thorin_check.proofs.Terms.{Ok, refl, sym, take, true}
+use Rattle.thorin_check.proofs.Terms.{ap, Ok, refl, sym, take, true}
+use Rattle.std.specs.Result.{IsErrAnd}
 use Rattle.thorin_check.specs.Faults.{TellsItself, TellsString, TellsStrings, TellsStringsOf}
 use Rattle.thorin_check.specs.Faults.{IsBroken, string_text, TellsFound, TellsOwn, TellsUnit}
 use Rattle.std.proofs.KnownBytes.{Appends-nil, Appends-trans}
@@ -17,6 +18,11 @@ use Rattle.thorin_print.specs.{declared.form.Form.Form, Shown.shown}
 use Rattle.dwp_index.specs.Package.{found, FoundUnit, Package}
 use Rattle.thorin_check.specs.{Faults.is_bare, Overlaps.IsClash}
 use Rattle.thorin_words.specs.Printed.{printed}
+
+-- what the exit of a `?` answers
+pub exit_is : {T E : Type 0} {e : E} (r : Result T E) → IsErrAnd r (λ y. y ≡ e) → r ≡ Err e
+exit_is (Ok x) h = absurd h
+exit_is (Err y) h = ap Err h
 
 -- ---- how many
 

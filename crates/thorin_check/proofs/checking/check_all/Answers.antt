@@ -1,5 +1,5 @@
-use Rattle.thorin_check.proofs.{Checked.of_printing, Checked.reading_one, Terms.exit_is}
-use Rattle.thorin_check.proofs.Told.{in_turn, stopped_behind, told_all, told_next, told_then}
+use Rattle.thorin_check.proofs.Told.{exit_is, stopped_behind, told_all, told_next, told_then}
+use Rattle.thorin_check.proofs.{Checked.of_printing, Checked.reading_one, Told.in_turn}
 use Rattle.thorin_check.proofs.checking.check_all.Goals as goal
 
 pub returns-in_err-check_units : goal.returns-in_err-check_units

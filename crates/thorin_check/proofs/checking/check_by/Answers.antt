@@ -1,6 +1,6 @@
-use Rattle.thorin_check.proofs.Checked.{checked, file_checked, file_malformed, not_checked}
-use Rattle.thorin_check.proofs.Checked.{file_without_index, printed_some}
-use Rattle.thorin_check.proofs.Terms.{exit_is, grown, refl}
+use Rattle.thorin_check.proofs.Checked.{checked, file_checked, file_malformed, file_without_index}
+use Rattle.thorin_check.proofs.Checked.{not_checked, printed_some}
+use Rattle.thorin_check.proofs.{Terms.grown, Terms.refl, Told.exit_is}
 use Rattle.thorin_check.proofs.checking.check_by.Goals as goal
 
 pub returns-in_err-bytes : goal.returns-in_err-bytes

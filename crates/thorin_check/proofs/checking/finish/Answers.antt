@@ -1,4 +1,5 @@
-use Rattle.thorin_check.proofs.Terms.{arith, exit_is, flushed, nat_tests, not_flushed}
+use Rattle.thorin_check.proofs.Terms.{arith, flushed, nat_tests, not_flushed}
+use Rattle.thorin_check.proofs.Told.{exit_is}
 use Rattle.thorin_check.proofs.checking.finish.Goals as goal
 
 pub returns-in_err-print : goal.returns-in_err-print

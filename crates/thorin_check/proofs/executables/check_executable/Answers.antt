@@ -1,5 +1,5 @@
-use Rattle.thorin_check.proofs.Terms.{exit_is, rules, ◌≡◌}
-use Rattle.thorin_check.specs.Faults.{room_of}
+use Rattle.thorin_check.proofs.Terms.{rules, ◌≡◌}
+use Rattle.thorin_check.{proofs.Told.exit_is, specs.Faults.room_of}
 use Rattle.thorin_check.proofs.Checked.{executable_read, executable_unread, named_broken}
 use Rattle.thorin_check.proofs.executables.check_executable.Goals as goal
 

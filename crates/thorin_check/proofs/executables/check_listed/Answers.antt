@@ -1,6 +1,6 @@
-use Rattle.thorin_check.proofs.Terms.{IsOfPrinting, exit_is, refl}
+use Rattle.thorin_check.proofs.Told.{exit_is, none_told, stopped_behind, told_as, told_then}
+use Rattle.thorin_check.proofs.{Terms.IsOfPrinting, Terms.refl, Told.then_or}
 use Rattle.thorin_check.proofs.Checked.{broken_behind, on_bare, on_end, on_long, on_next}
-use Rattle.thorin_check.proofs.Told.{none_told, told_then, told_as, then_or, stopped_behind}
 use Rattle.thorin_check.proofs.executables.check_listed.Goals as goal
 
 pub loop-unit-init : goal.loop-unit-init

@@ -1,8 +1,8 @@
-use Rattle.thorin_check.proofs.Terms.{All, exit_is, IsOfUnit, none_grown, Ok, sym, ◌∙◌}
+use Rattle.thorin_check.proofs.Terms.{All, IsOfUnit, none_grown, Ok, sym, ◌∙◌}
 use Rattle.thorin_check.proofs.Distinct.{first_again, first_more, first_none, listed_before}
-use Rattle.std.proofs.lemmas.List.Sorted.{All-permutation}
+use Rattle.thorin_check.proofs.Told.{exit_is, none_told, stopped_behind, told_as, told_then}
 use Rattle.thorin_check.proofs.{Distinct.first_all, SharedStrings.same_range}
-use Rattle.thorin_check.proofs.Told.{none_told, stopped_behind, told_as, told_then}
+use Rattle.std.proofs.lemmas.List.Sorted.{All-permutation}
 use Rattle.thorin_check.proofs.strings.check_strings.Goals as goal
 
 pub loop-i-init : goal.loop-i-init

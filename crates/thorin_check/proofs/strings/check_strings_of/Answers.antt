@@ -1,8 +1,8 @@
-use Rattle.thorin_check.proofs.Terms.{arith, exit_is, Ok, refl, string_of}
+use Rattle.thorin_check.proofs.Told.{exit_is, for_each_more, none_told, strings_some, text_stopped}
+use Rattle.thorin_check.proofs.Terms.{arith, Ok, refl, string_of}
+use Rattle.thorin_check.proofs.{SharedStrings.of_found, Told.text_told, Told.told_then}
 use Rattle.std.proofs.lemmas.List.FromFn.{map-range_with_len_more}
-use Rattle.thorin_check.{proofs.SharedStrings.of_found, specs.Faults.TellsNumbered}
-use Rattle.thorin_check.proofs.Told.{for_each_more, none_told, strings_some, text_stopped}
-use Rattle.thorin_check.proofs.Told.{text_told, told_then}
+use Rattle.thorin_check.specs.Faults.{TellsNumbered}
 use Rattle.thorin_check.proofs.strings.check_strings_of.Goals as goal
 
 pub returns-in-Ok-None : goal.returns-in-Ok-None

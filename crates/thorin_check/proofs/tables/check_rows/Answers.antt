@@ -1,6 +1,6 @@
-use Rattle.thorin_check.proofs.Terms.{exit_is, sym, ◌∙◌}
-use Rattle.thorin_check.proofs.NamedRows.{covers_none, covers_told, covers_all}
-use Rattle.thorin_check.proofs.Told.{none_told, then_or, stopped_behind}
+use Rattle.thorin_check.proofs.Terms.{sym, ◌∙◌}
+use Rattle.thorin_check.proofs.Told.{exit_is, none_told, stopped_behind, then_or}
+use Rattle.thorin_check.proofs.NamedRows.{covers_all, covers_none, covers_told}
 use Rattle.thorin_check.proofs.tables.check_rows.Goals as goal
 
 pub loop-i-init : goal.loop-i-init

@@ -1,6 +1,6 @@
-use Rattle.thorin_check.proofs.Terms.{contribution_kinds, exit_is, not, ◌&&◌, ◌≡◌}
-use Rattle.thorin_check.proofs.Told.{in_turn, stopped_behind, then_or, told_all, told_next}
-use Rattle.thorin_check.proofs.{Terms.rules, Told.told_then}
+use Rattle.thorin_check.proofs.Terms.{contribution_kinds, not, rules, ◌&&◌, ◌≡◌}
+use Rattle.thorin_check.proofs.Told.{exit_is, stopped_behind, told_all, told_next, told_then}
+use Rattle.thorin_check.proofs.Told.{in_turn, then_or}
 use Rattle.thorin_check.specs.Faults.{lacks_abbreviations, lacks_strings}
 use Rattle.thorin_check.proofs.tables.check_tables.Goals as goal
 

@@ -1,5 +1,5 @@
-use Rattle.thorin_check.proofs.Terms.{arith, Err, exit_is, Ok, rules, ◌≡◌}
-use Rattle.thorin_check.{proofs.NamedRows.row_or, specs.Faults.row_text}
+use Rattle.thorin_check.proofs.Terms.{arith, Err, Ok, rules, ◌≡◌}
+use Rattle.thorin_check.{proofs.NamedRows.row_or, proofs.Told.exit_is, specs.Faults.row_text}
 use Rattle.thorin_check.proofs.tables.tell_rows.Goals as goal
 
 pub loop-row-preserved : goal.loop-row-preserved

@@ -1,6 +1,5 @@
-use Rattle.thorin_check.proofs.Terms.{exit_is}
-use Rattle.thorin_check.proofs.Distinct.{text_made, text_seen, seen_next, units_apart, units_then}
-use Rattle.thorin_check.proofs.Told.{text_stopped, then_or, told_all}
+use Rattle.thorin_check.proofs.Told.{exit_is, text_stopped, then_or, told_all}
+use Rattle.thorin_check.proofs.Distinct.{seen_next, text_made, text_seen, units_apart, units_then}
 use Rattle.thorin_check.proofs.units.check_units.Goals as goal
 
 pub loop-i-preserved : goal.loop-i-preserved

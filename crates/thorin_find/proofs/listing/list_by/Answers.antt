@@ -1,12 +1,12 @@
-use Rattle.thorin_find.proofs.Pieces.{exit_is}
+use Rattle.std.proofs.lemmas.Result.{err_from_is_err_and}
 use Rattle.thorin_find.proofs.Listed.{begun_listing, file_listed, file_malformed, not_listed}
 use Rattle.thorin_find.proofs.Listed.{rest_begun, whole_listing}
 use Rattle.thorin_find.proofs.listing.list_by.Goals as goal
 
 pub returns-in_err-bytes : goal.returns-in_err-bytes
 returns-in_err-bytes g c =
-    rw (exit_is c.from_residual.result c.from_residual.ensures.1) (not_listed _ _ _ _ _
-    c.in_err-bytes.ensures.refused)
+    let p = err_from_is_err_and c.from_residual.result c.from_residual.ensures.1 in
+    rw (p.1, p.2) (not_listed _ _ _ _ _ c.in_err-bytes.ensures.refused)
 
 pub returns-in_default : goal.returns-in_default
 returns-in_default g c =
@@ -16,8 +16,9 @@ returns-in_default g c =
 pub returns-in_err-is_all : goal.returns-in_err-is_all
 returns-in_err-is_all g c =
     let exit = c.from_residual-in_err-is_all in
-    rw (exit_is exit.result exit.ensures.1) (file_listed _ _ _ _ _ _ _ _ _
-    c.in_ok-bytes.ensures.read c.as_slice.ensures.value c.in-Ok.ensures
+    let p = err_from_is_err_and exit.result exit.ensures.1 in
+    rw (p.1, p.2) (file_listed _ _ _ _ _ _ _ _ _ c.in_ok-bytes.ensures.read
+    c.as_slice.ensures.value c.in-Ok.ensures
     (begun_listing _ _ c.as_slice-entries.result.now
     (rw c.as_slice-entries.ensures.value c.in_ok-entries.ensures) _ _ _
     c.in_err-is_all.ensures.part))
@@ -25,8 +26,9 @@ returns-in_err-is_all g c =
 pub returns-in_err-given : goal.returns-in_err-given
 returns-in_err-given g c =
     let exit = c.from_residual-in_err-given in
-    rw (exit_is exit.result exit.ensures.1) (file_listed _ _ _ _ _ _ _ _ _
-    c.in_ok-bytes.ensures.read c.as_slice.ensures.value c.in-Ok.ensures
+    let p = err_from_is_err_and exit.result exit.ensures.1 in
+    rw (p.1, p.2) (file_listed _ _ _ _ _ _ _ _ _ c.in_ok-bytes.ensures.read
+    c.as_slice.ensures.value c.in-Ok.ensures
     (rest_begun _ _ c.as_slice-entries.result.now
     (rw c.as_slice-entries.ensures.value c.in_ok-entries.ensures) _ _ _ _
     c.in_ok-is_all.ensures.lines))
