@@ -150,7 +150,7 @@ fn die_of<'a>(
 }
 
 /// What is read at most.
-#[tactic(auto, using(std::proofs::lemmas::List::take_all, std::proofs::lemmas::Bool::Decides::nat_tests), unfolding(dwp_bytes::specs::Input::truncate_at))]
+#[tactic(auto, unfolding(dwp_bytes::specs::Input::truncate_at))]
 fn beginning<R: Reader>(mut reader: R) -> R
     ensures { R.input result ≡ front spec.most_read (R.input reader) }
 {
