@@ -1,17 +1,14 @@
 -- Ranges that don't overlap, unless they are the same, and are read alike.
-use Rattle.thorin_check.proofs.Terms.{Abbrev, ℕ, ◌&&◌, ◌+◌, ◌-◌, ◌<◌, ◌^◌, ◌||◌, ◌∙◌, ◌≡◌, ◌≤◌, ◌⊎◌}
-use Rattle.thorin_check.proofs.Terms.{AreReadAlike, Contribution, get_or_default, IsPermutation, Ok}
-use Rattle.thorin_check.proofs.Terms.{AllPairs, AreApartIn, column_place, contribution, SectionKind}
-use Rattle.thorin_check.proofs.Terms.{below_more, HasRanges, Index, nat_tests, ReadError, UnitEntry}
-use Rattle.thorin_check.proofs.Terms.{by-bool, Err, IsApart, IsLast, IsSame, Option, Ranges, Result}
-use Rattle.thorin_check.proofs.Terms.{AreApart, Contains, HasRange, range_in, same_Some, tables_by}
-use Rattle.thorin_check.proofs.Terms.{arith, false, get_or, length, nat_eq, nat_le, nat_lt, row_in}
-use Rattle.thorin_check.proofs.Terms.{Bool, inl, inr, List, min, None, not, refl, Some, take, true}
-use Rattle.thorin_check.{proofs.Terms.sym, specs.declared.overlaps.Placed.Placed}
-use Rattle.dwp_base.proofs.Bools.{neither}
+use Rattle.thorin_check.proofs.Terms
+use Terms.{AreApartIn, AreReadAlike, Contribution, get_or_default, IsPermutation, SectionKind, ◌&&◌}
+use Terms.{AllPairs, AreApart, below_more, Contains, HasRanges, nat_tests, tables_by, UnitEntry}
+use Terms.{Abbrev, get_or, HasRange, IsApart, IsLast, IsSame, length, nat_le, Option, range_in, ◌+◌}
+use Terms.{arith, Bool, false, Index, List, nat_lt, None, refl, Some, take, true, ℕ, ◌-◌, ◌<◌, ◌||◌}
+use Terms.{inl, inr, min, not, ◌^◌, ◌∙◌, ◌≡◌, ◌≤◌, ◌⊎◌}
+use Rattle.{dwp_base.proofs.Bools.neither, thorin_check.specs.declared.overlaps.Placed.Placed}
 use Rattle.std.proofs.{lemmas.List.Elements.All-more, lemmas.List.Sorted.Contains-permutation}
 use Rattle.dwp_index.specs.Package.{index_for, Package}
-use Rattle.thorin_check.specs.Overlaps.{overlap, range_by_index, row_range, same_range, slot_range}
+use Rattle.thorin_check.specs.Overlaps.{overlap, range_by_index, same_range, slot_range}
 
 -- two ranges that are the same, or both absent
 pub one_range : (a b : Option Contribution) → same_range a b ≡ true → a ≡ b

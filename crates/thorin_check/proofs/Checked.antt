@@ -1,12 +1,11 @@
 -- What was told of the units that an executable names, and what was checked.
-use Rattle.thorin_check.proofs.Terms.{AreByRow, Bool, Is, [], ℕ, ◌++◌, ◌+◌, ◌<◌, ◌∷◌, ◌≡◌, ◌≢◌, ◌≤◌}
-use Rattle.thorin_check.proofs.Terms.{append_assoc, Grows, has_no_index, IsOfPrinting, PackageError}
-use Rattle.thorin_check.proofs.Terms.{Executables, FailsToRead, fault_count, Progress, skeletons_by}
-use Rattle.thorin_check.proofs.Terms.{append-nil, Bor, FaultValue, nat_tests, none_grown, UnitEntry}
-use Rattle.thorin_check.proofs.Terms.{arith, false, List, None, OnOk, refl, Some, subst, Told, true}
-use Rattle.thorin_check.proofs.Terms.{Failure, IsFault, Listed, of_unit, Outcome, Reading, TellsOr}
-use Rattle.thorin_check.proofs.Terms.{get_or, length, Named, Offer, Option, Prints, Result, Tells}
-use Rattle.thorin_check.proofs.Terms.{Err, inl, inr, Ok, suc, zero}
+use Rattle.thorin_check.proofs.Terms
+use Terms.{append_assoc, Executables, Grows, has_no_index, IsOfPrinting, PackageError, skeletons_by}
+use Terms.{append-nil, Bool, FailsToRead, fault_count, FaultValue, nat_tests, none_grown, UnitEntry}
+use Terms.{AreByRow, Failure, get_or, IsFault, Listed, of_unit, Outcome, Progress, Reading, TellsOr}
+use Terms.{arith, false, Is, length, List, Named, Offer, Option, Prints, Result, subst, Tells, ◌++◌}
+use Terms.{Bor, Err, inl, None, OnOk, refl, Some, Told, true, zero, ℕ, ◌+◌, ◌<◌, ◌∷◌, ◌≡◌, ◌≢◌, ◌≤◌}
+use Terms.{inr, Ok, suc, []}
 use Rattle.thorin_check.specs.Faults.{longest_path, missing_faults, missing_text, TellsListed}
 use Rattle.thorin_check.specs.Faults.{bare_fault, IsBroken, long_bytes, long_size, TellsNamed}
 use Rattle.thorin_check.specs.Faults.{room_of, TellsEnd}

@@ -1,12 +1,11 @@
 -- Units that are told of, one of each range of string offsets.
-use Rattle.thorin_check.proofs.Terms.{All, Bool, [], ℕ, ◌&&◌, ◌++◌, ◌+◌, ◌<◌, ◌∙◌, ◌∷◌, ◌≡◌, ◌≤◌}
-use Rattle.thorin_check.proofs.Terms.{contribution_kinds, IsGatheredIn, IsPermutation, PackageError}
-use Rattle.thorin_check.proofs.Terms.{AllPairs, ForEach, nat_tests, same_Some, TellsText, UnitEntry}
-use Rattle.thorin_check.proofs.Terms.{AreApart, IsOfUnit, IsTextOf, Ok, Outcome, Progress, take_all}
-use Rattle.thorin_check.proofs.Terms.{get_or, Global, IfOk, IsSeen, Option, Result, same-ok, String}
-use Rattle.thorin_check.proofs.Terms.{DwarfObject, FaultValue, IsGathered, StringRange, TellsSeen}
-use Rattle.thorin_check.proofs.Terms.{arith, false, length, List, nat_eq, None, OnOk, Some, Tells}
-use Rattle.thorin_check.proofs.Terms.{Err, refl, sym, take, Told}
+use Rattle.thorin_check.proofs.Terms
+use Terms.{contribution_kinds, DwarfObject, IsGatheredIn, IsPermutation, PackageError, StringRange}
+use Terms.{AllPairs, FaultValue, IsGathered, nat_tests, same_Some, TellsSeen, TellsText, UnitEntry}
+use Terms.{All, AreApart, ForEach, get_or, IsOfUnit, IsTextOf, Outcome, Progress, same-ok, take_all}
+use Terms.{arith, Bool, false, Global, IsSeen, length, nat_eq, Option, Result, String, Tells, ◌&&◌}
+use Terms.{Err, IfOk, List, None, OnOk, refl, Some, take, Told, ◌++◌, ◌+◌, ◌<◌, ◌∙◌, ◌∷◌, ◌≡◌, ◌≤◌}
+use Terms.{Ok, sym, [], ℕ}
 use Rattle.std.proofs.lemmas.List.Elements.{All-get_or, All-more, All-nil, All-push, All-weaker}
 use Rattle.std.proofs.lemmas.List.Elements.{All-contains, Contains-append_left, Contains-push}
 use Rattle.std.proofs.lemmas.List.Quantifiers.{all_pairs_push}

@@ -1,21 +1,17 @@
 -- The rows that no slot names.
-use Rattle.thorin_check.proofs.Terms.{All, Is, [], ℕ, ◌++◌, ◌+◌, ◌-◌, ◌<◌, ◌∙◌, ◌∷◌, ◌≡◌, ◌≤◌, ◌⊎◌}
-use Rattle.thorin_check.proofs.Terms.{DebugTypeSignature, get_or_default, range_with_len, TellsWhat}
-use Rattle.thorin_check.proofs.Terms.{inl, IsOfPrinting, IsSortedByKey, place_of_line, string_bytes}
-use Rattle.thorin_check.proofs.Terms.{get_or, Global, inr, IsFault, length, Outcome, Result, String}
-use Rattle.thorin_check.proofs.Terms.{below_more, Compilation, DwarfObject, FaultValue, map-append}
-use Rattle.thorin_check.proofs.Terms.{Contains, nat_tests, place_by, Progress, TypeUnit, UnitEntry}
-use Rattle.thorin_check.proofs.Terms.{arith, Bool, false, IfOk, List, map, refl, Tells, Told, true}
-use Rattle.thorin_check.proofs.Terms.{sym}
+use Rattle.thorin_check.proofs.Terms
+use Terms.{get_or_default, IsOfPrinting, IsSortedByKey, place_of_line, range_with_len, string_bytes}
+use Terms.{below_more, DwarfObject, FaultValue, get_or, map-append, nat_tests, TellsWhat, UnitEntry}
+use Terms.{arith, Contains, Global, IsFault, length, Outcome, place_by, Progress, Result, String, ℕ}
+use Terms.{All, Bool, false, IfOk, Is, List, refl, Tells, Told, true, ◌++◌, ◌+◌, ◌-◌, ◌<◌, ◌∙◌, ◌∷◌}
+use Terms.{inl, inr, map, sym, [], ◌≡◌, ◌≤◌, ◌⊎◌}
 use Rattle.std.proofs.lemmas.List.Elements.{All-append, Contains-append_left, Contains-append_right}
 use Rattle.std.proofs.lemmas.List.Elements.{All-from_get_or, All-nil, Contains-get_or}
 use Rattle.std.proofs.lemmas.List.FromFn.{get_or-range_with_len, map-range_with_len_more}
 use Rattle.thorin_check.specs.Faults.{IsUnnamed, row_fault, row_faults, row_text, TellsRowsOf}
 use Rattle.thorin_check.specs.Faults.{is_next, is_of, IsNamed}
 use Rattle.std.{proofs.lemmas.List.FromFn.length-range_with_len, specs.Ordering.nat_cmp}
-use Rattle.std.proofs.lemmas.List.Sorted.{IsNonDecreasingBy-from_sort}
-use Rattle.dwp_base.proofs.Bools.{both}
-use Rattle.dwp_table.specs.declared.object.DwoId.{DwoId}
+use Rattle.{dwp_base.proofs.Bools.both, std.proofs.lemmas.List.Sorted.IsNonDecreasingBy-from_sort}
 use Rattle.thorin_check.proofs.Told.{none_told, then_or, told_as, told_then, what_told}
 
 -- ---- rows that are told one after the other

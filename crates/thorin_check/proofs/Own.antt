@@ -1,30 +1,23 @@
 -- The unit that a look-up finds is that of a row, whose ranges lie inside their sections; and the
 -- identifiers that units' own bytes give.
-use Rattle.thorin_check.proofs.Terms.{All, Bool, Err, Ok, [], ℕ, ◌++◌, ◌+◌, ◌-◌, ◌∙◌, ◌∷◌, ◌≡◌, ◌≤◌}
-use Rattle.thorin_check.proofs.Terms.{Contribution, contribution_kinds, DebugTypeSignature, IsAmong}
-use Rattle.thorin_check.proofs.Terms.{column_place, DwarfObject, Endianness, PlaceRead, SectionKind}
-use Rattle.thorin_check.proofs.Terms.{column_of, drop-take, IsTrue, nat_tests, ReadError, result_ok}
-use Rattle.thorin_check.proofs.Terms.{content, length, nat_eq, Option, Ranges, Result, same-ok, sym}
-use Rattle.thorin_check.proofs.Terms.{arith, false, Index, List, None, own_by, own_of, row_in, Some}
-use Rattle.thorin_check.proofs.Terms.{bind-was, by-bool, range_in, same_Some, Sections, TypeUnit}
-use Rattle.dwp_index.specs.Package.{encoding_in, first_outside, found_counted, lies_inside, Package}
-use Rattle.dwp_index.specs.Package.{as_error, found_by, index_for, kind_of, place_of, row_bytes}
-use Rattle.dwp_index.specs.Package.{FoundUnit, is_outside, unit_at_row}
-use Rattle.dwp_index.proofs.PackageLookUp.{by_row}
-use Rattle.std.proofs.Common.{option_map}
+use Rattle.thorin_check.proofs.Terms
+use Terms.{column_place, Contribution, contribution_kinds, DwarfObject, Endianness, Ok, SectionKind}
+use Terms.{column_of, drop-take, nat_tests, PlaceRead, range_in, result_ok, same_Some, Sections, []}
+use Terms.{Bool, by-bool, content, IsAmong, IsTrue, length, nat_eq, Option, own_by, Ranges, same-ok}
+use Terms.{All, arith, false, find, List, None, own_of, refl, row_in, Some, true, ℕ, ◌++◌, ◌+◌, ◌-◌}
+use Terms.{sym, ◌∙◌, ◌∷◌, ◌≡◌, ◌≤◌}
+use Rattle.dwp_index.specs.Package.{first_outside, found_counted, lies_inside, Package, unit_at_row}
+use Rattle.dwp_index.specs.Package.{FoundUnit, index_for, is_outside, kind_of, place_of, row_bytes}
 use Rattle.dwp_index.specs.Package.{found, part_of, unit_in}
 use Rattle.thorin_check.specs.Remembered.{bytes_at, is_in_types, IsReadIn, numbers_of, section_by}
 use Rattle.thorin_check.specs.Remembered.{own_at, place_in, said_of}
-use Rattle.thorin_check.proofs.Terms.{ap, find, refl, true}
+use Rattle.{dwp_bytes.specs.Input.section, dwp_index.proofs.PackageLookUp.by_row}
+use Rattle.std.proofs.{Common.option_map, lemmas.Map.Views.All-values-insert_entry}
 use Rattle.dwp_base.proofs.EveryKind.{each, HoldsAll}
-use Rattle.dwp_index.specs.Finding.{LiesInside, own_bytes, own_place, unit_of}
-use Rattle.dwp_table.specs.{Objects.identifier_of, Probing.found_row}
+use Rattle.dwp_index.specs.Finding.{LiesInside, own_bytes, own_place}
 use Rattle.std.specs.{BTreeMap.insert_entry, declared.cmp.Ordering.Ordering, Map.values_of}
-use Rattle.std.proofs.lemmas.Map.Views.{All-values-insert_entry}
-use Rattle.dwp_bytes.specs.Input.{section}
-use Rattle.dwp_units.specs.Units.{Unit as Header, units}
-use Rattle.dwp_units.specs.declared.unit.UnitSection.{UnitSection}
-use Rattle.dwp_units.specs.declared.unit.UnitSection.TheVariants.{Info, Types}
+use Rattle.dwp_units.specs.{declared.unit.UnitSection.TheVariants.Types, Units.Unit as Header}
+use Rattle.dwp_units.specs.{declared.unit.UnitSection.UnitSection, Units.units}
 use Rattle.thorin_find.specs.Names.{first_of, header_in}
 use Rattle.thorin_identity.specs.Identity.{identity}
 use Rattle.thorin_check.specs.{declared.abbreviations.UnitPlace.UnitPlace, Faults.is_of}
@@ -67,9 +60,7 @@ module _ (contents : Sections) (row : Ranges) where
       (λ kind. inside_of (content contents kind) (range_in row kind)) contribution_kinds
       (kinds.Str ∷ kinds.CuIndex ∷ kinds.TuIndex ∷ []) (
         absent_inside kinds.Str refl refl,
-        absent_inside kinds.CuIndex refl refl,
-        absent_inside kinds.TuIndex refl refl,
-        tt,
+        (absent_inside kinds.CuIndex refl refl, (absent_inside kinds.TuIndex refl refl, tt)),
       ) e)
 
 -- ---- the unit that is found

@@ -1,23 +1,19 @@
 -- Which strings end, as the last zero byte of all tells, and the strings of units, by the string
 -- offsets that they share.
-use Rattle.thorin_check.proofs.Terms.{AllEnd, Err, [], ℕ, ◌++◌, ◌+◌, ◌-◌, ◌<◌, ◌∙◌, ◌∷◌, ◌≡◌, ◌≤◌}
-use Rattle.thorin_check.proofs.Terms.{Contribution, get_or_default, IsGatheredIn, PackageError, Str}
-use Rattle.thorin_check.proofs.Terms.{DwarfObject, get_or-drop, is_inside, length-drop, StringRange}
-use Rattle.thorin_check.proofs.Terms.{IsTrue, nat_tests, same_Some, string_at, string_in, string_of}
-use Rattle.thorin_check.proofs.Terms.{entry_in, eqb, HasEnds, IsOfUnit, IsReach, list_any, range_in}
-use Rattle.thorin_check.proofs.Terms.{arith, content, false, length, List, None, Ok, Option, Result}
-use Rattle.thorin_check.proofs.Terms.{Endianness, IsGathered, option_map, result_err, StrOffsets}
-use Rattle.thorin_check.proofs.Terms.{ap, drop, inl, inr, refl, Some, sym, true}
-use Rattle.std.specs.Option.{option_eq}
+use Rattle.thorin_check.proofs.Terms
+use Terms.{Contribution, DwarfObject, get_or-drop, get_or_default, IsGatheredIn, PackageError, ◌++◌}
+use Terms.{Endianness, IsGathered, length-drop, option_map, result_err, StringRange, StrOffsets, []}
+use Terms.{entry_in, is_inside, IsOfUnit, nat_tests, Ok, same_Some, string_at, string_in, string_of}
+use Terms.{AllEnd, content, HasEnds, IsReach, IsTrue, length, list_any, Option, range_in, Result, ℕ}
+use Terms.{arith, drop, Err, false, List, None, refl, Some, true, ◌+◌, ◌-◌, ◌<◌, ◌∙◌, ◌∷◌, ◌≡◌, ◌≤◌}
+use Terms.{eqb, inl, inr, Str, sym}
+use Rattle.{dwp_index.proofs.PackageLookUp.by_row, std.specs.Option.option_eq}
 use Rattle.std.proofs.lemmas.List.Folds.{list_any_at, list_any_none}
 use Rattle.memchr.specs.Find.{is_byte, IsLastByte, Nowhere, Passes}
 use Rattle.dwp_bytes.specs.{declared.encoding.Encoding.Encoding, StringOffsets.entry_count}
 use Rattle.dwp_index.specs.Package.{found, FoundUnit, Package, row_bytes, unit_in}
-use Rattle.dwp_index.proofs.PackageLookUp.{by_row}
 use Rattle.thorin_check.{proofs.Own.row_of_found, specs.declared.strings.Ends.Ends}
 use Rattle.std.proofs.lemmas.List.Elements.{All-nil, All-push, Contains-append_left, Contains-push}
-use Rattle.dwp_bytes.specs.declared.encoding.Format.{Format}
-use Rattle.dwp_bytes.specs.declared.encoding.Format.TheVariants.{Dwarf32, Dwarf64}
 use Rattle.thorin_check.specs.Strings.{HasStringsIn, HasStringsOf, IsRangeOfOne, range_by, range_of}
 use Rattle.thorin_check.specs.Gathered.{Adds, AllEndIn, Gathered, Gathers, Listed, Lists, string_by}
 use Rattle.thorin_check.specs.declared.strings.UnreadStrings.{UnreadStrings}

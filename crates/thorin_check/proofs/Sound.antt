@@ -1,29 +1,27 @@
 -- Where no fault was told, the package is sound.
-use Rattle.thorin_check.proofs.Terms.{[], lit<, ◌++◌, ◌-◌, ◌<◌, ◌^◌, ◌∙◌, ◌∷◌, ◌≡◌, ◌≢◌, ◌≤◌, ◌⊎◌}
-use Rattle.thorin_check.proofs.Terms.{All, AllEnd, AreApart, AreApartIn, AreByRow, Bool, Bor, Is, ℕ}
-use Rattle.thorin_check.proofs.Terms.{Contains, contribution_kinds, mixed_versions, versions_faults}
-use Rattle.thorin_check.proofs.Terms.{column_faults, lacks_column, Ok, PackageError, section_faults}
-use Rattle.thorin_check.proofs.Terms.{DwarfObject, Executables, ForEach, skeletons_by, string_count}
-use Rattle.thorin_check.proofs.Terms.{InTurn, nat_tests, ReadError, same_Some, string_in, UnitEntry}
-use Rattle.thorin_check.proofs.Terms.{entry_in, flat_map, Index, Listed, Option, Reading, string_of}
-use Rattle.thorin_check.proofs.Terms.{append-nil, fault_count, FaultValue, result_err, SectionKind}
-use Rattle.thorin_check.proofs.Terms.{arith, get_or, length, Named, nat_eq, Offer, own_of, Result}
-use Rattle.thorin_check.proofs.Terms.{codes, Err, false, inl, List, None, refl, Some, subst, true}
+use Rattle.thorin_check.proofs.Terms
+use Terms.{column_faults, contribution_kinds, mixed_versions, section_faults, versions_faults, lit<}
+use Terms.{AllEnd, DwarfObject, Executables, lacks_column, PackageError, skeletons_by, string_count}
+use Terms.{append-nil, AreApartIn, fault_count, FaultValue, nat_tests, result_err, SectionKind, ◌-◌}
+use Terms.{AreApart, AreByRow, Contains, ReadError, same_Some, string_in, string_of, UnitEntry, ◌<◌}
+use Terms.{entry_in, flat_map, ForEach, get_or, InTurn, length, Listed, nat_eq, Option, Reading, []}
+use Terms.{arith, Bool, codes, false, Index, List, Named, None, Offer, own_of, Result, subst, ◌++◌}
+use Terms.{All, Bor, Err, inl, inr, map, min, refl, Some, true, ◌^◌, ◌∙◌, ◌∷◌, ◌≡◌, ◌≢◌, ◌≤◌, ◌⊎◌}
+use Terms.{Is, Ok, sym, ℕ}
 use Rattle.std.proofs.lemmas.List.Sorted.{All-permutation, Contains-permutation, length_permutation}
 use Rattle.std.proofs.lemmas.List.Sorted.{IsPermutation-sym}
 use Rattle.thorin_check.specs.Checking.{TellsExecutable, TellsExecutables, TellsStringsOfAll}
 use Rattle.thorin_check.specs.Checking.{status_of, TellsPackage, TellsSlot, TellsSlots}
-use Rattle.thorin_check.specs.Faults.{TellsItself, TellsListed, TellsLooked, TellsRowsOf, TellsUnit}
+use Rattle.thorin_check.specs.Faults.{TellsListed, TellsLooked, TellsRowsOf, TellsString, TellsUnit}
 use Rattle.thorin_check.specs.Faults.{missing_faults, TellsNumbered, TellsStrings, TellsStringsOf}
-use Rattle.thorin_check.specs.Faults.{strings_of, TellsFound, TellsInRow, TellsNamed, TellsString}
-use Rattle.thorin_check.specs.Faults.{is_bare, IsUnread, room_of, row_fault, TellsEnd, TellsOwn}
-use Rattle.thorin_check.proofs.{Own.row_of_found, SharedStrings.all_ends, SharedStrings.range_ends}
-use Rattle.thorin_check.proofs.{Own.own_once, Terms.inr, Terms.map, Terms.min, Terms.sym}
+use Rattle.thorin_check.specs.Faults.{row_fault, strings_of, TellsFound, TellsInRow, TellsNamed}
+use Rattle.thorin_check.specs.Faults.{is_bare, IsUnread, room_of, row_end, TellsEnd, TellsOwn}
+use Rattle.thorin_check.{proofs.Own.own_once, proofs.Own.row_of_found, specs.Strings.HasStringsOf}
+use Rattle.thorin_check.proofs.SharedStrings.{all_ends, range_ends}
 use Rattle.std.proofs.lemmas.List.Elements.{All-cons, All-contains, All-nil, All-weaker}
 use Rattle.std.proofs.lemmas.List.FromFn.{get_or-map-range_with_len, length-map-range_with_len}
 use Rattle.dwp_index.specs.Package.{found, FoundUnit, Package}
 use Rattle.thorin_check.specs.Sound.{AreNamed, HasUnitsOf, IsSound, IsSoundUnit, NameOnce, slots}
-use Rattle.thorin_check.specs.{Faults.row_end, Strings.HasStringsOf}
 use Rattle.dwp_base.specs.declared.section.SectionKind.TheVariants as kinds
 use Rattle.dwp_index.specs.declared.error.PackageError.TheVariants as errors
 

@@ -1,22 +1,19 @@
 -- Faults that were told.
-use Rattle.thorin_check.proofs.Terms.{Err, [], ℕ, ◌++◌, ◌+◌, ◌-◌, ◌<◌, ◌^◌, ◌∙◌, ◌∷◌, ◌≡◌, ◌≢◌, ◌≤◌}
-use Rattle.thorin_check.proofs.Terms.{Bool, IsOfPrinting, IsUnreadText, of_executable, PackageError}
-use Rattle.thorin_check.proofs.Terms.{append_assoc, DwarfObject, FaultValue, IsTextOf, string_bytes}
-use Rattle.thorin_check.proofs.Terms.{Grows, ReadError, result_err, TellsText, TellsWhat, UnitEntry}
-use Rattle.thorin_check.proofs.Terms.{Failure, ForEach, inl, IsFault, Progress, take_all, take_more}
-use Rattle.thorin_check.proofs.Terms.{codes, false, grown, IfOk, List, min, None, rules, Some, Told}
-use Rattle.thorin_check.proofs.Terms.{arith, get_or, length, own_of, Prints, Result, String, Tells}
-use Rattle.thorin_check.proofs.Terms.{append-nil, counted_on, fault_text, IsSomeText, of_package}
-use Rattle.thorin_check.proofs.Terms.{decimal, Global, InTurn, of_unit, Option, Outcome, TellsOr}
-use Rattle.thorin_check.proofs.Terms.{ap, Ok, refl, sym, take, true}
-use Rattle.std.specs.Result.{IsErrAnd}
+use Rattle.thorin_check.proofs.Terms
+use Terms.{append_assoc, Err, IsOfPrinting, IsUnreadText, of_executable, PackageError, string_bytes}
+use Terms.{append-nil, counted_on, DwarfObject, fault_text, FaultValue, IsSomeText, result_err, ◌+◌}
+use Terms.{IsTextOf, of_package, Progress, ReadError, take_more, TellsText, TellsWhat, UnitEntry, ℕ}
+use Terms.{decimal, Failure, ForEach, get_or, IsFault, length, of_unit, Outcome, take_all, TellsOr}
+use Terms.{codes, false, Global, grown, Grows, InTurn, Option, own_of, Prints, Result, String, ◌++◌}
+use Terms.{arith, Bool, IfOk, List, None, refl, rules, Some, take, Tells, Told, true, ◌-◌, ◌<◌, ◌^◌}
+use Terms.{ap, inl, min, Ok, sym, [], ◌∙◌, ◌∷◌, ◌≡◌, ◌≢◌, ◌≤◌}
 use Rattle.thorin_check.specs.Faults.{TellsItself, TellsString, TellsStrings, TellsStringsOf}
 use Rattle.thorin_check.specs.Faults.{IsBroken, string_text, TellsFound, TellsOwn, TellsUnit}
+use Rattle.std.{proofs.lemmas.Grind.flat_map-append, specs.Result.IsErrAnd}
+use Rattle.thorin_check.specs.{Faults.is_bare, Overlaps.IsClash}
 use Rattle.std.proofs.KnownBytes.{Appends-nil, Appends-trans}
-use Rattle.std.proofs.lemmas.Grind.{flat_map-append}
 use Rattle.thorin_print.specs.{declared.form.Form.Form, Shown.shown}
 use Rattle.dwp_index.specs.Package.{found, FoundUnit, Package}
-use Rattle.thorin_check.specs.{Faults.is_bare, Overlaps.IsClash}
 use Rattle.thorin_words.specs.Printed.{printed}
 
 -- what the exit of a `?` answers

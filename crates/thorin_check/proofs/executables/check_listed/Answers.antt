@@ -1,5 +1,5 @@
 use Rattle.thorin_check.proofs.Told.{exit_is, none_told, stopped_behind, told_as, told_then}
-use Rattle.thorin_check.proofs.{Terms.IsOfPrinting, Terms.refl, Told.then_or}
+use Rattle.thorin_check.proofs.{Terms.arith, Terms.IsOfPrinting, Terms.refl, Told.then_or}
 use Rattle.thorin_check.proofs.Checked.{broken_behind, on_bare, on_end, on_long, on_next}
 use Rattle.thorin_check.proofs.executables.check_listed.Goals as goal
 

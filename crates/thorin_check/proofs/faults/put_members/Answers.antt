@@ -1,8 +1,6 @@
 use Rattle.thorin_check.proofs.Terms.{ap, append_assoc, codes, string_bytes, sym, ◌++◌, ◌∙◌}
-use Rattle.thorin_print.specs.declared.form.Form.TheVariants.{Json}
-use Rattle.thorin_print.specs.Spelled.{spelled}
-use Rattle.thorin_find.specs.Lines.{json_unit}
-use Rattle.thorin_find.proofs.Pieces.{both}
+use Rattle.thorin_print.specs.{declared.form.Form.TheVariants.Json, Spelled.spelled}
+use Rattle.thorin_find.{proofs.Pieces.both, specs.Lines.json_unit}
 use Rattle.thorin_check.proofs.faults.put_members.Goals as goal
 
 pub returns-in_ok-push_str-in-Unit : goal.returns-in_ok-push_str-in-Unit

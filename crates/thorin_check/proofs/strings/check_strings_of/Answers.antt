@@ -1,5 +1,6 @@
 use Rattle.thorin_check.proofs.Told.{exit_is, for_each_more, none_told, strings_some, text_stopped}
-use Rattle.thorin_check.proofs.Terms.{arith, Ok, refl, string_of}
+use Rattle.thorin_check.proofs.Terms.{arith, List, Ok, Option, ReadError, refl, Result}
+use Rattle.thorin_check.proofs.Terms.{string_of, ℕ}
 use Rattle.thorin_check.proofs.{SharedStrings.of_found, Told.text_told, Told.told_then}
 use Rattle.std.proofs.lemmas.List.FromFn.{map-range_with_len_more}
 use Rattle.thorin_check.specs.Faults.{TellsNumbered}
@@ -20,7 +21,8 @@ pub loop-i-preserved : goal.loop-i-preserved
 loop-i-preserved g c =
     let i = c.loop-i.i in
     let unit = c.in-Ok-Some.unit in
-    rw (map-range_with_len_more (λ k. (k, string_of unit k)) 0 i i (omega arith))
+    rw (map-range_with_len_more {X = ℕ × Result (Option (List ℕ)) ReadError}
+    (λ k. (k, string_of unit k)) 0 i i (omega arith))
     (told_then (for_each_more (TellsNumbered c.args.object) _ (i, string_of unit i))
     c.loop-i.invariant
     (text_told _ _ _ _ _ (Ok tt) (c.string_text-text.ensures c.args.object)
