@@ -1,7 +1,6 @@
-use Rattle.std.proofs.Common.{◌≡◌, ◌++◌, string_bytes, refl, rules, append_assoc}
-use Rattle.thorin_print.specs.declared.form.Form.TheVariants.{Json}
-use Rattle.thorin_find.specs.Finding.{all_text, json_encoding, range_texts, counts_text}
-use Rattle.thorin_find.proofs.Pieces.{both}
+use Rattle.std.proofs.Common.{append_assoc, refl, rules, string_bytes, ◌++◌, ◌≡◌}
+use Rattle.{thorin_find.proofs.Pieces.both, thorin_print.specs.declared.form.Form.TheVariants.Json}
+use Rattle.thorin_find.specs.Finding.{all_text, counts_text, json_encoding, range_texts}
 use Rattle.thorin_find.proofs.finding.put_all.Goals as goal
 
 -- the object up to its ranges

@@ -1,8 +1,7 @@
 use Rattle.std.proofs.Common.{drop, ◌+◌}
-use Rattle.std.proofs.lemmas.Result.{err_from_is_err_and}
-use Rattle.thorin_print.specs.declared.output.Failure.TheVariants as failures
-use Rattle.thorin_print.proofs.Lines.{drop_next}
+use Rattle.{std.proofs.lemmas.Result.err_from_is_err_and, thorin_print.proofs.Lines.drop_next}
 use Rattle.thorin_find.proofs.Listed.{begun, begun_next}
+use Rattle.thorin_print.specs.declared.output.Failure.TheVariants as failures
 use Rattle.thorin_find.proofs.listing.print_lines.Goals as goal
 
 pub returns-in_err-put_slot-clause-part : goal.returns-in_err-put_slot-clause-part

@@ -1,6 +1,5 @@
-use Rattle.std.proofs.Common.{◌≡◌, ◌++◌, take, string_bytes, flat_map}
-use Rattle.dwp_index.specs.Index.{range_in}
-use Rattle.dwp_table.specs.Columns.{contribution_kinds}
+use Rattle.std.proofs.Common.{flat_map, string_bytes, take, ◌++◌, ◌≡◌}
+use Rattle.{dwp_index.specs.Index.range_in, dwp_table.specs.Columns.contribution_kinds}
 use Rattle.thorin_find.specs.Listing.{range_size}
 use Rattle.thorin_find.proofs.listing.put_sizes.Given as goal
 

@@ -1,6 +1,5 @@
 use Rattle.std.proofs.Common.{◌≡◌}
-use Rattle.dwp_dwarf.specs.Attributes.{attributes_left}
-use Rattle.thorin_find.specs.Names.{named}
+use Rattle.{dwp_dwarf.specs.Attributes.attributes_left, thorin_find.specs.Names.named}
 use Rattle.thorin_find.proofs.names.attribute_named.Given as goal
 
 -- the first of those that are left is the first of all
