@@ -1,13 +1,13 @@
 -- What standard error got stays there when notes follow.
 use Rattle.thorin_print.specs.declared.output.Failure.TheVariants as failures
 use Rattle.thorin_words.specs.declared.responses.ResponseError.TheVariants as errors
-use Rattle.std.proofs.Common.{codes, inl, inr, List, refl, rules, ℕ, ◌≡◌, ◌⊎◌}
+use Rattle.std.proofs.Common.{codes, inl, inr, List, refl, ℕ, ◌≡◌, ◌⊎◌}
 use Rattle.std.specs.Prelude.{Err, IfErr, Ok, Option, Result, Some}
 use Rattle.std.specs.Io.KnownBytes.{Appends}
 use Rattle.thorin_print.specs.{Answers.Grows, declared.output.Failure.Failure}
 use Rattle.thorin_print.specs.Failures.{error_line, failure_text, Reports}
 use Rattle.thorin_commands.proofs.Lines.{followed, printed}
-use Rattle.thorin_commands.specs.Cause.{Cause, HasLine, text_of, Told}
+use Rattle.thorin_commands.specs.Cause.{HasLine, text_of}
 use Rattle.thorin_commands.specs.Failing.{FailsPacking, IsWhy}
 use Rattle.thorin_commands.specs.declared.packing.Packing.{Packing}
 use Rattle.thorin_words.specs.Responses.{CannotBeTold}
@@ -26,12 +26,7 @@ more : (known : _) (packing : Packing) (unsplit unwritten cut untold untold' : T
     → IsWhy known packing unsplit unwritten (cut ⊎ untold') failure
 more known packing unsplit unwritten cut untold untold' f failures.Line (inl c) = inl c
 more known packing unsplit unwritten cut untold untold' f failures.Line (inr u) = inr (f u)
-more known packing unsplit unwritten cut untold untold' f failures.BadCommand why = why
-more known packing unsplit unwritten cut untold untold' f failures.Overwrites why = why
-more known packing unsplit unwritten cut untold untold' f failures.Input why = why
-more known packing unsplit unwritten cut untold untold' f failures.Output why = why
-more known packing unsplit unwritten cut untold untold' f failures.Memory why = why
-more known packing unsplit unwritten cut untold untold' f _ why = absurd why
+more known packing unsplit unwritten cut untold untold' f _ why = why
 
 -- what is said of a file that can't be read
 pub unreadable : (e : ResponseError) → (e ≡ errors.Unreadable)
@@ -81,6 +76,15 @@ module _ {F O E : Type 0} (system : System F O E) (files : F) (out : O) (old new
     unread text fails words line e is same (inr told) =
         record { cause = errors.Memory; is = tt; line = tried no_memory told }
 
+  pub noted : Grows (system.told old) (system.told new)
+      → (system.untold old → system.untold new) → (failure : Failure) (status : ℕ)
+      → HasStatus system before (Err failure) status
+      → HasStatus system after (Err failure) status
+  noted grows stays failure status (inl (is, line)) =
+      inl (is, followed system.told old new (Some (failure_text failure)) line grows)
+  noted grows stays failure status (inr (is, inl untold)) = inr (is, inl (stays untold))
+  noted grows stays failure status (inr (is, inr failed)) = inr (is, inr failed)
+
   why_too : (system.untold old → system.untold new) → (packing : Packing) (start : State F O E)
       (answer : Result ℕ Failure)
       → IfErr answer (FailsPacking system.offer system.known system.begun system.contents packing
@@ -90,50 +94,24 @@ module _ {F O E : Type 0} (system : System F O E) (files : F) (out : O) (old new
   why_too stays packing start (Ok status) why = tt
   why_too stays packing start (Err failure) why = more _ packing _ _ _ _ _ stays failure why
 
-  -- packing failed, whatever was printed behind that
-  pub stopped : (system.untold old → system.untold new) → (packing : Packing)
-      (start : State F O E) (failure : Failure)
-      → DoesPacking system packing start before (Err failure)
-      → DoesPacking system packing start after (Err failure)
-  stopped stays packing start failure does = record {
+  -- what came of packing that made no package, whatever was printed behind that
+  pub unpacked : (system.untold old → system.untold new) → (packing : Packing)
+      (start : State F O E) (answer : Result ℕ Failure) → ¬ (answer ≡ Ok 0)
+      → (answer ≡ Ok 1 → Grows (system.told old) (system.told new))
+      → DoesPacking system packing start before answer
+      → DoesPacking system packing start after answer
+  unpacked stays packing start answer not grows does = record {
     packed = does.packed;
-    warned = λ is. search (rules, is);
+    warned = λ is. absurd (not is);
     status = does.status;
     refused = does.refused;
-    told = λ is. search (rules, is);
+    told = λ is. record {
+      cause = (does.told is).cause;
+      is = (does.told is).is;
+      line = followed system.told old new (text_of (does.told is).cause) (does.told is).line
+          (grows is);
+    };
     failed = does.failed;
-    why = why_too stays packing start (Err failure) does.why;
+    why = why_too stays packing start answer does.why;
     apart = does.apart;
   }
-
-  module _ (grows : Grows (system.told old) (system.told new))
-      (stays : system.untold old → system.untold new) where
-    pub noted : (failure : Failure) (status : ℕ) → HasStatus system before (Err failure) status
-        → HasStatus system after (Err failure) status
-    noted failure status (inl (is, line)) =
-        inl (is, followed system.told old new (Some (failure_text failure)) line grows)
-    noted failure status (inr (is, inl untold)) = inr (is, inl (stays untold))
-    noted failure status (inr (is, inr failed)) = inr (is, inr failed)
-
-    told_too : (Causes : Cause → Type 0) → Told system.told old Causes
-        → Told system.told new Causes
-    told_too Causes told = record {
-      cause = told.cause;
-      is = told.is;
-      line = followed system.told old new (text_of told.cause) told.line grows;
-    }
-
-    -- packing was refused
-    pub refused : (packing : Packing) (start : State F O E) (answer : Result ℕ Failure)
-        → ¬ (answer ≡ Ok 0) → DoesPacking system packing start before answer
-        → DoesPacking system packing start after answer
-    refused packing start answer not does = record {
-      packed = does.packed;
-      warned = λ is. absurd (not is);
-      status = does.status;
-      refused = does.refused;
-      told = λ is. told_too _ (does.told is);
-      failed = does.failed;
-      why = why_too stays packing start answer does.why;
-      apart = does.apart;
-    }
