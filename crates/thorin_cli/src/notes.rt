@@ -218,18 +218,14 @@ pub(crate) fn note_response<P: NotedResponses, E: Write>(
     let refused = files.refused();
     let is_bytes = matches!(error, ResponseError::NotUtf8);
     match &refused {
-        Some(file) => match &file.cause {
-            Some(cause) => note_unread(alloc, file.name.as_str(), cause, err),
-            None if is_bytes => {
-                note(
-                    alloc,
-                    file.name.as_str(),
-                    "a response file that isn't UTF-8",
-                    err,
-                );
+        Some(file) => {
+            let name = file.name.as_str();
+            match &file.cause {
+                Some(cause) => note_unread(alloc, name, cause, err),
+                None if is_bytes => note(alloc, name, "a response file that isn't UTF-8", err),
+                None => {}
             }
-            None => {}
-        },
+        }
         None if is_bytes => put_note("note: a response file isn't UTF-8\n", err),
         None => {}
     }

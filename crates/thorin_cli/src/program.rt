@@ -206,13 +206,9 @@ impl<F: NotedFiles, R: NotedReader, O: Write, E: Write> Commands
         let files = PlainReader::new(self.alloc, self.reader, arguments.decompresses);
         let answer = list_by(self.alloc, &files, file, form, self.out);
         if answer.is_ok() {
-            note_listed(
-                self.alloc,
-                file,
-                files.kind(),
-                self.manner.on_terminal,
-                &mut self.err.writer,
-            );
+            let kind = files.kind();
+            let on_terminal = self.manner.on_terminal;
+            note_listed(self.alloc, file, kind, on_terminal, &mut self.err.writer);
         }
         self.status(answer, Lookup::file(file), &files)
     }
@@ -222,12 +218,9 @@ impl<F: NotedFiles, R: NotedReader, O: Write, E: Write> Commands
             form: form_of(arguments.json),
             nameless: nameless_units(arguments.skips_nameless),
         };
-        self.check_as(
-            arguments.file,
-            arguments.executables,
-            arguments.decompresses,
-            reading,
-        )
+        let file = arguments.file;
+        let executables = arguments.executables;
+        self.check_as(file, executables, arguments.decompresses, reading)
     }
 
     fn show<D: fmt::Display>(&mut self, text: &D) -> u8 {
