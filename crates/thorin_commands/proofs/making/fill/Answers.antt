@@ -1,5 +1,6 @@
-use Rattle.thorin_commands.proofs.Terms.{err_from_is_err_and, Input, rules, take_all, [], ◌≡◌}
-use Rattle.thorin_commands.proofs.{Causes.refuses_by, Causes.stops_at, Terms.take_more}
+use Rattle.thorin_commands.proofs.Terms.{drop, err_from_is_err_and, get_or, Input, rules, take}
+use Rattle.thorin_commands.proofs.Terms.{take_all, take_more, [], ◌+◌, ◌≡◌}
+use Rattle.thorin_commands.proofs.Causes.{refuses_by, split_at}
 use Rattle.thorin.specs.declared.packing.Input.TheVariants.{Object}
 use Rattle.thorin_commands.proofs.Warned.{lack_count, taken_told, taking_begins, taking_more}
 use Rattle.thorin_commands.proofs.making.fill.Goals as goal
@@ -22,10 +23,17 @@ loop-input-preserved g c = taking_more
 pub returns-in_err-take-clause-told : goal.returns-in_err-take-clause-told
 returns-in_err-take-clause-told g c =
     let p = err_from_is_err_and c.from_residual.result c.from_residual.ensures.1 in
+    let i = c.loop-input.input-index in
     rw (p.1, p.2) (refuses_by g.E.LineOutput.contents g.E.LineOutput.failed c.take.new.err
-    (stops_at c.args.list.now
-    c.loop-input.input-index none c.loop-input-test.true c.loop-input.invariant.took)
-    c.in_err-take.field-0.0 c.in_err-take.ensures.told)
+    (λ cause refused. record {
+      front = take i c.args.list.now;
+      input = get_or c.args.list.now i none;
+      rest = drop (i + 1) c.args.list.now;
+      list_is = split_at c.args.list.now i none c.loop-input-test.true;
+      state = c.loop-input.builder.state;
+      took = c.loop-input.invariant.took;
+      refused = refused;
+    }) c.in_err-take.field-0.0 c.in_err-take.ensures.told)
 
 pub warn_unsplit-requires : goal.warn_unsplit-requires
 warn_unsplit-requires g c = rw c.as_slice-lacks.ensures.value (lack_count

@@ -1,7 +1,8 @@
 use Rattle.thorin_commands.proofs.Terms.{ap, Bool, declines, differing_in, false, left, ◌∙◌, ◌≡◌}
 use Rattle.thorin_commands.proofs.Terms.{manner_of, reads, refl, State, true, units_in}
 use Rattle.thorin_commands.proofs.Made.{differing_left, if_refused, never_empty, none_began}
-use Rattle.thorin_commands.proofs.Causes.{err_by, finishing, refuses_by, taking}
+use Rattle.thorin_commands.proofs.Causes.{err_by, refuses_by}
+use Rattle.thorin_commands.specs.Cause.{Finishing, Taking}
 use Rattle.thorin_commands.proofs.{Made.if_made, Opened.all_joined, Warned.printed_as}
 use Rattle.thorin_commands.proofs.making.packed_inputs.Goals as goal
 
@@ -54,9 +55,7 @@ pub returns-in-Ok-clause-told : goal.returns-in-Ok-clause-told
 returns-in-Ok-clause-told g c =
     let filled = rw c.new-builder.ensures.state at c.in-Ok.ensures.fills in
     err_by g.E.LineOutput.contents g.E.LineOutput.failed c.finished.new.err
-    (finishing {declines = declines c.args.inputs.now.packing.now
-    (g.F.FileSystem.offer c.args.inputs.now.files.now)} c.args.options.partial
-    c.args.list.now c.fill.new.builder.state filled.fills)
+    (λ cause u. Finishing filled.fills.state filled.fills.took (rw filled.fills.rest at u))
     c.finished.result c.finished.ensures.told
 
 pub returns-clause-tried : goal.returns-clause-tried
@@ -68,7 +67,6 @@ returns-clause-tried g c =
     g.E.LineOutput.failed c.fill.new.err c.in-Err.refusal c.in-Err.ensures.told
 
 pub returns-clause-told : goal.returns-clause-told
-returns-clause-told g c = refuses_by g.E.LineOutput.contents
-    g.E.LineOutput.failed c.fill.new.err
-    (taking c.args.options.partial c.args.list.now) c.in-Err.refusal
+returns-clause-told g c = refuses_by g.E.LineOutput.contents g.E.LineOutput.failed
+    c.fill.new.err (λ cause stops. Taking stops) c.in-Err.refusal
     (rw c.new-builder.ensures.state at c.in-Err.ensures.told)

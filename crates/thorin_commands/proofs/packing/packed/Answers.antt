@@ -1,7 +1,7 @@
-use Rattle.thorin_commands.proofs.Terms.{asked, asks, declines, IfOk-weaker, inl, map, [], ◌≡◌}
-use Rattle.thorin_commands.proofs.Terms.{reads, refl, rules, string_bytes, TellsInputs, true}
-use Rattle.thorin_commands.proofs.{Causes.empty_for, Warned.no_macros}
+use Rattle.thorin_commands.proofs.Terms.{asked, asks, IfOk-weaker, inl, map, reads, refl, rules}
+use Rattle.thorin_commands.proofs.Terms.{string_bytes, TellsInputs, true, [], ◌≡◌}
 use Rattle.thorin_commands.proofs.Made.{made_for, made_ready, made_twice}
+use Rattle.thorin_commands.proofs.Warned.{no_macros}
 use Rattle.thorin_commands.proofs.packing.packed.Goals as goal
 
 pub returns-in-Ok-clause-ready : goal.returns-in-Ok-clause-ready
@@ -20,16 +20,15 @@ returns-in-Ok-clause-ready g c =
 
 pub packed_unsplit-requires-clause-empty : goal.packed_unsplit-requires-clause-empty
 packed_unsplit-requires-clause-empty g c =
-    let packing = c.args.packing.now in
-    let offer = g.F.FileSystem.offer c.args.files.now in
-    rw (c.in_ok-inputs.ensures.files, c.in_ok-inputs.ensures.packing) (empty_for
-    g.E.LineOutput.contents g.E.LineOutput.failed c.packed_inputs.new.err (reads packing offer)
-    (declines packing offer) packing c.as_slice.result.now
-    (rw c.as_slice.ensures.value c.in_ok-list.ensures) (rw (
-      c.in-Err-Empty.field-0-is,
-      c.in_ok-inputs.ensures.files,
-      c.in_ok-inputs.ensures.packing,
-    ) at c.in-Err-Empty.ensures.told))
+    rw (c.in_ok-inputs.ensures.files, c.in_ok-inputs.ensures.packing) (record {
+      list = c.as_slice.result.now;
+      are = inl (rw c.as_slice.ensures.value c.in_ok-list.ensures);
+      is = rw (
+        c.in-Err-Empty.field-0-is,
+        c.in_ok-inputs.ensures.files,
+        c.in_ok-inputs.ensures.packing,
+      ) at c.in-Err-Empty.ensures.told;
+    })
 
 pub returns-in-Err-Empty-clause-ready : goal.returns-in-Err-Empty-clause-ready
 returns-in-Err-Empty-clause-ready g c =
