@@ -5,12 +5,12 @@ use Terms.{Growth, IfErr, inr, IsTakenFor, length, List, Manner, map, map-append
 use Terms.{NoOutputObjectCreated, NoPackage, NotTaken, Offer, Ok, Option, outcome_of, Packing}
 use Terms.{Reasons, refl, Refuses, Result, Some, split_contents, State, Stops, sym, take, take_more}
 use Terms.{Tells, Took, TookEach, Unfinished, [], ℕ, ◌++◌, ◌+◌, ◌<◌, ◌∙◌, ◌∷◌, ◌≡◌, ◌⊎◌}
-use Rattle.thorin_commands.specs.Cause.{IsCauseFor, IsTakenNot, IsUnfit, IsUntaken, StopsAmong, Told}
+use Rattle.thorin_commands.specs.Cause.{IsCauseFor, IsTakenNot, IsUnfit, IsUntaken, StopsAmong}
 use Rattle.std.{proofs.lemmas.List.take-append-drop, specs.List.slice_get}
 use Rattle.thorin_errors.specs.Errors.{error_of}
 use Rattle.thorin_builder.specs.Reading.{OnDeclined}
 use Rattle.thorin.specs.Run.{DeclinesInput}
-use Rattle.thorin_commands.{proofs.Opened.each_append, specs.Cause.told_text}
+use Rattle.thorin_commands.{proofs.Opened.each_append, specs.Cause.Told, specs.Cause.told_text}
 use Rattle.dwp_archive.specs.View as view
 use Rattle.dwp_archive.specs.declared.member.Member as declared
 use Rattle.thorin.specs.declared.packing.Input.TheVariants as inputs

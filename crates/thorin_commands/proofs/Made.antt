@@ -32,23 +32,18 @@ module _ {opens : Bool} {manner : Manner} {offer : Offer} {declines : Reasons} w
   not_taken_no : (input : Input) (state : State) (cause : Cause)
       → IsNotTaken opens manner offer declines input state cause → (error : Error)
       → cause ≡ Unfinished error → ⊥
-  not_taken_no input state cause (Alone i s why stands h) error same = absurd cc
-  not_taken_no input state cause (Unread path s why o h) error same = absurd cc
-  not_taken_no input state cause (Plain path s file why o f n h) error same = absurd cc
   not_taken_no input state cause (Archive path s file c o f n h) error same =
       stops_no c h error same
+  not_taken_no input state cause _ error same = absurd cc
 
 pub never_empty : (opens : Bool) (manner : Manner) (offer : Offer) (declines : Reasons)
     (list : List Input) (old : State) {W : Type 0} (contents : W → Option (List ℕ))
     (failed : W → Type 0) (writer : W) {X : Type 0} (refusal : NoPackage)
     → Refuses contents failed writer (StopsAt opens manner offer declines list old) refusal
     → refusal ≡ refusals.Empty → X
-never_empty opens manner offer declines list old contents failed writer refusals.Empty h e =
-    absurd (not_taken_no h.input h.state _ h.refused _ refl)
-never_empty opens manner offer declines list old contents failed writer refusals.Told h e =
-    absurd cc
-never_empty opens manner offer declines list old contents failed writer (refusals.Command failure)
-    h e = absurd cc
+never_empty opens manner offer declines list old contents failed writer refusal h e =
+    let stops = rw e at h in
+    absurd (not_taken_no stops.input stops.state _ stops.refused _ refl)
 
 -- a package that can't be finished since no input began it
 pub none_began : {state : State} → IsUnfinished state (Unfinished NoOutputObjectCreated)

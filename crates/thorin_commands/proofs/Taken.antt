@@ -18,11 +18,8 @@ module _ (objects executables : List (Bor (List ℕ))) (offer : Offer) (path : L
     over Offers Offers' f (Ok x) h = f (Ok room) h
     over Offers Offers' f (Err (Failed (input.Io cause))) h = f (Err cause) h
     over Offers Offers' f (Err (Failed input.Memory)) h = tt
-    over Offers Offers' f (Err (Declined growth.Sections)) h = absurd h
-    over Offers Offers' f (Err (Declined growth.Strings)) h = absurd h
     over Offers Offers' f (Err (Declined growth.Repetition)) h = h
-    over Offers Offers' f (Err (Declined growth.Macros)) h = absurd h
-    over Offers Offers' f (Err (Declined growth.Plain)) h = absurd h
+    over Offers Offers' f (Err (Declined _)) h = absurd h
 
     -- one that the command line names
     pub through_given : (words : List (Bor (List ℕ)))

@@ -48,8 +48,6 @@ module _ {A B : Type 0} (P : A → B → List ℕ → Type 0) where
       → InTurn P xs bs text → P x b line → InTurn P (xs ++ x ∷ []) (bs ++ b ∷ []) (text ++ line)
   turn_more [] [] x b text line h p =
       (line, [], p, refl, ap (λ t. t ++ line) h ∙ one_line line)
-  turn_more [] (c ∷ bs) x b text line h p = absurd h
-  turn_more (y ∷ xs) [] x b text line h p = absurd h
   turn_more (y ∷ xs) (c ∷ bs) x b text line h p = (
     h.0,
     h.1 ++ line,
@@ -57,14 +55,14 @@ module _ {A B : Type 0} (P : A → B → List ℕ → Type 0) where
     turn_more xs bs x b h.1 line h.3 p,
     more_behind text line h.0 h.1 h.4,
   )
+  turn_more _ _ x b text line h p = absurd h
 
   -- texts of one list are as many as those beside it
   turn_lengths : (xs : List A) (bs : List B) (text : List ℕ) → InTurn P xs bs text
       → length bs ≡ length xs
   turn_lengths [] [] text h = refl
-  turn_lengths [] (c ∷ bs) text h = absurd h
-  turn_lengths (y ∷ xs) [] text h = absurd h
   turn_lengths (y ∷ xs) (c ∷ bs) text h = omega (arith, turn_lengths xs bs h.1 h.3)
+  turn_lengths _ _ text h = absurd h
 
 -- a text that a call printed
 pub printed_ok : {P : List ℕ → Type 0} (line : List ℕ) (a b : Option (List ℕ)) (result : Outcome)
@@ -78,8 +76,7 @@ printed_ok line a b (Err failure) f h = tt
 pub not_verbose : (verbose : Bool) (path : Option (List ℕ)) (added : ℕ) (a : Option (List ℕ))
     → verbose ≡ false → IsPrinted a a (TellsAdded verbose path added)
 not_verbose true path added a e = absurd cc
-not_verbose false None added a e = none_printed a refl
-not_verbose false (Some path) added a e = none_printed a refl
+not_verbose false _ added a e = none_printed a refl
 
 pub pathless : (verbose : Bool) (path : Option (List ℕ)) (added : ℕ) (a : Option (List ℕ))
     → path ≡ None → IsPrinted a a (TellsAdded verbose path added)
@@ -90,25 +87,20 @@ pathless verbose (Some path) added a e = absurd cc
 pub added_told : (verbose : Bool) (path : Option (List ℕ)) (name : List ℕ) (added : ℕ)
     (all : Option ℕ) (a b : Option (List ℕ)) → verbose ≡ true → path ≡ Some name
     → Appends a b (taken_line name added all) → IsPrinted a b (TellsAdded verbose path added)
-added_told false path name added all a b v e h = absurd cc
-added_told true None name added all a b v e h = absurd cc
-added_told true (Some path) name added all a b v e h =
-    let same : path ≡ name = cc in
-    rw same (record { text = taken_line name added all; is = (all, refl); added = h })
+added_told verbose path name added all a b v e h =
+    rw (v, e) (record { text = taken_line name added all; is = (all, refl); added = h })
 
 lacks_more : (added : List ℕ) (lacks : List Lack) (own : ℕ) (lack : Lack) → AreLacks added lacks
     → (lack ≡ Types → own ≡ 0) → AreLacks (added ++ own ∷ []) (lacks ++ lack ∷ [])
 lacks_more [] [] own lack h is = (is, tt)
-lacks_more [] (x ∷ lacks) own lack h is = absurd h
-lacks_more (n ∷ added) [] own lack h is = absurd h
 lacks_more (n ∷ added) (x ∷ lacks) own lack h is = (h.0, lacks_more added lacks own lack h.1 is)
+lacks_more _ _ own lack h is = absurd h
 
 lacks_lengths : (added : List ℕ) (lacks : List Lack) → AreLacks added lacks
     → length lacks ≡ length added
 lacks_lengths [] [] h = refl
-lacks_lengths [] (x ∷ lacks) h = absurd h
-lacks_lengths (n ∷ added) [] h = absurd h
 lacks_lengths (n ∷ added) (x ∷ lacks) h = omega (arith, lacks_lengths added lacks h.1)
+lacks_lengths _ _ h = absurd h
 
 module _ {verbose opens : Bool} {manner : Manner} {offer : Offer} {a : Option (List ℕ)} where
   pub taking_begins : {state : State}
@@ -182,14 +174,12 @@ pub unsplit_all : (warns : Bool) (count units : ℕ) (list : List Input) (lacks 
     → length lacks ≡ length list
     → IsPrinted a b (TellUnsplitBy true (count ≡ 0) (take i list) (take i lacks))
     → IsPrinted a b (TellUnsplitBy warns (units ≡ 0) list lacks)
-unsplit_all true count units list lacks i a b w e le same p =
-    rw (take_all i list le, take_all i lacks (omega (arith, le, same)), e) at p
-unsplit_all false count units list lacks i a b w e le same p = absurd cc
+unsplit_all warns count units list lacks i a b w e le same p =
+    rw w (rw (take_all i list le, take_all i lacks (omega (arith, le, same)), e) at p)
 
 pub unsplit_unasked : (warns : Bool) (none : Type 0) (list : List Input) (lacks : List Lack)
     (a : Option (List ℕ)) → warns ≡ false → IsPrinted a a (TellUnsplitBy warns none list lacks)
-unsplit_unasked true none list lacks a e = absurd cc
-unsplit_unasked false none list lacks a e = none_printed a refl
+unsplit_unasked warns none list lacks a e = rw e (none_printed a refl)
 
 by_lack : {none : Type 0} {total own : ℕ} {lack : Lack} → (none → total ≡ 0)
     → (lack ≡ Types → own ≡ 0) → none ⊎ (lack ≡ Types) → (total ≡ 0) ⊎ (own ≡ 0)
@@ -201,8 +191,6 @@ unsplit_by : (none : Type 0) (total : ℕ) → (none → total ≡ 0) → (list 
     → TellUnsplitBy true none list lacks text → TellUnsplit true total list added text
 unsplit_by none total f [] [] [] text are h = h
 unsplit_by none total f [] [] (n ∷ added) text are h = absurd are
-unsplit_by none total f [] (l ∷ lacks) added text are h = absurd h
-unsplit_by none total f (x ∷ list) [] added text are h = absurd h
 unsplit_by none total f (x ∷ list) (l ∷ lacks) [] text are h = absurd are
 unsplit_by none total f (x ∷ list) (l ∷ lacks) (n ∷ added) text are h = (
   h.0,
@@ -211,6 +199,7 @@ unsplit_by none total f (x ∷ list) (l ∷ lacks) (n ∷ added) text are h = (
   unsplit_by none total f list lacks added h.1 are.1 h.3,
   h.4,
 )
+unsplit_by none total f _ _ added text are h = absurd h
 
 pub unsplit_told_by : (warns : Bool) (none : Type 0) (total : ℕ) → (none → total ≡ 0)
     → (list : List Input) (lacks : List Lack) (added : List ℕ) (text : List ℕ)
@@ -245,13 +234,11 @@ left_next units unit a b c p q =
 
 pub none_left : (partial : Bool) (state : State) (a : Option (List ℕ)) → partial ≡ false
     → IsPrinted a a (TellsLeft partial state)
-none_left true state a e = absurd cc
-none_left false state a e = none_printed a refl
+none_left partial state a e = rw e (none_printed a refl)
 
 pub all_left : (partial : Bool) (state : State) (a b : Option (List ℕ)) → partial ≡ true
     → IsPrinted a b (TellLeft (missing_in state)) → IsPrinted a b (TellsLeft partial state)
-all_left true state a b e p = p
-all_left false state a b e p = absurd cc
+all_left partial state a b e p = rw e p
 
 -- ---- type units that differ
 
@@ -281,8 +268,7 @@ no_macros false = refl
 
 pub without_names : (named : Bool) (differing : List ℕ) → named ≡ false
     → TellsNamed named differing []
-without_names true differing e = absurd cc
-without_names false differing e = refl
+without_names named differing e = rw e refl
 
 -- ---- all of inputs that were taken
 

@@ -1,6 +1,7 @@
 -- Why packing failed.
 use Rattle.thorin_commands.proofs.Terms.{FailsBy, Failure, File, file_text, inl, inr, ℕ, ◌≡◌, ◌⊎◌}
 use Rattle.thorin_commands.proofs.Terms.{IoError, List, out_of, Packing, Result, Some, Stops}
+use Rattle.thorin_commands.proofs.Causes.{stops_by}
 use Rattle.thorin_output.specs.{Files.IsOfWriting, Files.IsWhyUnwritten, Reads.Identity}
 use Rattle.thorin_commands.specs.{Failing.IsWhy, Naming.IsNameless, Naming.IsUncounted}
 use Rattle.thorin_commands.specs.Packing.{Fails, IsPackageFor, Packs}
@@ -32,12 +33,6 @@ module _ (known : List ℕ → Identity → Type 0) (packing : Packing) (N W C X
   why_nameless failures.Memory h = tt
   why_nameless _ h = absurd h
 
-  pub why_printing : (failure : Failure) → FailsBy X failure
-      → IsWhy known packing N W (C ⊎ X) failure
-  why_printing failures.Line h = inr h
-  why_printing failures.Memory h = tt
-  why_printing _ h = absurd h
-
   -- nothing was written yet
   pub why_stopped : (failure : Failure) → Stops X N failure → IsWhy known packing N
       W (C ⊎ X) failure
@@ -45,6 +40,10 @@ module _ (known : List ℕ → Identity → Type 0) (packing : Packing) (N W C X
   why_stopped failures.Memory h = tt
   why_stopped failures.Input h = h
   why_stopped _ h = absurd h
+
+  pub why_printing : (failure : Failure) → FailsBy X failure
+      → IsWhy known packing N W (C ⊎ X) failure
+  why_printing failure h = why_stopped failure (stops_by X N failure h)
 
 -- with an object under a name
 module _ (offer : List ℕ → Result (List ℕ) IoError → Type 0) (packing : Packing) (object : File)
