@@ -52,13 +52,6 @@ none_began u =
     let same : u.error ≡ NoOutputObjectCreated = cc in
     elim ((rw same at u.refuses) (λ m. absurd cc)) [ inl h ↦ h | inr h ↦ absurd cc ]
 
--- what is known of all that was made
-pub if_made : {X E K : Type 0} {A B C D M : X → Type 0} (r : Result X E)
-    → ((made : X) → A made → B made → C made → D made → K → M made) → IfOk r A → IfOk r B
-    → IfOk r C → IfOk r D → OnOk r K → IfOk r M
-if_made (Ok made) f a b c d k = f made a b c d k
-if_made (Err e) f a b c d k = tt
-
 pub if_refused : {X E : Type 0} {P Q R : E → Type 0} (r : Result X E)
     → ((e : E) → P e → Q e → R e) → IfErr r P → IfErr r Q → IfErr r R
 if_refused (Ok x) f p q = tt

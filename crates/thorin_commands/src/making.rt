@@ -206,14 +206,11 @@ fn finished<'o, 's: 'o, Sess: Session<RelocationEntry>, E: LineOutput>(
     lines: String,
     err: &mut E,
 ) -> Result<(WritableObject, Vec<DebugTypeSignature>, String), NoPackage>
-    ensures finished { IfOk result (λ made. (finish_test builder.entry.state ≡ Ok tt)
-        × IsFinishedState builder.entry.state made.0) }
-    ensures packaged { IfOk result (λ made.
-        IsPackageOf (units_in builder.entry.state) (file_text made.0)) }
-    ensures differing { IfOk result (λ made.
-        map (λ s. s.0) made.1.items ≡ differing_in builder.entry.state) }
-    ensures lines { IfOk result (λ made. made.2 ≡ lines) }
-    ensures kept { OnOk result (err.new ≡ err.old) }
+    ensures made { IfOk result (λ made. (finish_test builder.entry.state ≡ Ok tt)
+        × IsFinishedState builder.entry.state made.0
+        × IsPackageOf (units_in builder.entry.state) (file_text made.0)
+        × (map (λ s. s.0) made.1.items ≡ differing_in builder.entry.state)
+        × (made.2 ≡ lines) × (err.new ≡ err.old)) }
     ensures empty { IfErr result (λ refusal. refusal ≡ Empty → err.new ≡ err.old) }
     ensures told { IfErr result (Refuses E.contents E.failed err.new
         (IsUnfinished builder.entry.state)) }

@@ -4,11 +4,7 @@ use Rattle.thorin_commands.proofs.making.finished.Goals as goal
 pub returns : goal.returns
 returns g c =
     let finish = c.finish_with_differing-finished.ensures in record {
-      finished = tt;
-      packaged = tt;
-      differing = tt;
-      lines = tt;
-      kept = tt;
+      made = tt;
       empty = λ e. absurd cc;
       told = record {
         cause = Unfinished c.match-finished.error;

@@ -3,7 +3,7 @@ use Rattle.thorin_commands.proofs.Terms.{manner_of, reads, refl, State, true, un
 use Rattle.thorin_commands.proofs.Made.{differing_left, if_refused, never_empty, none_began}
 use Rattle.thorin_commands.proofs.Causes.{err_by, refuses_by}
 use Rattle.thorin_commands.specs.Cause.{Finishing, Taking}
-use Rattle.thorin_commands.proofs.{Made.if_made, Opened.all_joined, Warned.printed_as}
+use Rattle.thorin_commands.proofs.{Opened.all_joined, Terms.IfOk-weaker, Warned.printed_as}
 use Rattle.thorin_commands.proofs.making.packed_inputs.Goals as goal
 
 -- a package without the list of units that executables refer to has the same units
@@ -22,22 +22,19 @@ returns-in-Ok-clause-made g c =
     let units : units_in done ≡ units_in state = ap units_in now ∙ units_left partial state in
     let differ : differing_in done ≡ differing_in state =
     ap differing_in now ∙ differing_left partial state in
-    if_made c.finished.result
-    (λ made finished packaged differing lines kept. record {
+    IfOk-weaker c.finished.result _ _ (λ made its. record {
       packed = record {
         state = state;
         took = took;
         joined = all_joined c.runs_go_on.ensures.joined took;
-        tested = rw now at finished.0;
-        finished = rw now at finished.1;
-        package_of = rw units at packaged;
+        tested = rw now at its.0;
+        finished = rw now at its.1;
+        package_of = rw units at its.2;
       };
-      told = rw kept filled.told;
-      differ = differing ∙ differ;
-      names_are = rw lines filled.names_are;
-    })
-    c.finished.ensures.finished c.finished.ensures.packaged c.finished.ensures.differing
-    c.finished.ensures.lines c.finished.ensures.kept
+      told = rw its.5 filled.told;
+      differ = its.3 ∙ differ;
+      names_are = rw its.4 filled.names_are;
+    }) c.finished.ensures.made
 
 pub returns-in-Ok-clause-tried : goal.returns-in-Ok-clause-tried
 returns-in-Ok-clause-tried g c =
