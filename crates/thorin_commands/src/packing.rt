@@ -6,9 +6,9 @@ ghost use Rattle.thorin_commands.specs.Packing.{asked, asks, Fails, Packs, reads
 ghost use Rattle.std.specs.{Path.path_bytes, Prelude.false, Prelude.IsTrue, Prelude.option_map};
 ghost use Rattle.thorin_output.specs.Files.{Begins, Put};
 ghost use Rattle.thorin_commands.specs.Cause.{IsCauseFor, Refuses, Told, Unfinished};
-ghost use Rattle.thorin_commands.specs.{Failing.FailsPacking, Failing.LeadTo, Naming.IsNameless};
+ghost use Rattle.thorin_commands.specs.{Failing.FailsPacking, Failing.IsInput, Failing.LeadTo};
 ghost use Rattle.thorin_errors.specs.declared.error.Error.TheVariants.{NoOutputObjectCreated};
-ghost use Rattle.thorin_commands.specs.Made.{IsMadeFor, IsReady};
+ghost use Rattle.thorin_commands.specs.{Made.IsMadeFor, Made.IsReady, Naming.IsNameless};
 ghost use Rattle.thorin_commands.specs.declared.packing.NoPackage.TheVariants.{Command};
 ghost use Rattle.thorin_print.specs.declared.output.Failure.TheVariants.{Memory};
 ghost use Rattle.thorin_commands.specs.Warned.{names, others, PacksTelling, path_of, TellsTaken};
@@ -108,12 +108,10 @@ impl Packing<'_, '_> {
     /// Whether the package would take the place of an input, where that isn't asked for.
     fn overwrites<F: FileSystem>(&self, files: &F, output: &str) -> bool
         ensures apart { result ≡ false → self.now.force ≡ false
-            → AllApart (F.known files.now) output.now (paths_in self.now.inputs)
-            × AllApart (F.known files.now) output.now (paths_in self.now.executables) }
+            → out_of self.now ≡ Some output.now → IsNoInput (F.known files.now) self.now }
         ensures forced { IsTrue result → self.now.force ≡ false }
-        ensures leads { IsTrue result
-            → LeadTo (F.known files.now) output.now (paths_in self.now.inputs)
-            ⊎ LeadTo (F.known files.now) output.now (paths_in self.now.executables) }
+        ensures leads { IsTrue result → out_of self.now ≡ Some output.now
+            → IsInput (F.known files.now) self.now }
     {
         !self.force
             && (has_file(files, paths_in(self.inputs), output)
