@@ -29,14 +29,14 @@ use dwp_bytes::RelocationEntry;
 use dwp_elf::WritableObject;
 use dwp_elf::laws::written_contents_are_read_back;
 use dwp_table::DebugTypeSignature;
-use std::alloc::Global;
+use std::alloc::{AllocError, Global};
 use std::path::AsPath;
 use thorin::laws::runs_go_on;
 use thorin::{BytesSession, DwarfPackage, Input, NotTaken, take_input};
 use thorin_errors::Error;
 use thorin_inputs::Growth;
 use thorin_output::FileSystem;
-use thorin_print::{Failure, LineOutput};
+use thorin_print::LineOutput;
 use thorin_sessions::Session;
 
 /// The object to be written for these inputs, the type units that differ, and their lines.
@@ -99,10 +99,8 @@ fn fill<'o, 's: 'o, Sess: Session<RelocationEntry>, F: FileSystem, E: LineOutput
         let before = unit_count(builder);
         take(inputs, builder, &mut room, *input, options, err)?;
         let added = unit_count(builder).saturating_sub(before);
-        match lacks.push(lack_of(inputs.files, *input, room.as_slice(), added)) {
-            Ok(()) => {}
-            Err(_) => return Err(NoPackage::Command(Failure::Memory)),
-        }
+        let lack = lack_of(inputs.files, *input, room.as_slice(), added);
+        lacks.push(lack).map_err(|_| AllocError)?;
     }
     let lacks = lacks.as_slice();
     warn_unsplit(inputs, builder, list, lacks, options, err)?;

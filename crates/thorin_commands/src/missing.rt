@@ -182,9 +182,7 @@ fn list_each<F: FileSystem, W: Write>(
             }
             Err(InputError::Memory) => return Err(ListFailure::Command(Failure::Memory)),
         }
-        if seen.insert(told).is_err() {
-            return Err(ListFailure::Command(Failure::Memory));
-        }
+        seen.insert(told).map_err(|_| AllocError)?;
     }
     Ok(is_one_missing)
 }

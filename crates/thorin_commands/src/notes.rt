@@ -183,18 +183,12 @@ impl Notes {
     /// no memory for it, nothing is kept any more.
     pub(crate) fn keep_taken(&self, taken: Origin<'_>, now: Holding<'_>) {
         if let Some(mut origins) = self.origins.replace(None) {
-            let before = match origins.last() {
-                Some((before, _)) => *before,
-                None => 0,
-            };
-            let is_kept = if now.units > before {
-                match printed_origin(self.alloc, taken) {
+            let before = origins.last().map_or(0, |(before, _)| *before);
+            let is_kept = now.units <= before
+                || match printed_origin(self.alloc, taken) {
                     Ok(place) => origins.push((now.units, place)).is_ok(),
                     Err(_) => false,
-                }
-            } else {
-                true
-            };
+                };
             if is_kept {
                 self.origins.set(Some(origins));
             }

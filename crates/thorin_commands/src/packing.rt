@@ -287,10 +287,8 @@ fn packed_unsplit<F: FileSystem, E: LineOutput>(
         return Err(NoPackage::Empty);
     }
     let mut list = inputs_of(alloc, packing)?;
-    match list.push(Input::Object(Path::new(*executable))) {
-        Ok(()) => {}
-        Err(_) => return Err(NoPackage::Command(Failure::Memory)),
-    }
+    list.push(Input::Object(Path::new(*executable)))
+        .map_err(|_| AllocError)?;
     let options = ReportOptions {
         alloc,
         verbose: false,

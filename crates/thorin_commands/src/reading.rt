@@ -91,8 +91,7 @@ impl<'f, F: FileSystem> InputFiles<'f, F> {
         ensures { IsTrue result → IsAmong (paths_in self.now.packing.now.inputs) path.now
             ⊎ IsAmong (paths_in self.now.packing.now.executables) path.now }
     {
-        let inputs = paths_in(self.packing.inputs);
-        if let Some(_place) = self.places.place_among(inputs, path) {
+        if let Some(_place) = self.places.place_among(paths_in(self.packing.inputs), path) {
             return true;
         }
         let executables = paths_in(self.packing.executables);
@@ -154,10 +153,8 @@ impl<'f, F: FileSystem> InputFiles<'f, F> {
         // read before by another path.
         let mut repetitions = self.repetitions.replace(Repetitions::new(self.alloc));
         let admits = if is_own {
-            match repetitions.count_own(self.files.identity(path.path_text()), room.len()) {
-                Ok(()) => Ok(true),
-                Err(e) => Err(e),
-            }
+            let counted = repetitions.count_own(self.files.identity(path.path_text()), room.len());
+            counted.map(|()| true)
         } else {
             repetitions.admits_object(self.files.object_identity(path.path_text()), room.len())
         };

@@ -200,14 +200,8 @@ pub(crate) fn tell_refused<E: LineOutput>(
     ensures blamed { IfErr result (FailsBy (E.failed err.new)) }
 {
     let object = notes.named.replace(None);
-    let named = match &object {
-        Some(object) => Some(object.path.as_str()),
-        None => None,
-    };
-    let place = match path_of(input) {
-        Some(path) => place_of(alloc, path.path_text(), named).ok(),
-        None => None,
-    };
+    let named = object.as_ref().map(|object| object.path.as_str());
+    let place = path_of(input).and_then(|path| place_of(alloc, path.path_text(), named).ok());
     tell_why(alloc, notes, why, place.as_deref(), before, err)
 }
 

@@ -1,6 +1,7 @@
-use Rattle.thorin_commands.proofs.Terms.{drop, err_from_is_err_and, get_or, Input, rules, take}
-use Rattle.thorin_commands.proofs.Terms.{take_all, take_more, [], ◌+◌, ◌≡◌}
+use Rattle.thorin_commands.proofs.Terms.{arith, drop, err_from_is_err_and, get_or, Input, rules}
+use Rattle.thorin_commands.proofs.Terms.{take, take_all, take_more, [], ◌+◌, ◌≡◌}
 use Rattle.thorin_commands.proofs.Causes.{refuses_by, split_at}
+use Rattle.std.proofs.lemmas.Grind.{common_steps}
 use Rattle.thorin.specs.declared.packing.Input.TheVariants.{Object}
 use Rattle.thorin_commands.proofs.Warned.{lack_count, taken_told, taking_begins, taking_more}
 use Rattle.thorin_commands.proofs.making.fill.Goals as goal
@@ -15,9 +16,9 @@ loop-input-init g c =
 pub loop-input-preserved : goal.loop-input-preserved
 loop-input-preserved g c = taking_more
     (take_more c.args.list.now c.loop-input.input-index none c.loop-input-test.true)
-    c.in-Ok.ensures.items
+    (grind (arith, common_steps))
     (rw (c.saturating_sub-added.ensures, c.unit_count.ensures, c.unit_count-before.ensures) at
-    c.lack_of.ensures)
+    c.lack_of-lack.ensures)
     c.loop-input.invariant c.in_ok-take.ensures.took c.in_ok-take.ensures.line
 
 pub returns-in_err-take-clause-told : goal.returns-in_err-take-clause-told
