@@ -1,19 +1,17 @@
 -- The places of sections that are read for each kind, and a package by them.
-use Rattle.dwp_index.specs.declared.error.PackageError.TheVariants as errors
 use Rattle.std.proofs.Common.{arith, List, refl, ℕ, ◌≡◌}
 use Rattle.std.specs.Prelude.{Err, IfOk, IfSome, None, Ok, Option, Result, slice_get, Some, []}
 use Rattle.std.specs.Prelude.{find, option_map}
-use Rattle.thorin_c.specs.Opening.{bytes_at, IsPlaceIn, order_of, package_in, place_in, sections_at}
+use Rattle.thorin_c.specs.Opening.{bytes_at, IsPlaceIn, nowhere, place_in, sections_at}
 use Rattle.std.proofs.lemmas.Option.{get_or_from_slice_get}
 use Rattle.dwp_base.specs.{ByKind.value_of, Reading.Answers, Sections.all_kinds, Sections.rank_of}
 use Rattle.dwp_base.specs.declared.section.SectionKind.{SectionKind}
 use Rattle.dwp_base.proofs.{EveryKind.value-of, Steps.each-read}
 use Rattle.dwp_base.proofs.KindsRead.{answers-each, read-all, ReadBelow}
-use Rattle.dwp_elf_read.specs.{declared.error.ReadError.ReadError, declared.section.Section.Section}
-use Rattle.dwp_elf_read.specs.{Elf.Elf, Elf.elf_of, Elf.SectionMeaning, View.section}
+use Rattle.dwp_elf_read.specs.declared.error.ReadError.{ReadError}
+use Rattle.dwp_elf_read.specs.{declared.section.Section.Section, Elf.SectionMeaning, View.section}
 use Rattle.dwp_index.specs.Contents.{bytes_of, content, content_among, contents_of, is_of_kind}
-use Rattle.dwp_index.specs.Package.{package_of}
-use Rattle.thorin_c.specs.{declared.types.ThorinRange.ThorinRange, Opening.nowhere}
+use Rattle.thorin_c.specs.declared.types.ThorinRange.{ThorinRange}
 use Rattle.thorin_c.specs.declared.types.ThorinPackage.{ThorinPackage}
 
 -- what is read for a kind is the place of its section, inside the bytes
@@ -89,15 +87,3 @@ pub content_placed : (places : ThorinPackage) (bytes : List ℕ) (kind : Section
     → content (sections_at places bytes) kind ≡ bytes_at bytes (place_in places kind)
 unfolding sections_at
 content_placed places bytes kind = value-of (λ k. bytes_at bytes (place_in places k)) _ kind
-
--- a package is what stands at the places of its sections
-pub package_by : (bytes : List ℕ) (places : ThorinPackage) (file : Elf)
-    → elf_of bytes ≡ Ok file → contents_of file.sections ≡ Ok (sections_at places bytes)
-    → order_of places.big_endian ≡ file.order → package_of bytes ≡ package_in places bytes
-unfolding package_of package_in
-package_by bytes places file read contents order = rw (read, contents, order) refl
-
-pub none_by : (bytes : List ℕ) (file : Elf) (e : ReadError) → elf_of bytes ≡ Ok file
-    → contents_of file.sections ≡ Err e → package_of bytes ≡ Err (errors.Elf e)
-unfolding package_of
-none_by bytes file e read contents = rw (read, contents) refl

@@ -1,22 +1,16 @@
 -- Inputs taken one after the other.
-use Rattle.thorin.proofs.Terms.{ap, AreTaken, arith, Err, [], ℕ, ◌+◌, ◌<◌, ◌∙◌, ◌∷◌, ◌≡◌, ◌≤◌, ◌⊎◌}
-use Rattle.thorin.proofs.Terms.{finish_test, inl, IsPackageOf, IsTakenAgain, length-map, taken_each}
-use Rattle.thorin.proofs.Terms.{bind-ok, get_or, IsWritten, length, List, map_more, start, units_in}
-use Rattle.thorin.proofs.Terms.{inr, map, Ok, refl, State, sym, take, taken, true}
-use Rattle.std.proofs.Common.{if◌then◌else◌}
+use Rattle.thorin.proofs.Terms.{ap, arith, finish_test, [], ℕ, ◌+◌, ◌<◌, ◌∙◌, ◌∷◌, ◌≡◌, ◌≤◌, ◌⊎◌}
+use Rattle.thorin.proofs.Terms.{bind-ok, get_or, length, length-map, map_more, taken_each, units_in}
+use Rattle.thorin.proofs.Terms.{inl, inr, List, map, Ok, refl, start, State, sym, take, taken}
 use Rattle.std.specs.Prelude.{pos, ℤ, ◌≢◌}
-use Rattle.thorin_c.specs.Packing.{ArePackedAgain, IsDifferingStatus, TellsRefused, TellsUnfinished}
-use Rattle.thorin_c.specs.Packing.{Accepts, bytes_of, IsFailure, IsPackage, RunsOutAfter, RunsOutAt}
-use Rattle.thorin_c.specs.Packing.{Differ, Leaves, Refuses, StopsAt}
-use Rattle.thorin_errors.specs.Errors.{error_of, NoOutputObjectCreated}
-use Rattle.thorin_errors.specs.{Answers.MemoryAside, declared.error.Error.Error}
-use Rattle.thorin.specs.Run.{RefusesToWrite}
-use Rattle.dwp_table.specs.declared.object.DebugTypeSignature.{DebugTypeSignature}
+use Rattle.thorin_c.specs.Packing.{IsDifferingStatus, RunsOutAfter, TellsRefused, TellsUnfinished}
+use Rattle.thorin_c.specs.Packing.{Accepts, bytes_of, IsFailure, Refuses, RunsOutAt, StopsAt}
 use Rattle.thorin_c.specs.{declared.packing.RefusedInput.RefusedInput, Listing.written_over}
-use Rattle.thorin_c.specs.{declared.types.ThorinReport.ThorinReport, Errors.Tells}
+use Rattle.thorin_c.specs.{declared.types.ThorinReport.ThorinReport, Errors.Tells, Packing.Differ}
+use Rattle.thorin_errors.specs.Errors.{error_of, NoOutputObjectCreated}
+use Rattle.dwp_table.specs.declared.object.DebugTypeSignature.{DebugTypeSignature}
 use Rattle.thorin_join.specs.{Builder.differing_in, Builder.targets_test, Join.Joins}
-use Rattle.thorin_again.specs.Own.{packs_again}
-use Rattle.thorin.proofs.Running.{each-taken, join-append, taken-then}
+use Rattle.thorin.proofs.Running.{join-append, taken-then}
 use Rattle.thorin_c.specs.declared.types.ThorinBytes.{ThorinBytes}
 use Rattle.thorin_errors.specs.declared.error.Error.TheVariants as errors
 
@@ -98,60 +92,16 @@ module _ (inputs : List ThorinBytes) (refusal : RefusedInput) where
         accepted = is.1.accepted;
       })
 
--- the package of inputs that are all accepted
-pub packs : (inputs : List ThorinBytes) (state : State) (signatures : List DebugTypeSignature)
-    (bytes : List ℕ) → Accepts inputs start state → IsWritten state bytes
-    → IsPackageOf (units_in state) bytes
-    → map (λ s. s.0) signatures ≡ differing_in state → IsPackage inputs (length signatures)
-    (if packs_again state then 1 else 0) bytes
-packs inputs state signatures bytes accepted written joined differ = record {
-  state = state;
-  accepted = accepted;
-  written = written;
-  package_of = joined;
-  differ = sym (length-map signatures (λ s. s.0)) ∙ ap length differ;
-  packs = refl;
-}
-
--- ---- a package that is taken again
-
-abbrev pub AgainLaw : Type 0
-AgainLaw = (accepted : List (List ℕ)) (state : State) (bytes : List ℕ)
-    → AreTaken accepted start state → packs_again state ≡ true → IsWritten state bytes
-    → IsTakenAgain (units_in state) bytes
-
--- where the builder says so, what was written is taken again
-pub taken_again : AgainLaw → (inputs : List ThorinBytes) (state : State) (bytes : List ℕ)
-    → Accepts inputs start state → IsWritten state bytes → packs_again state ≡ true
-    → ArePackedAgain inputs bytes
-taken_again law inputs state bytes accepted written packs = record {
-  units = units_in state;
-  joined = accepted.joined;
-  again = law (bytes_of inputs) state bytes
-      (each-taken (bytes_of inputs) start state accepted.taken) packs written;
-}
-
--- and why it can't be finished
-pub fails : (inputs : List ThorinBytes) (state : State) (error : Error) → 0 < length inputs
-    → Accepts inputs start state → MemoryAside error (RefusesToWrite state (error_of error))
-    → Leaves inputs error
-fails inputs state error some accepted refused =
-    record { state = state; accepted = accepted; refused = refused; memory = λ e. some }
-
-none_begun : finish_test start ≡ Err NoOutputObjectCreated
-unfolding finish_test targets_test
-none_begun = refl
-
 -- no input makes no package
 pub none_fails : (inputs : List ThorinBytes) → length inputs ≡ 0
     → IsFailure inputs (record { number = 0; error = errors.NoOutputObjectCreated })
-unfolding taken_each
+unfolding taken_each finish_test targets_test
 none_fails [] e = inr (
   refl,
   record {
     state = start;
     accepted = record { taken = refl; joined = refl };
-    refused = λ h. inl none_begun;
+    refused = λ h. inl refl;
     memory = λ e. absurd cc;
   },
 )

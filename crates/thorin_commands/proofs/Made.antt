@@ -1,12 +1,11 @@
 -- What was made of inputs, and what was told of that.
 use Rattle.thorin_commands.proofs.Terms
-use Terms.{added_in, Alone, Among, ap, append_assoc, Archive, AreAsked, asked, asks, Bad, Bool}
-use Terms.{Cause, DebugTypeSignature, differing_in, Err, Error, false, File, file_text, IfErr, inl}
-use Terms.{Input, inr, IsNotTaken, IsPrinted, IsUnfinished, left, List, Manner, manner_of, map}
-use Terms.{NoOutputObjectCreated, NoPackage, Offer, Ok, OnOk, Option, out_of, Packing, Plain}
-use Terms.{Reasons, refl, Refuses, Result, Some, State, StopsAt, StopsIn, TellsInputs, TellsMacros}
-use Terms.{TellsTaken, true, Unfinished, Unread, ℕ, ◌++◌, ◌∙◌, ◌≡◌}
-use Rattle.std.specs.Prelude.{IfOk}
+use Terms.{added_in, Among, ap, append_assoc, Archive, AreAsked, asked, asks, Bad, Bool, Cause}
+use Terms.{DebugTypeSignature, differing_in, Err, Error, false, File, file_text, IfErr, inl, Input}
+use Terms.{inr, IsNotTaken, IsPrinted, IsUnfinished, left, List, Manner, manner_of, map}
+use Terms.{NoOutputObjectCreated, NoPackage, Offer, Ok, Option, out_of, Packing, Reasons, refl}
+use Terms.{Refuses, Result, Some, State, StopsAt, StopsIn, TellsInputs, TellsMacros, TellsTaken}
+use Terms.{true, Unfinished, ℕ, ◌++◌, ◌∙◌, ◌≡◌}
 use Rattle.thorin_errors.specs.Errors.{NoOutputObjectCreated as NoneBegun}
 use Rattle.thorin_join.specs.Builder.{finish_test}
 use Rattle.thorin_output.specs.{declared.warnings.Warned.Warned, Warnings.IsWarning}

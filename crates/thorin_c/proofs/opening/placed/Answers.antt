@@ -1,6 +1,7 @@
-use Rattle.std.proofs.Common.{ap, arith, refl, ◌∙◌}
-use Rattle.thorin_c.proofs.PlacesRead.{contents_read, contents_stop, inside_each, package_by}
-use Rattle.thorin_c.proofs.PlacesRead.{IsPlaceOf, none_by}
+use Rattle.std.proofs.Common.{ap, arith, refl}
+use Rattle.dwp_index.specs.Package.{package_of}
+use Rattle.thorin_c.specs.Opening.{package_in}
+use Rattle.thorin_c.proofs.PlacesRead.{contents_read, contents_stop, inside_each, IsPlaceOf}
 use Rattle.std.{proofs.lemmas.Option.slice_get-get_or, specs.Prelude.slice_set}
 use Rattle.dwp_base.{proofs.KindsRead.read-more, specs.Sections.all_kinds}
 use Rattle.dwp_elf_read.specs.{declared.error.ReadError.ReadError, View.bytes_of, View.elf}
@@ -10,12 +11,13 @@ pub loop-kind-init : goal.loop-kind-init
 loop-kind-init c = (refl, λ place kind lt at. absurd (omega (arith, lt)))
 
 pub returns-in-Err-place-clause-fails : goal.returns-in-Err-place-clause-fails
+unfolding package_of
 returns-in-Err-place-clause-fails c =
-    none_by c.args.bytes.now (elf c.in-Ok.file) _ c.in-Ok.ensures.meaning
-    (contents_stop (elf c.in-Ok.file).sections (bytes_of c.in-Ok.file) c.loop-kind.sections
-    c.loop-kind.kind-index _ c.in-Err-place.e
+    let stop = contents_stop (elf c.in-Ok.file).sections (bytes_of c.in-Ok.file)
+    c.loop-kind.sections c.loop-kind.kind-index _ c.in-Err-place.e
     (slice_get-get_or all_kinds c.loop-kind.kind-index _ (omega (arith, c.loop-kind-test.true)))
-    (c.in-Err-place.ensures.content, tt) c.loop-kind.invariant.1)
+    (c.in-Err-place.ensures.content, tt) c.loop-kind.invariant.1 in
+    rw (c.in-Ok.ensures.meaning, stop) refl
 
 pub loop-kind-preserved : goal.loop-kind-preserved
 loop-kind-preserved c =
@@ -27,13 +29,13 @@ loop-kind-preserved c =
     (c.in-Ok-place.ensures.content, c.in-Ok-place.ensures.inside) c.loop-kind.invariant.1
 
 pub returns-clause-same : goal.returns-clause-same
+unfolding package_of package_in
 returns-clause-same c =
-    package_by c.args.bytes.now _ (elf c.in-Ok.file) c.in-Ok.ensures.meaning
-    (rw c.in-Ok.ensures.of_bytes at (contents_read (elf c.in-Ok.file).sections
+    let read = rw c.in-Ok.ensures.of_bytes at (contents_read (elf c.in-Ok.file).sections
     (bytes_of c.in-Ok.file) c.loop-kind.sections (λ place kind lt.
     c.loop-kind.invariant.1 place kind (omega (arith, lt, c.loop-kind-test.false)))
-    c.number_of-big_endian.result))
-    (c.number_of-big_endian.ensures ∙ c.endianness.ensures)
+    c.number_of-big_endian.result) in
+    rw (c.in-Ok.ensures.meaning, read, c.number_of-big_endian.ensures, c.endianness.ensures) refl
 
 pub returns-clause-inside : goal.returns-clause-inside
 returns-clause-inside c =

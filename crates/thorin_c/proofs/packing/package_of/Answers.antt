@@ -1,27 +1,40 @@
-use Rattle.std.proofs.Common.{◌∙◌, ◌<◌, inr, length, rules, sym}
-use Rattle.thorin_c.proofs.Taking.{packs, taken_again, fails}
+use Rattle.std.proofs.Common.{ap, inr, length, refl, rules, sym, ◌<◌, ◌∙◌}
+use Rattle.thorin.proofs.{Running.each-taken, Terms.length-map, Terms.start, Terms.units_in}
+use Rattle.thorin_c.specs.Packing.{bytes_of}
 use Rattle.thorin_c.proofs.packing.package_of.Goals as goal
 
 pub returns-in-Ok-clause-packed : goal.returns-in-Ok-clause-packed
-returns-in-Ok-clause-packed c =
-    let accepted = rw c.new-builder.ensures.state at c.in_default.ensures.accepted in
-    rw c.packs_again-packs_again.ensures.exact (packs c.args.inputs.now _
-    c.differing_types.result.now c.in-Ok.file.items accepted c.in-Ok.ensures.writes
-    c.in-Ok.ensures.packaged c.differing_types.ensures)
+returns-in-Ok-clause-packed c = rw c.packs_again-packs_again.ensures.exact (record {
+  state = c.add_all.new.builder.state;
+  accepted = rw c.new-builder.ensures.state at c.in_default.ensures.accepted;
+  written = c.in-Ok.ensures.writes;
+  package_of = c.in-Ok.ensures.packaged;
+  differ = sym (length-map c.differing_types.result.now (λ s. s.0))
+      ∙ ap length c.differing_types.ensures;
+  packs = refl;
+})
 
 pub returns-in-Ok-clause-again : goal.returns-in-Ok-clause-again
-returns-in-Ok-clause-again c =
-    let accepted = rw c.new-builder.ensures.state at c.in_default.ensures.accepted in
-    λ yes. taken_again c.written_packages_are_taken_again.ensures.again c.args.inputs.now _
-    c.in-Ok.file.items accepted c.in-Ok.ensures.writes
-    (sym c.packs_again-packs_again.ensures.exact ∙ yes)
+returns-in-Ok-clause-again c = λ yes.
+    let inputs = bytes_of c.args.inputs.now in
+    let state = c.add_all.new.builder.state in
+    let accepted = rw c.new-builder.ensures.state at c.in_default.ensures.accepted in record {
+      units = units_in state;
+      joined = accepted.joined;
+      again = c.written_packages_are_taken_again.ensures.again inputs state c.in-Ok.file.items
+          (each-taken inputs start state accepted.taken)
+          (sym c.packs_again-packs_again.ensures.exact ∙ yes) c.in-Ok.ensures.writes;
+    }
 
 pub returns-in-Err-written-clause-refused : goal.returns-in-Err-written-clause-refused
 returns-in-Err-written-clause-refused c =
     let some : 0 < length c.args.inputs.now = search rules in
-    let accepted = rw c.new-builder.ensures.state at c.in_default.ensures.accepted in
     inr (
       search rules,
-      fails c.args.inputs.now _ c.in-Err-written.error some accepted
-          c.in-Err-written.ensures.writes,
+      record {
+        state = c.add_all.new.builder.state;
+        accepted = rw c.new-builder.ensures.state at c.in_default.ensures.accepted;
+        refused = c.in-Err-written.ensures.writes;
+        memory = λ e. some;
+      },
     )
