@@ -2,13 +2,13 @@
 pub use Rattle.std.proofs.Common.{ap, arith, Bool, [], ℕ, ◌++◌, ◌+◌, ◌-◌, ◌<◌, ◌∙◌, ◌∷◌, ◌≡◌, ◌⊎◌}
 pub use Rattle.std.proofs.Common.{false, get_or, inl, length, List, refl, rules, string_bytes, take}
 pub use Rattle.std.proofs.Common.{inr, map, Ok, sym, true}
-pub use Rattle.thorin_commands.specs.Cause.{Bad, IsNotTaken, IsUnfinished, refusal_text, Unfinished}
+pub use Rattle.thorin_commands.specs.Cause.{Bad, IsNotTaken, IsUnfinished, Unfinished}
 pub use Rattle.thorin_commands.specs.Cause.{Archive, Reasons, Refuses, StopsAt, StopsIn, Unread}
 pub use Rattle.thorin_commands.specs.Cause.{Alone, Among, Cause, Plain, Stops, Tells}
 pub use Rattle.thorin_commands.specs.Opened.{added_in, TookEach, TookInputs, TookNone, unit_count}
 pub use Rattle.thorin_commands.specs.Packing.{AreAsked, asks, declines, manner_of, out_of, paths_in}
 pub use Rattle.thorin_commands.specs.Warned.{TellsInputs, TellsMacros, TellUnsplitBy, unsplit_line}
-pub use Rattle.thorin_commands.specs.Warned.{missing_in, path_of, TellLeft, TellNamed, TellsTaken}
+pub use Rattle.thorin_commands.specs.Warned.{missing_in, path_of, TellsTaken}
 pub use Rattle.dwp_archive.specs.View.{member}
 pub use Rattle.dwp_elf.specs.FileText.{file_text, Object as File}
 pub use Rattle.dwp_table.specs.declared.object.DebugTypeSignature.{DebugTypeSignature}

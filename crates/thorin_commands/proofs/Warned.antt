@@ -3,13 +3,13 @@ use Rattle.thorin_commands.proofs.Terms
 use Terms.{added_in, ap, append-nil, append_assoc, Appends, arith, Bool, DebugTypeSignature, Err}
 use Terms.{false, get_or, inl, Input, inr, IsPrinted, length, List, Manner, map, map-append}
 use Terms.{missing_in, None, Offer, Ok, OnOk, Option, path_of, refl, Some, State, sym, take}
-use Terms.{take_all, take_more, TellLeft, TellNamed, TellsMacros, TellsTaken, TellUnsplitBy}
-use Terms.{TookAll, TookNone, TookTelling, true, Types, unit_count, unsplit_line, [], ℕ, ◌++◌, ◌+◌}
-use Terms.{◌-◌, ◌<◌, ◌∙◌, ◌∷◌, ◌≡◌, ◌⊎◌}
+use Terms.{take_all, take_more, TellsMacros, TellsTaken, TellUnsplitBy, TookAll, TookNone}
+use Terms.{TookTelling, true, Types, unit_count, unsplit_line, [], ℕ, ◌++◌, ◌+◌, ◌-◌, ◌<◌, ◌∙◌, ◌∷◌}
+use Terms.{◌≡◌, ◌⊎◌}
 use Rattle.std.proofs.Common.{◌≤◌}
-use Rattle.thorin_commands.specs.Warned.{InTurn, IsLeftLine, TellsTaking, TellsUnsplit, TellUnsplit}
-use Rattle.thorin_commands.specs.Warned.{left_line, named_line, TellsAdded, TellsLeft, TellsNamed}
-use Rattle.thorin_commands.specs.Warned.{AreLacks}
+use Rattle.thorin_commands.specs.Warned.{IsLeftLine, left_line, named_line, TellsAdded, TellsNamed}
+use Rattle.thorin_commands.specs.Warned.{IsNamedLine, TellsTaking, TellsUnsplit, TellUnsplit}
+use Rattle.thorin_commands.specs.Warned.{AreLacks, InOrder, InTurn, TellsLeft}
 use Rattle.std.proofs.KnownBytes.{Appends-nil, Appends-trans}
 use Rattle.dwp_table.specs.declared.object.DwarfObject.{DwarfObject}
 use Rattle.thorin_print.specs.{Answers.Outcome, Answers.Prints, Told.taken_line}
@@ -63,6 +63,17 @@ module _ {A B : Type 0} (P : A → B → List ℕ → Type 0) where
   turn_lengths [] [] text h = refl
   turn_lengths (y ∷ xs) (c ∷ bs) text h = omega (arith, turn_lengths xs bs h.1 h.3)
   turn_lengths _ _ text h = absurd h
+
+order_more : {A : Type 0} (P : A → List ℕ → Type 0) (xs : List A) (x : A) (text line : List ℕ)
+    → InOrder P xs text → P x line → InOrder P (xs ++ x ∷ []) (text ++ line)
+order_more P [] x text line h p = (line, [], p, refl, ap (λ t. t ++ line) h ∙ one_line line)
+order_more P (y ∷ xs) x text line h p = (
+  h.0,
+  h.1 ++ line,
+  h.2,
+  order_more P xs x h.1 line h.3 p,
+  more_behind text line h.0 h.1 h.4,
+)
 
 -- a text that a call printed
 pub printed_ok : {P : List ℕ → Type 0} (line : List ℕ) (a b : Option (List ℕ)) (result : Outcome)
@@ -215,51 +226,31 @@ pub line_told : (unit : DwarfObject) (reason line : List ℕ) (a b : Option (Lis
     → line ≡ left_line unit reason → Appends a b line → IsPrinted a b (IsLeftLine unit)
 line_told unit reason line a b e h = record { text = line; is = (reason, e); added = h }
 
-left_more : (units : List DwarfObject) (unit : DwarfObject) (text line : List ℕ)
-    → TellLeft units text → IsLeftLine unit line → TellLeft (units ++ unit ∷ []) (text ++ line)
-left_more [] unit text line h p = (line, [], p, refl, ap (λ t. t ++ line) h ∙ one_line line)
-left_more (u ∷ units) unit text line h p = (
-  h.0,
-  h.1 ++ line,
-  h.2,
-  left_more units unit h.1 line h.3 p,
-  more_behind text line h.0 h.1 h.4,
-)
-
 pub left_next : (units : List DwarfObject) (unit : DwarfObject) (a b c : Option (List ℕ))
-    → IsPrinted a b (TellLeft units) → IsPrinted b c (IsLeftLine unit)
-    → IsPrinted a c (TellLeft (units ++ unit ∷ []))
-left_next units unit a b c p q =
-    printed_then {R = TellLeft (units ++ unit ∷ [])} (left_more units unit) p q
+    → IsPrinted a b (InOrder IsLeftLine units) → IsPrinted b c (IsLeftLine unit)
+    → IsPrinted a c (InOrder IsLeftLine (units ++ unit ∷ []))
+left_next units unit a b c p q = printed_then {R = InOrder IsLeftLine (units ++ unit ∷ [])}
+    (order_more IsLeftLine units unit) p q
 
 pub none_left : (partial : Bool) (state : State) (a : Option (List ℕ)) → partial ≡ false
     → IsPrinted a a (TellsLeft partial state)
 none_left partial state a e = rw e (none_printed a refl)
 
 pub all_left : (partial : Bool) (state : State) (a b : Option (List ℕ)) → partial ≡ true
-    → IsPrinted a b (TellLeft (missing_in state)) → IsPrinted a b (TellsLeft partial state)
+    → IsPrinted a b (InOrder IsLeftLine (missing_in state))
+    → IsPrinted a b (TellsLeft partial state)
 all_left partial state a b e p = rw e p
 
 -- ---- type units that differ
 
-named_more : (ids : List ℕ) (id : ℕ) (text more : List ℕ) → TellNamed ids text
-    → TellNamed (ids ++ id ∷ []) (text ++ named_line id more)
-named_more [] id text more h =
-    (more, [], refl, ap (λ t. t ++ named_line id more) h ∙ one_line (named_line id more))
-named_more (i ∷ ids) id text more h = (
-  h.0,
-  h.1 ++ named_line id more,
-  named_more ids id h.1 more h.2,
-  more_behind text (named_line id more) (named_line i h.0) h.1 h.3,
-)
-
 pub named_next : (xs : List DebugTypeSignature) (i : ℕ) (d : DebugTypeSignature)
-    (old new more : List ℕ) → i < length xs → TellNamed (map (λ s. s.0) (take i xs)) old
+    (old new more : List ℕ) → i < length xs
+    → InOrder IsNamedLine (map (λ s. s.0) (take i xs)) old
     → new ≡ old ++ named_line (get_or xs i d).0 more
-    → TellNamed (map (λ s. s.0) (take (i + 1) xs)) new
+    → InOrder IsNamedLine (map (λ s. s.0) (take (i + 1) xs)) new
 named_next xs i d old new more lt h n =
-    rw (take_more xs i d lt, map-append, n)
-    (named_more (map (λ s. s.0) (take i xs)) (get_or xs i d).0 old more h)
+    rw (take_more xs i d lt, map-append, n) (order_more IsNamedLine (map (λ s. s.0) (take i xs))
+    (get_or xs i d).0 old (named_line (get_or xs i d).0 more) h (more, refl))
 
 -- no warnings of sections of macros
 pub no_macros : (warns : Bool) → TellsMacros warns []

@@ -32,6 +32,12 @@ InTurn Tells (one ∷ list) (its ∷ rest) text = (line : List ℕ) × (more : L
     × Tells one its line × InTurn Tells list rest more × (text ≡ line ++ more)
 InTurn Tells list rest text = ⊥
 
+-- the same by that alone
+abbrev pub InOrder : {A : Type 0} → (A → List ℕ → Type 0) → List A → (text : List ℕ) → Type 0
+InOrder Tells [] text = text ≡ []
+InOrder Tells (one ∷ list) text = (line : List ℕ) × (more : List ℕ) × Tells one line
+    × InOrder Tells list more × (text ≡ line ++ more)
+
 -- ---- inputs that were taken
 
 -- the path of an input
@@ -97,18 +103,13 @@ left_line unit reason = unit_line (codes "warning: unit 0x") (identifier_of unit
 abbrev pub IsLeftLine : DwarfObject → (text : List ℕ) → Type 0
 IsLeftLine unit text = (reason : List ℕ) × (text ≡ left_line unit reason)
 
-abbrev pub TellLeft : List DwarfObject → (text : List ℕ) → Type 0
-TellLeft [] text = text ≡ []
-TellLeft (unit ∷ units) text = (line : List ℕ) × (more : List ℕ) × IsLeftLine unit line
-    × TellLeft units more × (text ≡ line ++ more)
-
 -- the units that executables refer to and that a package lacks
 abbrev pub missing_in : State → List DwarfObject
 missing_in state = filter (is_missing (names_in state.begun)) state.targets
 
 -- with `partial` each of them is told, in order
 abbrev pub TellsLeft : (partial : Bool) → State → (text : List ℕ) → Type 0
-TellsLeft true state text = TellLeft (missing_in state) text
+TellsLeft true state text = InOrder IsLeftLine (missing_in state) text
 TellsLeft false state text = text ≡ []
 
 -- ---- before the package is written
@@ -173,13 +174,11 @@ abbrev pub named_line : (id : ℕ) → (more : List ℕ) → List ℕ
 named_line id more =
     unit_line (codes "warning: type unit 0x") id (codes " differs from the one kept") more
 
-abbrev pub TellNamed : List ℕ → (text : List ℕ) → Type 0
-TellNamed [] text = text ≡ []
-TellNamed (id ∷ ids) text = (more : List ℕ) × (rest : List ℕ) × TellNamed ids rest
-    × (text ≡ named_line id more ++ rest)
+abbrev pub IsNamedLine : (id : ℕ) → (text : List ℕ) → Type 0
+IsNamedLine id text = (more : List ℕ) × (text ≡ named_line id more)
 
 abbrev pub TellsNamed : (names : Bool) → List ℕ → (text : List ℕ) → Type 0
-TellsNamed true differing text = TellNamed differing text
+TellsNamed true differing text = InOrder IsNamedLine differing text
 TellsNamed false differing text = text ≡ []
 
 -- the warnings that are printed beside those

@@ -1,4 +1,5 @@
-use Rattle.thorin_commands.proofs.Terms.{IsPrinted, missing_in, TellLeft, ◌++◌, ◌≡◌}
+use Rattle.thorin_commands.proofs.Terms.{IsPrinted, missing_in, ◌++◌, ◌≡◌}
+use Rattle.thorin_commands.specs.Warned.{InOrder, IsLeftLine}
 use Rattle.thorin_builder.specs.Missing.{missing_left}
 use Rattle.thorin_commands.proofs.missing.leave_out.Given as goal
 
@@ -7,5 +8,5 @@ abbrev pub invariant-loop-target : goal.invariant-loop-target
 invariant-loop-target g l = record {
   left : l.yielded ++ missing_left l.target-iterator ≡ missing_in l.fn.builder.state;
   told : IsPrinted (g.E.LineOutput.contents l.fn.err) (g.E.LineOutput.contents l.err)
-      (TellLeft l.yielded);
+      (InOrder IsLeftLine l.yielded);
 }
