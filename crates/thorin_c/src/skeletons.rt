@@ -1,10 +1,8 @@
 //! The objects that an executable names.
 
-ghost use Rattle.std.specs.Prelude.{◌≡◌, ◌⊎◌, pos, List, None, option_map};
-ghost use Rattle.thorin_errors.specs.Errors.{error_of};
-ghost use Rattle.thorin_executable.specs.Skeletons.{Named, skeletons_of};
-ghost use Rattle.thorin_c.specs.Skeletons.{IsFirst, ListsUnits, room_of};
-ghost use Rattle.thorin_c.specs.Skeletons.{TellsEnd, TellsOfList, TellsOfEnd};
+ghost use Rattle.std.specs.Prelude.{◌≡◌, ◌⊎◌, pos, None};
+ghost use Rattle.thorin_executable.specs.Skeletons.{skeletons_of};
+ghost use Rattle.thorin_c.specs.Skeletons.{ListsUnits, TellsEnd, TellsOfEnd, TellsOfList};
 
 use crate::error::tell;
 use crate::listing::write_over;
@@ -13,12 +11,12 @@ use crate::types::{ThorinReport, ThorinSkeleton};
 use crate::units::{FirstUnits, Room};
 use std::alloc::Global;
 use thorin::{Bump, BytesSession};
-use thorin_errors::Error;
 
 /// Lists the split units that an executable names, and the paths of their objects, each with a zero
 /// byte behind it, as far as there is room: 0, how many units there are in `count`, and how many
 /// bytes all paths have in `report.size`. 11 where an error ends the list: the same of the units
 /// before it, and the error in `report`. 13 where memory ran out, and then all is left as it is.
+#[tactic(auto, using(crate::proofs::SkeletonLists::end_alone))]
 #[unsafe(no_mangle)]
 pub extern "C" fn thorin_skeletons(
     alloc: Global,
@@ -45,38 +43,19 @@ pub extern "C" fn thorin_skeletons(
         paths: paths.len(),
     };
     match FirstUnits::read(alloc, &session, bytes, room) {
-        Ok((units, error)) => told(&units, error, names, paths, count, report),
-        Err(_) => NO_MEMORY,
-    }
-}
-
-/// Tells of the units that were read, and of the error that ends them.
-#[tactic(auto, using(crate::proofs::SkeletonLists::lists, crate::proofs::SkeletonLists::end_alone))]
-fn told(
-    units: &FirstUnits,
-    error: Option<Error>,
-    names: &mut [ThorinSkeleton],
-    paths: &mut [u8],
-    count: &mut u64,
-    report: &mut ThorinReport,
-) -> i32
-    ensures whole { result ≡ pos 0 → error ≡ None }
-    ensures ended { result ≡ pos 11 → TellsEnd (option_map error_of error) report.new }
-    ensures lists { (list : List Named) → IsFirst (room_of names.old paths.old) list units.now
-        → ListsUnits list names.old names.new paths.old paths.new count.new report.new }
-    ensures whole_alone { result ≡ pos 0 → TellsOfList report.old report.new }
-    ensures ended_alone { result ≡ pos 11 → TellsOfEnd report.old report.new }
-    ensures status { (result ≡ pos 0) ⊎ (result ≡ pos 11) }
-{
-    write_over(&units.names, names);
-    write_over(&units.paths, paths);
-    *count = units.count;
-    report.size = units.size;
-    match error {
-        None => DONE,
-        Some(error) => {
-            tell(error, report);
-            REFUSED
+        Ok((units, error)) => {
+            write_over(&units.names, names);
+            write_over(&units.paths, paths);
+            *count = units.count;
+            report.size = units.size;
+            match error {
+                None => DONE,
+                Some(error) => {
+                    tell(error, report);
+                    REFUSED
+                }
+            }
         }
+        Err(_) => NO_MEMORY,
     }
 }

@@ -1,0 +1,21 @@
+use Rattle.std.proofs.Common.{ap, refl}
+use Rattle.thorin_executable.specs.Skeletons.{skeletons_of}
+use Rattle.thorin_c.{proofs.SkeletonLists.lists, specs.declared.types.ThorinReport.ThorinReport}
+use Rattle.thorin_c.proofs.skeletons.thorin_skeletons.Goals as goal
+
+pub returns-in-None-clause-listed : goal.returns-in-None-clause-listed
+returns-in-None-clause-listed c = λ _.
+    lists (skeletons_of c.args.bytes.now).0 c.in-Ok.units c.args.names.now c.write_over.new.over
+    c.args.paths.now c.write_over-2.new.over c.in-Ok.units.count _
+    (rw (c.len.ensures, c.len-2.ensures) at c.in-Ok.ensures.first)
+    (rw c.deref.ensures.value at c.write_over.ensures)
+    (rw c.deref-2.ensures.value at c.write_over-2.ensures) refl refl
+
+pub returns-in-Some-clause-listed : goal.returns-in-Some-clause-listed
+returns-in-Some-clause-listed c = λ _.
+    lists (skeletons_of c.args.bytes.now).0 c.in-Ok.units c.args.names.now c.write_over.new.over
+    c.args.paths.now c.write_over-2.new.over c.in-Ok.units.count c.tell.new.report
+    (rw (c.len.ensures, c.len-2.ensures) at c.in-Ok.ensures.first)
+    (rw c.deref.ensures.value at c.write_over.ensures)
+    (rw c.deref-2.ensures.value at c.write_over-2.ensures) refl
+    (ap (λ (r : ThorinReport). r.size) c.tell.ensures.alone)
