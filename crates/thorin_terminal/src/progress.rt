@@ -63,10 +63,7 @@ impl<'r, 'e, E: Write> Console<'r, 'e, E> {
         progress.files = progress.files.saturating_add(1);
         progress.bytes = progress.bytes.saturating_add(size as u64);
         self.progress.set(progress);
-        let Some(start) = progress.start else {
-            return;
-        };
-        let Ok(passed) = start.elapsed(self.rt) else {
+        let Some(Ok(passed)) = progress.start.map(|start| start.elapsed(self.rt)) else {
             return;
         };
         let passed = u64::try_from(passed.as_millis()).unwrap_or(u64::MAX);
