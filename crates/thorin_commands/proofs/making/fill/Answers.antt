@@ -1,5 +1,5 @@
 use Rattle.thorin_commands.proofs.Terms.{arith, drop, err_from_is_err_and, get_or, Input, rules}
-use Rattle.thorin_commands.proofs.Terms.{take, take_all, take_more, [], ◌+◌, ◌≡◌}
+use Rattle.thorin_commands.proofs.Terms.{take, take_all, take_more, [], ◌++◌, ◌+◌, ◌∷◌, ◌≡◌}
 use Rattle.thorin_commands.proofs.Causes.{refuses_by, split_at}
 use Rattle.std.proofs.lemmas.Grind.{common_steps}
 use Rattle.thorin.specs.declared.packing.Input.TheVariants.{Object}
@@ -14,9 +14,11 @@ loop-input-init g c =
     let none : c.new-lacks.result.items ≡ [] = search rules in rw none taking_begins
 
 pub loop-input-preserved : goal.loop-input-preserved
-loop-input-preserved g c = taking_more
-    (take_more c.args.list.now c.loop-input.input-index none c.loop-input-test.true)
-    (grind (arith, common_steps))
+loop-input-preserved g c =
+    let more : c.push.new.self.items ≡ c.loop-input.lacks.items ++ c.lack_of-lack.result ∷ [] =
+    grind (arith, common_steps) in
+    taking_more (take_more c.args.list.now c.loop-input.input-index none c.loop-input-test.true)
+    more
     (rw (c.saturating_sub-added.ensures, c.unit_count.ensures, c.unit_count-before.ensures) at
     c.lack_of-lack.ensures)
     c.loop-input.invariant c.in_ok-take.ensures.took c.in_ok-take.ensures.line
