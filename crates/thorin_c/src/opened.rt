@@ -1,6 +1,7 @@
 //! A package that is open: its sections, rows, units and names, and what is lent of them.
 
-ghost use Rattle.std.specs.Prelude.{Ok, ◌≡◌};
+ghost use Rattle.std.specs.{Option.option_copied, Prelude.Ok};
+ghost use Rattle.std.specs.Prelude.{◌≡◌};
 ghost use Rattle.dwp_index.specs.Package.{first_outside, found_counted, index_for, row_counted};
 ghost use Rattle.dwp_base.specs.Reading.{Answers};
 ghost use Rattle.dwp_index.specs.{Contents.content, Package.row_bytes};
@@ -148,18 +149,10 @@ impl<'p, 'a> OpenPackage<'p, 'a> {
     fn listed(&self, object: DwarfObject) -> Result<ListedRow<'a>, i32>
         ensures { Answers row_held result (row_listed object (index_for self.now object)) }
     {
-        let index = match object {
-            DwarfObject::Compilation(_) => self.compilations.as_ref().ok_or(ABSENT)?,
-            DwarfObject::TypeUnit(_) => self.types.as_ref().ok_or(ABSENT)?,
-        };
-        let (found, slots) = index.find_counted(object.index());
-        let number = found.ok_or(ABSENT)?;
-        let ranges = index.row(number).map_err(|_| MALFORMED_INDEX)?;
-        Ok(ListedRow {
-            number,
-            ranges,
-            slots,
-        })
+        match object {
+            DwarfObject::Compilation(_) => listed_by(object, self.compilations.as_ref()),
+            DwarfObject::TypeUnit(_) => listed_by(object, self.types.as_ref()),
+        }
     }
 
     /// The row of an object, whose ranges lie inside their sections.
@@ -212,5 +205,24 @@ impl<'p, 'a> OpenPackage<'p, 'a> {
                 string.ok_or(NO_SUCH_STRING)
             }
         }
+    }
+}
+
+/// The row of an object in an index. (Each index has its own copy of this code, in which the
+/// index stays in registers.)
+#[inline(always)]
+fn listed_by<'a>(object: DwarfObject, index: Option<&UnitIndex<'a>>) -> Result<ListedRow<'a>, i32>
+    ensures { Answers row_held result (row_listed object (option_copied index.entry)) }
+{
+    let index = index.ok_or(ABSENT)?;
+    let (found, slots) = index.find_counted(object.index());
+    let number = found.ok_or(ABSENT)?;
+    match index.row(number) {
+        Ok(ranges) => Ok(ListedRow {
+            number,
+            ranges,
+            slots,
+        }),
+        Err(_) => Err(MALFORMED_INDEX),
     }
 }
