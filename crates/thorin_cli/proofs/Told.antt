@@ -68,11 +68,8 @@ module _ {F O E : Type 0} (system : System F O E) (files : F) (out : O) (old new
         (fails : List ℕ → ResponseError → Type 0) (words line : List (List ℕ)) (e : ResponseError)
         → CannotBeTold text fails words e → words ≡ line
         → Tried (response_text e) ⊎ Tried no_memory → HasTold system text fails line after
-    unread text fails words line e is same (inl told) = record {
-      cause = e;
-      is = rw (← same) is;
-      line = tried (response_text e) told;
-    }
+    unread text fails words line e is same (inl told) =
+        record { cause = e; is = rw (← same) is; line = tried (response_text e) told }
     unread text fails words line e is same (inr told) =
         record { cause = errors.Memory; is = tt; line = tried no_memory told }
 

@@ -108,13 +108,8 @@ pub made_ready : {offer : Offer} (packing : Packing) {a b : Option (List ℕ)} {
     → TellsMacros packing.warns_of_macros macros → lines ≡ macros ++ named
     → IsMadeFor (TellsInputs offer packing) offer packing a b object differing named
     → IsReady offer packing a b object differing lines
-made_ready packing named macros lines are is made = record {
-  named = named;
-  made = made;
-  macros = macros;
-  macros_are = are;
-  lines_are = is;
-}
+made_ready packing named macros lines are is made =
+    record { named = named; made = made; macros = macros; macros_are = are; lines_are = is }
 
 -- and the warnings behind the package
 pub packs_telling : (offer : Offer) (packing : Packing) (Puts : (name text : List ℕ) → Type 0)
@@ -127,13 +122,7 @@ pub packs_telling : (offer : Offer) (packing : Packing) (Puts : (name text : Lis
     → IsPrinted b c (IsWarning warned) → PacksTelling offer packing Puts a c
 packs_telling offer packing Puts object name differing lines a b c warned ready named put el ed ew
     p = record {
-      packs = record {
-        object = object;
-        is = ready.made.is;
-        name = name;
-        named = named;
-        put = put;
-      };
+      packs = record { object = object; is = ready.made.is; name = name; named = named; put = put };
       told = printed_then (λ x y t u. record {
         inputs = x;
         inputs_are = t;

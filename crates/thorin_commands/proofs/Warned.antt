@@ -48,13 +48,8 @@ module _ {A B : Type 0} (P : A → B → List ℕ → Type 0) where
       → InTurn P xs bs text → P x b line → InTurn P (xs ++ x ∷ []) (bs ++ b ∷ []) (text ++ line)
   turn_more [] [] x b text line h p =
       (line, [], p, refl, ap (λ t. t ++ line) h ∙ one_line line)
-  turn_more (y ∷ xs) (c ∷ bs) x b text line h p = (
-    h.0,
-    h.1 ++ line,
-    h.2,
-    turn_more xs bs x b h.1 line h.3 p,
-    more_behind text line h.0 h.1 h.4,
-  )
+  turn_more (y ∷ xs) (c ∷ bs) x b text line h p =
+      (h.0, h.1 ++ line, h.2, turn_more xs bs x b h.1 line h.3 p, more_behind text line h.0 h.1 h.4)
   turn_more _ _ x b text line h p = absurd h
 
   -- texts of one list are as many as those beside it
@@ -67,13 +62,8 @@ module _ {A B : Type 0} (P : A → B → List ℕ → Type 0) where
 order_more : {A : Type 0} (P : A → List ℕ → Type 0) (xs : List A) (x : A) (text line : List ℕ)
     → InOrder P xs text → P x line → InOrder P (xs ++ x ∷ []) (text ++ line)
 order_more P [] x text line h p = (line, [], p, refl, ap (λ t. t ++ line) h ∙ one_line line)
-order_more P (y ∷ xs) x text line h p = (
-  h.0,
-  h.1 ++ line,
-  h.2,
-  order_more P xs x h.1 line h.3 p,
-  more_behind text line h.0 h.1 h.4,
-)
+order_more P (y ∷ xs) x text line h p =
+    (h.0, h.1 ++ line, h.2, order_more P xs x h.1 line h.3 p, more_behind text line h.0 h.1 h.4)
 
 -- a text that a call printed
 pub printed_ok : {P : List ℕ → Type 0} (line : List ℕ) (a b : Option (List ℕ)) (result : Outcome)
