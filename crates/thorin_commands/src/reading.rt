@@ -154,7 +154,7 @@ impl<'f, F: FileSystem> InputFiles<'f, F> {
         let mut repetitions = self.repetitions.replace(Repetitions::new(self.alloc));
         let admits = if is_own {
             let counted = repetitions.count_own(self.files.identity(path.path_text()), room.len());
-            counted.map(|()| true)
+            counted.map(|_| true)
         } else {
             repetitions.admits_object(self.files.object_identity(path.path_text()), room.len())
         };
