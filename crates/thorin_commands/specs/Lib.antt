@@ -5,5 +5,6 @@ pub mod Made
 pub mod Naming
 pub mod Opened
 pub mod Packing
+pub mod Reading
 pub mod Taken
 pub mod Warned

@@ -8,7 +8,7 @@ ghost use Rattle.thorin_commands.specs.Archives.{is_archive, is_split, split_con
 ghost use Rattle.thorin_commands.specs.Cause.{IsMalformed, IsNotTaken, IsTakenNot, IsUnfit};
 ghost use Rattle.thorin_commands.specs.Cause.{IsUntaken, Refuses, StopsAmong, StopsIn};
 ghost use Rattle.thorin_commands.specs.Opened.{TookAll, TookEach, TookMembers, unit_count};
-ghost use Rattle.thorin_commands.specs.Packing.{declines, manner_of, reads};
+ghost use Rattle.thorin_commands.specs.Reading.{declined_by, manner_in, taken_by};
 ghost use Rattle.thorin_commands.specs.Warned.{TellsAdded, path_of};
 
 use crate::making::{Attempt, settle};
@@ -65,16 +65,14 @@ pub(crate) fn take_opened<'o, 's: 'o, Sess: Session<RelocationEntry>, F: FileSys
     err: &mut E,
 ) -> Result<(), NoPackage>
     requires { inputs.now.packing.now.opens_archives ≡ true }
-    ensures took { OnOk result (TookAll inputs.now.packing.now.opens_archives (manner_of
-        inputs.now.packing.now) (reads inputs.now.packing.now (F.offer inputs.now.files.now))
-        (Object path.entry) builder.old.state builder.new.state) }
+    ensures took { OnOk result (TookAll inputs.now.packing.now.opens_archives (manner_in inputs.now)
+        (taken_by F.offer inputs.now) (Object path.entry) builder.old.state builder.new.state) }
     ensures line { OnOk result (IsPrinted (E.contents err.old) (E.contents err.new)
         (TellsAdded options.verbose (path_of (Object path.entry))
         (unit_count builder.new.state - unit_count builder.old.state))) }
     ensures told { IfErr result (Refuses E.contents E.failed err.new (IsNotTaken
-        inputs.now.packing.now.opens_archives (manner_of inputs.now.packing.now) (reads
-        inputs.now.packing.now (F.offer inputs.now.files.now)) (declines inputs.now.packing.now
-        (F.offer inputs.now.files.now)) (Object path.entry) builder.old.state)) }
+        inputs.now.packing.now.opens_archives (manner_in inputs.now) (taken_by F.offer inputs.now)
+        (declined_by F.offer inputs.now) (Object path.entry) builder.old.state)) }
 {
     inputs.begin(Input::Object(path));
     match inputs.fetch(true, path, room) {
@@ -124,15 +122,13 @@ fn take_members<'o, 's: 'o, Sess: Session<RelocationEntry>, F: FileSystem, E: Li
     file: OpenedFile<'_>,
     err: &mut E,
 ) -> Result<(), NoPackage>
-    ensures took { OnOk result (TookMembers (manner_of inputs.now.packing.now) (reads
-        inputs.now.packing.now (F.offer inputs.now.files.now)) file.entry.bytes.now
-        builder.old.state builder.new.state) }
+    ensures took { OnOk result (TookMembers (manner_in inputs.now) (taken_by F.offer inputs.now)
+        file.entry.bytes.now builder.old.state builder.new.state) }
     ensures line { OnOk result (IsPrinted (E.contents err.old) (E.contents err.new)
         (TellsAdded file.entry.options.verbose (path_of (Object file.entry.path))
         (unit_count builder.new.state - unit_count builder.old.state))) }
-    ensures told { IfErr result (Refuses E.contents E.failed err.new (StopsIn (reads
-        inputs.now.packing.now (F.offer inputs.now.files.now)) (declines inputs.now.packing.now
-        (F.offer inputs.now.files.now)) (manner_of inputs.now.packing.now) file.entry.bytes.now
+    ensures told { IfErr result (Refuses E.contents E.failed err.new (StopsIn (taken_by F.offer
+        inputs.now) (declined_by F.offer inputs.now) (manner_in inputs.now) file.entry.bytes.now
         builder.old.state)) }
 {
     let before = unit_count(builder);
@@ -163,14 +159,12 @@ fn take_split<'o, 's: 'o, Sess: Session<RelocationEntry>, F: FileSystem, E: Line
     file: OpenedFile<'_>,
     err: &mut E,
 ) -> Result<(), NoPackage>
-    ensures took { OnOk result (TookEach (manner_of inputs.now.packing.now) (reads
-        inputs.now.packing.now (F.offer inputs.now.files.now)) (split_contents (view.member
-        member.entry ∷ [])) builder.old.state builder.new.state) }
+    ensures took { OnOk result (TookEach (manner_in inputs.now) (taken_by F.offer inputs.now)
+        (split_contents (view.member member.entry ∷ [])) builder.old.state builder.new.state) }
     ensures kept { OnOk result (err.new ≡ err.old) }
-    ensures told { IfErr result (Refuses E.contents E.failed err.new (IsUntaken (StopsAmong (reads
-        inputs.now.packing.now (F.offer inputs.now.files.now)) (declines inputs.now.packing.now
-        (F.offer inputs.now.files.now)) (manner_of inputs.now.packing.now) (split_contents
-        (view.member member.entry ∷ [])) builder.old.state))) }
+    ensures told { IfErr result (Refuses E.contents E.failed err.new (IsUntaken (StopsAmong
+        (taken_by F.offer inputs.now) (declined_by F.offer inputs.now) (manner_in inputs.now)
+        (split_contents (view.member member.entry ∷ [])) builder.old.state))) }
 {
     let content = member.content();
     if !is_split(content) {
@@ -201,13 +195,11 @@ fn take_content<'o, 's: 'o, Sess: Session<RelocationEntry>, F: FileSystem>(
     builder: &mut DwarfPackage<'o, 's, Sess>,
     content: &[u8],
 ) -> Result<(), NotTaken<Error, Growth>>
-    ensures took { OnOk result (TookEach (manner_of inputs.now.packing.now) (reads
-        inputs.now.packing.now (F.offer inputs.now.files.now)) (content.now ∷ []) builder.old.state
-        builder.new.state) }
-    ensures refused { IfErr result (λ why. IsUnfit (manner_of inputs.now.packing.now) content.now
-        why ⊎ IsTakenNot (reads inputs.now.packing.now (F.offer inputs.now.files.now)) (declines
-        inputs.now.packing.now (F.offer inputs.now.files.now)) (manner_of inputs.now.packing.now)
-        content.now builder.old.state why) }
+    ensures took { OnOk result (TookEach (manner_in inputs.now) (taken_by F.offer inputs.now)
+        (content.now ∷ []) builder.old.state builder.new.state) }
+    ensures refused { IfErr result (λ why. IsUnfit (manner_in inputs.now) content.now why ⊎
+        IsTakenNot (taken_by F.offer inputs.now) (declined_by F.offer inputs.now) (manner_in
+        inputs.now) content.now builder.old.state why) }
 {
     match inputs.taken(false, content, "", true) {
         Ok(taken) => {

@@ -12,7 +12,7 @@ ghost use Rattle.thorin_join.specs.Join.{IsPackageOf, IsPackageOnceWritten};
 ghost use Rattle.thorin_join.specs.{Meaning.Members, Represents.units_in};
 ghost use Rattle.thorin_commands.specs.{declared.packing.NoPackage.TheVariants.Empty, Made.IsMade};
 ghost use Rattle.thorin_commands.specs.{Made.FillsTelling, Opened.TookAll, Opened.unit_count};
-ghost use Rattle.thorin_commands.specs.Packing.{declines, manner_of, reads};
+ghost use Rattle.thorin_commands.specs.Reading.{declined_by, manner_in, taken_by};
 ghost use Rattle.thorin_commands.specs.Warned.{path_of, TellsAdded, TellsUnsplitRun};
 ghost use Rattle.thorin_output.specs.Warnings.{IsPrinted};
 
@@ -47,17 +47,16 @@ pub(crate) fn packed_inputs<F: FileSystem, E: LineOutput>(
     err: &mut E,
 ) -> Result<(WritableObject, Vec<DebugTypeSignature>, String), NoPackage>
     ensures made { IfOk result (λ made. IsMade options.verbose options.warns options.partial
-        options.names inputs.now.packing.now.opens_archives (manner_of inputs.now.packing.now)
-        (reads inputs.now.packing.now (F.offer inputs.now.files.now)) list.now (E.contents err.old)
-        (E.contents err.new) made.0 made.1.items (string_bytes made.2)) }
+        options.names inputs.now.packing.now.opens_archives (manner_in inputs.now) (taken_by F.offer
+        inputs.now) list.now (E.contents err.old) (E.contents err.new) made.0 made.1.items
+        (string_bytes made.2)) }
     ensures tried { IfErr result (λ refusal. refusal ≡ Empty → IsPrinted (E.contents err.old)
         (E.contents err.new) (TellsUnsplitRun options.verbose options.warns options.partial
-        inputs.now.packing.now.opens_archives (manner_of inputs.now.packing.now) (reads
-        inputs.now.packing.now (F.offer inputs.now.files.now)) list.now)) }
+        inputs.now.packing.now.opens_archives (manner_in inputs.now) (taken_by F.offer inputs.now)
+        list.now)) }
     ensures told { IfErr result (Refuses E.contents E.failed err.new (IsCauseOf options.partial
-        inputs.now.packing.now.opens_archives (manner_of inputs.now.packing.now) (reads
-        inputs.now.packing.now (F.offer inputs.now.files.now)) (declines inputs.now.packing.now
-        (F.offer inputs.now.files.now)) list.now)) }
+        inputs.now.packing.now.opens_archives (manner_in inputs.now) (taken_by F.offer inputs.now)
+        (declined_by F.offer inputs.now) list.now)) }
 {
     runs_go_on(inputs);
     let bump = Bump::new(options.alloc);
@@ -84,13 +83,12 @@ fn fill<'o, 's: 'o, Sess: Session<RelocationEntry>, F: FileSystem, E: LineOutput
     err: &mut E,
 ) -> Result<String, NoPackage>
     ensures fills { IfOk result (λ lines. FillsTelling options.verbose options.warns options.partial
-        options.names inputs.now.packing.now.opens_archives (manner_of inputs.now.packing.now)
-        (reads inputs.now.packing.now (F.offer inputs.now.files.now)) list.now builder.old.state
-        builder.new.state (E.contents err.old) (E.contents err.new) (string_bytes lines)) }
+        options.names inputs.now.packing.now.opens_archives (manner_in inputs.now) (taken_by F.offer
+        inputs.now) list.now builder.old.state builder.new.state (E.contents err.old) (E.contents
+        err.new) (string_bytes lines)) }
     ensures told { IfErr result (Refuses E.contents E.failed err.new (StopsAt
-        inputs.now.packing.now.opens_archives (manner_of inputs.now.packing.now) (reads
-        inputs.now.packing.now (F.offer inputs.now.files.now)) (declines inputs.now.packing.now
-        (F.offer inputs.now.files.now)) list.now builder.old.state)) }
+        inputs.now.packing.now.opens_archives (manner_in inputs.now) (taken_by F.offer inputs.now)
+        (declined_by F.offer inputs.now) list.now builder.old.state)) }
 {
     let mut room = Vec::new(options.alloc);
     // Of each input why it added no unit, if it added none.
@@ -118,16 +116,14 @@ fn take<'o, 's: 'o, Sess: Session<RelocationEntry>, F: FileSystem, E: LineOutput
     options: ReportOptions,
     err: &mut E,
 ) -> Result<(), NoPackage>
-    ensures took { OnOk result (TookAll inputs.now.packing.now.opens_archives (manner_of
-        inputs.now.packing.now) (reads inputs.now.packing.now (F.offer inputs.now.files.now))
-        input.entry builder.old.state builder.new.state) }
+    ensures took { OnOk result (TookAll inputs.now.packing.now.opens_archives (manner_in inputs.now)
+        (taken_by F.offer inputs.now) input.entry builder.old.state builder.new.state) }
     ensures line { OnOk result (IsPrinted (E.contents err.old) (E.contents err.new)
         (TellsAdded options.verbose (path_of input.entry)
         (unit_count builder.new.state - unit_count builder.old.state))) }
     ensures told { IfErr result (Refuses E.contents E.failed err.new (IsNotTaken
-        inputs.now.packing.now.opens_archives (manner_of inputs.now.packing.now) (reads
-        inputs.now.packing.now (F.offer inputs.now.files.now)) (declines inputs.now.packing.now
-        (F.offer inputs.now.files.now)) input.entry builder.old.state)) }
+        inputs.now.packing.now.opens_archives (manner_in inputs.now) (taken_by F.offer inputs.now)
+        (declined_by F.offer inputs.now) input.entry builder.old.state)) }
 {
     match input {
         Input::Object(path) if inputs.packing.opens_archives => {

@@ -3,6 +3,7 @@
 ghost use Rattle.std.specs.Prelude.{IfErr, IfOk, map, Ok, Some, string_bytes, true, ◌≡◌, ◌≤◌, ◌⊎◌};
 ghost use Rattle.thorin_commands.specs.Packing.{AllApart, declines, IsNoInput, out_of, paths_in};
 ghost use Rattle.thorin_commands.specs.Packing.{asked, asks, Fails, Packs, reads};
+ghost use Rattle.thorin_commands.specs.Reading.{declined_by, taken_by};
 ghost use Rattle.std.specs.{Path.path_bytes, Prelude.false, Prelude.IsTrue, Prelude.option_map};
 ghost use Rattle.thorin_output.specs.Files.{Begins, Put};
 ghost use Rattle.thorin_commands.specs.Cause.{IsCauseFor, Refuses, Told, Unfinished};
@@ -267,17 +268,13 @@ fn packed_unsplit<F: FileSystem, E: LineOutput>(
     err: &mut E,
 ) -> Result<(WritableObject, Vec<DebugTypeSignature>, String), NoPackage>
     requires allowed { inputs.now.packing.now.lets_empty ≡ true }
-    requires empty { IsCauseFor (reads inputs.now.packing.now (F.offer inputs.now.files.now))
-        (declines inputs.now.packing.now (F.offer inputs.now.files.now)) inputs.now.packing.now
-        (Unfinished NoOutputObjectCreated) }
-    ensures made { IfOk result (λ made. IsMadeFor
-        (TellsTaken false false inputs.now.packing.now.partial)
-        (reads inputs.now.packing.now (F.offer inputs.now.files.now)) inputs.now.packing.now
+    requires empty { IsCauseFor (taken_by F.offer inputs.now) (declined_by F.offer inputs.now)
+        inputs.now.packing.now (Unfinished NoOutputObjectCreated) }
+    ensures made { IfOk result (λ made. IsMadeFor (TellsTaken false false
+        inputs.now.packing.now.partial) (taken_by F.offer inputs.now) inputs.now.packing.now
         (E.contents err.old) (E.contents err.new) made.0 made.1.items (string_bytes made.2)) }
-    ensures told { IfErr result (Refuses E.contents E.failed err.new (IsCauseFor
-        (reads inputs.now.packing.now (F.offer inputs.now.files.now))
-        (declines inputs.now.packing.now (F.offer inputs.now.files.now))
-        inputs.now.packing.now)) }
+    ensures told { IfErr result (Refuses E.contents E.failed err.new (IsCauseFor (taken_by F.offer
+        inputs.now) (declined_by F.offer inputs.now) inputs.now.packing.now)) }
 {
     let packing = inputs.packing;
     let Some(executable) = paths_in(packing.executables).first() else {
