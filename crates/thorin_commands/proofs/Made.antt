@@ -1,11 +1,11 @@
 -- What was made of inputs, and what was told of that.
 use Rattle.thorin_commands.proofs.Terms
-use Terms.{added_in, Among, ap, append_assoc, Archive, AreAsked, asked, asks, Bad, Bool, Cause}
-use Terms.{DebugTypeSignature, differing_in, Err, Error, false, File, file_text, IfErr, inl, Input}
-use Terms.{inr, IsNotTaken, IsPrinted, IsUnfinished, left, List, Manner, manner_of, map}
-use Terms.{NoOutputObjectCreated, NoPackage, Offer, Ok, Option, out_of, Packing, Reasons, refl}
-use Terms.{Refuses, Result, Some, State, StopsAt, StopsIn, TellsInputs, TellsMacros, TellsTaken}
-use Terms.{true, Unfinished, ℕ, ◌++◌, ◌∙◌, ◌≡◌}
+use Terms.{added_in, Alone, Among, ap, append_assoc, Archive, AreAsked, asked, asks, Bad, Bool}
+use Terms.{Cause, DebugTypeSignature, differing_in, Err, Error, false, File, file_text, IfErr, inl}
+use Terms.{Input, inr, IsNotTaken, IsPrinted, IsUnfinished, left, List, Manner, manner_of, map}
+use Terms.{NoOutputObjectCreated, NoPackage, Offer, Ok, Option, out_of, Packing, Plain, Reasons}
+use Terms.{refl, Refuses, Result, Some, State, StopsAt, StopsIn, TellsInputs, TellsMacros}
+use Terms.{TellsTaken, true, Unfinished, Unread, ℕ, ◌++◌, ◌∙◌, ◌≡◌}
 use Rattle.thorin_errors.specs.Errors.{NoOutputObjectCreated as NoneBegun}
 use Rattle.thorin_join.specs.Builder.{finish_test}
 use Rattle.thorin_output.specs.{declared.warnings.Warned.Warned, Warnings.IsWarning}
@@ -31,9 +31,11 @@ module _ {opens : Bool} {manner : Manner} {offer : Offer} {declines : Reasons} w
   not_taken_no : (input : Input) (state : State) (cause : Cause)
       → IsNotTaken opens manner offer declines input state cause → (error : Error)
       → cause ≡ Unfinished error → ⊥
+  not_taken_no input state cause (Alone i s why stands h) error same = absurd cc
+  not_taken_no input state cause (Unread path s why o h) error same = absurd cc
+  not_taken_no input state cause (Plain path s file why o f n h) error same = absurd cc
   not_taken_no input state cause (Archive path s file c o f n h) error same =
       stops_no c h error same
-  not_taken_no input state cause _ error same = absurd cc
 
 pub never_empty : (opens : Bool) (manner : Manner) (offer : Offer) (declines : Reasons)
     (list : List Input) (old : State) {W : Type 0} (contents : W → Option (List ℕ))

@@ -77,7 +77,8 @@ printed_ok line a b (Err failure) f h = tt
 pub not_verbose : (verbose : Bool) (path : Option (List ℕ)) (added : ℕ) (a : Option (List ℕ))
     → verbose ≡ false → IsPrinted a a (TellsAdded verbose path added)
 not_verbose true path added a e = absurd cc
-not_verbose false _ added a e = none_printed a refl
+not_verbose false None added a e = none_printed a refl
+not_verbose false (Some path) added a e = none_printed a refl
 
 pub pathless : (verbose : Bool) (path : Option (List ℕ)) (added : ℕ) (a : Option (List ℕ))
     → path ≡ None → IsPrinted a a (TellsAdded verbose path added)
