@@ -42,7 +42,7 @@ pub struct NamedFile {
 }
 
 /// How files are read, and what is told meanwhile.
-#[derive(Clone, Copy)]
+#[derive(Clone, Copy, Default)]
 pub struct ReadingSettings {
     /// Whether regular files that aren't at their paths are sought elsewhere.
     pub seeks: bool,
@@ -91,12 +91,7 @@ impl<'c, 'r, 'e, E: Write> HostFiles<'c, 'r, 'e, E> {
         HostFiles {
             rt,
             console,
-            settings: Cell::new(ReadingSettings {
-                seeks: false,
-                patience: None,
-                all: None,
-                names_objects: false,
-            }),
+            settings: Cell::new(ReadingSettings::default()),
             named: Cell::new(None),
             unwritten: Cell::new(None),
         }
@@ -138,10 +133,7 @@ impl<'c, 'r, 'e, E: Write> HostFiles<'c, 'r, 'e, E> {
 
 /// Whether nothing was there to be read.
 fn is_not_found(answer: &io::Result<()>) -> bool {
-    match answer {
-        Err(cause) => cause.kind() == ErrorKind::NotFound,
-        Ok(()) => false,
-    }
+    matches!(answer, Err(cause) if cause.kind() == ErrorKind::NotFound)
 }
 
 /// What a file is, by its first bytes (ELF gABI, "ELF Header"): a relocatable one has type 1, in

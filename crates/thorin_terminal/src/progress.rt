@@ -13,7 +13,7 @@ pub struct Console<'r, 'e, E> {
 }
 
 /// How far packing is, and when a line tells that.
-#[derive(Clone, Copy)]
+#[derive(Clone, Copy, Default)]
 struct Progress {
     /// When packing began; none where that isn't told.
     start: Option<Instant>,
@@ -34,15 +34,7 @@ impl<'r, 'e, E: Write> Console<'r, 'e, E> {
         Console {
             rt,
             err: Cell::new(Some(err)),
-            progress: Cell::new(Progress {
-                start: None,
-                pause: 0,
-                next: 0,
-                all: None,
-                files: 0,
-                bytes: 0,
-                is_shown: false,
-            }),
+            progress: Cell::new(Progress::default()),
         }
     }
 
