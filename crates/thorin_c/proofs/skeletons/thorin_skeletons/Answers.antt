@@ -6,16 +6,14 @@ use Rattle.thorin_c.proofs.skeletons.thorin_skeletons.Goals as goal
 pub returns-in-None-clause-listed : goal.returns-in-None-clause-listed
 returns-in-None-clause-listed c = λ _.
     lists (skeletons_of c.args.bytes.now).0 c.in-Ok.units c.args.names.now c.write_over.new.over
-    c.args.paths.now c.write_over-2.new.over c.in-Ok.units.count _
-    (rw (c.len.ensures, c.len-2.ensures) at c.in-Ok.ensures.first)
+    c.args.paths.now c.write_over-in-Ok.new.over c.in-Ok.units.count _ c.in-Ok.ensures.first
     (rw c.deref.ensures.value at c.write_over.ensures)
-    (rw c.deref-2.ensures.value at c.write_over-2.ensures) refl refl
+    (rw c.deref-in-Ok.ensures.value at c.write_over-in-Ok.ensures) refl refl
 
-pub returns-in-Some-clause-listed : goal.returns-in-Some-clause-listed
-returns-in-Some-clause-listed c = λ _.
+pub returns-in-Ok-clause-listed : goal.returns-in-Ok-clause-listed
+returns-in-Ok-clause-listed c = λ _.
     lists (skeletons_of c.args.bytes.now).0 c.in-Ok.units c.args.names.now c.write_over.new.over
-    c.args.paths.now c.write_over-2.new.over c.in-Ok.units.count c.tell.new.report
-    (rw (c.len.ensures, c.len-2.ensures) at c.in-Ok.ensures.first)
-    (rw c.deref.ensures.value at c.write_over.ensures)
-    (rw c.deref-2.ensures.value at c.write_over-2.ensures) refl
+    c.args.paths.now c.write_over-in-Ok.new.over c.in-Ok.units.count c.tell.new.report
+    c.in-Ok.ensures.first (rw c.deref.ensures.value at c.write_over.ensures)
+    (rw c.deref-in-Ok.ensures.value at c.write_over-in-Ok.ensures) refl
     (ap (λ (r : ThorinReport). r.size) c.tell.ensures.alone)
