@@ -2,7 +2,7 @@
 -- turn: each section that units share has a part that a row names, where plain objects add units;
 -- and rows have contributions only to sections in the format of their input's version.
 use Rattle.thorin_again.proofs.Terms
-use Terms.{Adding, adding, adjusted, All-weaker, ap, AreAdded, arith, by-bool, content_of}
+use Terms.{Adding, adding, adjusted, All-weaker, ap, AreAdded, arith, bind-was, by-bool, content_of}
 use Terms.{Contents, Contribution, contribution_put, contribution_to, DwarfObject, Each, each-all}
 use Terms.{each-joining, EachRow, Encoding, ErrorValue, false, get_or_from_slice_get, has_encoding}
 use Terms.{HasNamedParts, Header, IndexEntry, inl, InProgress, input_encoding, inr, is-same}
@@ -13,7 +13,7 @@ use Terms.{recursion_from_All, refl, row_at, rows_begun, same-begun, same-ok, sa
 use Terms.{section, section_has, SectionKind, sections-are, slice_get_within, Source, source-made}
 use Terms.{subst, sym, takes, true, UnitRead, units, UnitSection, Used, WasRead, with_all_parts}
 use Terms.{with_input, with_new_units, with_unit_added, [], ℕ, ◌++◌, ◌<◌, ◌∙◌, ◌∷◌, ◌≡◌}
-use Rattle.thorin_join.proofs.Parts.Added.{content-with_bytes, each-part, each-unit as unit-by-unit}
+use Rattle.thorin_join.proofs.Parts.Added.{content-with_bytes, each-unit as unit-by-unit, step}
 use Rattle.thorin_join.proofs.Parts.Added.{content-with_parts, joined_parts-other}
 use Rattle.thorin_join.proofs.Rows.OfUnits.{adjusted-plain, is-unit_row, whole-else, whole-part}
 use Rattle.thorin_join.proofs.Units.ReadInTurn.{AllSo, IsAdded, News, units-joined, UnitsJoined}
@@ -22,7 +22,7 @@ use Rattle.std.proofs.{ByRecursion.All-append, lemmas.List.Sums.AllPass-from_lis
 use Rattle.std.proofs.Common.{eqb, eqb-true, is_some}
 use Rattle.thorin_join.proofs.Units.Whole.{Goes, IsKnown, known-in, units-go}
 use Rattle.thorin_again.specs.InFormat.{IsInFormat}
-use Rattle.thorin_input.specs.Parts.{with_each_part}
+use Rattle.thorin_input.specs.Parts.{with_each_part, with_part}
 
 -- encodings that are alike are one
 pub encoding-eq : (a b : Encoding) → same_encoding a b ≡ true → a ≡ b
@@ -173,20 +173,33 @@ InFormat source place unit = is_in_format source.encoding (kind_of place) ≡ tr
 pub each-format : (source : Source) (sections : List Used) (before after : Parts)
     → with_each_part source before sections ≡ Ok after
     → Each (AllSo source (InFormat source)) sections
-each-format source = each-part source (λ before ss after. Each (AllSo source (InFormat source)) ss)
-    (λ parts. tt) (λ before s next ss after made rest later. (
-      λ place here k unit there. grind (arith, made.format, kind-place s.kind place here),
-      later,
-    ))
+unfolding with_each_part with_part
+each-format source [] before after h = tt
+each-format source (s ∷ ss) before after h =
+    let next = bind-was (with_part source before s) _ after h in (
+      λ place here k unit there. grind (arith, next.1, kind-place s.kind place here),
+      each-format source ss next.0 after next.2,
+    )
 
 -- sections outside the format have no parts
-parts-outside : (source : Source) (kind : SectionKind) → is_in_format source.encoding kind ≡ false
-    → (sections : List Used) (before after : Parts)
-    → with_each_part source before sections ≡ Ok after
-    → joined_parts kind after.0 ≡ joined_parts kind before.0
-parts-outside source kind none = each-part source (λ before ss after. joined_parts kind after.0 ≡
-    joined_parts kind before.0) (λ parts. refl) (λ before s next ss after made rest later.
-    later ∙ grind (arith, made.format, made.adds, none, is-same, joined_parts-other kind before.0))
+module _ (source : Source) (kind : SectionKind)
+    (none : is_in_format source.encoding kind ≡ false) where
+  part-outside : (before : Parts) (s : Used) (next : Parts) → with_part source before s ≡ Ok next
+      → joined_parts kind next.0 ≡ joined_parts kind before.0
+  unfolding with_part
+  part-outside before s next h =
+      let adds = (step source before s next h).adds in
+      let there : is_in_format source.encoding s.kind ≡ true = grind arith in
+      grind (arith, adds, none, is-same, joined_parts-other kind before.0)
+
+  parts-outside : (sections : List Used) (before after : Parts)
+      → with_each_part source before sections ≡ Ok after
+      → joined_parts kind after.0 ≡ joined_parts kind before.0
+  unfolding with_each_part
+  parts-outside [] before after h = grind arith
+  parts-outside (s ∷ ss) before after h =
+      let next = bind-was (with_part source before s) _ after h in
+      parts-outside ss next.0 after next.2 ∙ part-outside before s next.0 next.1
 
 -- the row of a unit
 module _ {source : Source} {before now : InProgress} (a : Made source before now) where

@@ -32,7 +32,9 @@ fitting Elf64 machine order cs fits = let second = fits 1 0 (omega arith) in ome
 pub nothing : (kind : SectionKind) (cs : List (SectionKind × List ℕ)) → count_of kind cs ≡ 0
     → content_of kind cs ≡ []
 nothing kind [] h = refl
-nothing kind (c ∷ cs) h = grind (arith, nothing kind cs)
+nothing kind (c ∷ cs) h =
+    by-bool _ (same_kind c.0 kind) (λ same. absurd (let one = rw same at h in omega arith))
+    (λ other. let none = rw other at h in rw other (nothing kind cs (omega arith)))
 
 -- each content of a kind is in its section, or has no bytes and nothing follows
 held_from : (kind : SectionKind) (number : ℕ) (names : List ℕ) (cs : List (SectionKind × List ℕ))

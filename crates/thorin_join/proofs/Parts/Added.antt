@@ -13,7 +13,7 @@ use Terms.{refl, remapped, result_unwrap_or, rewritten, same-ok, same-self, same
 use Terms.{slice_range, Source, stands_once, Str, string_at, strings_of, StrOffsets, subst, suc}
 use Terms.{sum_by, sym, take, take-length, true, Used, with_bytes, with_each_part, with_new_unit}
 use Terms.{with_new_units, with_offsets, with_part, with_parts, with_string, with_unit_added, zero}
-use Terms.{is_in_format, [], ℕ, ◌&&◌, ◌*◌, ◌++◌, ◌+◌, ◌-◌, ◌<◌, ◌||◌, ◌∙◌, ◌∷◌, ◌≡◌, ◌≤◌, ◌⊎◌}
+use Terms.{[], ℕ, ◌&&◌, ◌*◌, ◌++◌, ◌+◌, ◌-◌, ◌<◌, ◌||◌, ◌∙◌, ◌∷◌, ◌≡◌, ◌≤◌, ◌⊎◌}
 use Rattle.std.proofs.Math.Nat.{mul-le-mul_right}
 use Rattle.std.proofs.lemmas.List.Sums.{sum_by-append, sum_by-cons, sum_by_push}
 use Rattle.thorin_strings.specs.StringOffsets.{offset_at, remapped_entries, remapped_entry}
@@ -31,7 +31,10 @@ pub content-appended : (kind k : SectionKind) (bytes : List ℕ) (c : Contents) 
     (appended k bytes c) ≡ cond (same_kind k kind) (content_of kind c ++ bytes) (content_of kind c)
 content-appended kind k bytes [] = refl
 content-appended kind k bytes (d ∷ ds) =
-    grind (arith, is-same d.0 k, content-appended kind k bytes ds)
+    by-bool _ (same_kind d.0 k) (λ same. rw (same, ← is-same d.0 k same)
+    (by-bool _ (same_kind d.0 kind) (λ here. rw here) (λ later. rw later)))
+    (λ other. rw other (by-bool _ (same_kind d.0 kind) (λ here. rw here (grind arith))
+    (λ later. rw (later, content-appended kind k bytes ds))))
 
 pub content-with_bytes : (kind k : SectionKind) (bytes : List ℕ) (c : Contents)
     → content_of kind (with_bytes k bytes c) ≡ (if same_kind k kind then content_of kind c ++ bytes
@@ -53,7 +56,8 @@ pub joined_parts-more : (kind : SectionKind) (a : Contents) (k : SectionKind) (b
     (same_kind k kind) bytes []
 joined_parts-more kind [] k bytes = ap (λ v. cond (same_kind k kind) v []) (append-nil bytes)
 joined_parts-more kind (p ∷ ps) k bytes =
-    grind (arith, joined_parts-more kind ps k bytes, append_assoc p.1 (joined_parts kind ps))
+    rw (joined_parts-more kind ps k bytes) (by-bool _ (same_kind p.0 kind)
+    (λ same. rw same (sym (append_assoc p.1 (joined_parts kind ps) _))) (λ other. rw other))
 
 pub joined_parts-other : (kind : SectionKind) (a : Contents) (k : SectionKind) (bytes : List ℕ)
     → same_kind k kind ≡ false → joined_parts kind (a ++ (k, bytes) ∷ []) ≡ joined_parts kind a
@@ -80,10 +84,9 @@ module _ (source : Source) where
       × (next ≡ (before.0 ++ (s.kind, s.bytes) ∷ [], before.1)))
       ⊎ ((same_kind s.kind StrOffsets ≡ false) × (is_copied s.kind ≡ false) × (next ≡ before)))
 
-  -- the section doesn't stand twice where it may not, and is in the format
+  -- the section doesn't stand twice where it may not
   pub record Step (before : Parts) (s : Used) (next : Parts) : Type 0 where
     pub once : (stands_once source s.kind && has_part s.kind before.0) ≡ false
-    pub format : is_in_format source.encoding s.kind ≡ true
     pub adds : Adds before s next
 
   pub step : (before : Parts) (s : Used) (next : Parts) → with_part source before s ≡ Ok next
