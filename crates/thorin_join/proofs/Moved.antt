@@ -1,7 +1,7 @@
 -- What is read of bytes is read alike wherever they stand, and a unit whatever follows it.
 use Rattle.thorin_join.proofs.Terms
-use Terms.{after, ap, arith, drop, drop-append-le, Encoding, Endianness, entry_identity}
-use Terms.{first_identifier, Format, Header, identity, Input, is_some, length}
+use Terms.{after, ap, arith, Bool, cond, drop, drop-append-le, Encoding, Endianness, entry_identity}
+use Terms.{Err, first_identifier, Format, Header, identity, Input, is_address_size, is_some, length}
 use Terms.{length-append, List, nat_tests, number_front, offset_size, Ok, ReadError, refl, Result}
 use Terms.{root_identity, suc, sym, take-append-drop, take-append-le, true, type_signature}
 use Terms.{unit_takes, UnitSection, zero, [], ℕ, ◌++◌, ◌+◌, ◌-◌, ◌>>=◌, ◌∙◌, ◌∷◌, ◌≡◌, ◌⊎◌}
@@ -13,7 +13,7 @@ use Rattle.dwp_units.specs.Units.{header_at, newer_at, older_at, type_at, unit_a
 use Rattle.std.proofs.Common.{add_assoc, length-take-le, ℤ}
 use Rattle.dwp_bytes.specs.Input.{byte_at, number_at, offset_at, relocated_at, skip_at, split_at}
 use Rattle.dwp_bytes.specs.Leb.{sleb_at, uleb_at}
-use Rattle.dwp_bytes.specs.declared.error.ReadError.TheVariants.{UnknownForm}
+use Rattle.dwp_bytes.specs.declared.error.ReadError.TheVariants.{AddressSize, UnknownForm}
 use Rattle.dwp_dwarf.specs.{Abbreviations.Specification, Forms.layout_of, Forms.value_at}
 use Rattle.dwp_dwarf.specs.Entries.{attribute_at, attributes, DebugAttribute, number_of}
 use Rattle.dwp_units.specs.AbbreviationCodes.{code_at, root_code_at}
@@ -170,9 +170,14 @@ module _ (d : ℕ) where
   unfolding offset_at relocated_at there
   offset-shifts format i = grind (arith, add_assoc)
 
+  -- a byte that passes a test
+  tested-shifts : (test : ℕ → Bool) (e : ReadError)
+      → Shifts d by ℕ (λ i. byte_at i >>= λ n. cond (test n.0) (Ok n) (Err e))
+  tested-shifts test e i = grind (arith, readings)
+
   address_size-shifts : Shifts d by ℕ address_size_at
   unfolding address_size_at
-  address_size-shifts i = grind (arith, readings)
+  address_size-shifts = tested-shifts is_address_size AddressSize
 
   unit_type-shifts : (code : ℕ) (format : Format) → Shifts d by UnitType (unit_type_at code format)
   unfolding unit_type_at type_at
