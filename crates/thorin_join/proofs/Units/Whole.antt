@@ -78,7 +78,8 @@ module _ (order : Endianness) (place : UnitSection) where
       let s = bind-was (unit_at place (section order own)) _ unit.encoding
       (units_alone unit_taken order place unit bytes k h) in
       let moved = unit-moves order place own more at.0 s.0.0 s.0.1 s.1 in
-      let same : moved.unit ≡ unit = cc (moved.read, whole_is, at.3) in
+      let same : moved.unit ≡ unit = ap (λ (x : Header × Input). x.0) (same-ok _ _
+      (sym moved.read ∙ ap (λ l. unit_at place (plain order at.0 l)) whole_is ∙ at.3)) in
       let known : ReadsAlone order place unit = record {
         alone = s.0.0;
         rest = s.0.1;
