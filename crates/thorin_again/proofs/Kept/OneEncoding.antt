@@ -8,7 +8,7 @@ use Terms.{IfSome, IfSome_then, index_in, IndexEntry, Indexes, indexes_of, inl, 
 use Terms.{input-keeps, input_meaning, InputFile, inr, is_index, is_package, is_plain, IsPlain}
 use Terms.{IsSoundBegun, Joins, keys, length, length-map, List, list_all, list_any, made-order}
 use Terms.{Meaning, meaning_by, Members, nat_tests, new-sound, new-units, None, Ok, Option}
-use Terms.{own_encoding, package_or_new, Reads, refl, same-ok, same_Some, section_has, Some}
+use Terms.{own_encoding, package_or_new, Ranges, Reads, refl, same-ok, same_Some, section_has, Some}
 use Terms.{Source, source-made, source_units, subst, sym, Takes, takes, TakesUnits, true, TuIndex}
 use Terms.{UnitRead, units_begun, units_of, Used, with_input, [], ℕ, ◌<◌, ◌↔◌, ◌∙◌, ◌∷◌, ◌≡◌}
 use Rattle.thorin_again.proofs.Kept.EachUnit.{encoding-eq, named-kept}
@@ -21,10 +21,15 @@ use Rattle.thorin_join.specs.Builder.{names_in, State, taken}
 abbrev pub MadeOf : Source → List ℕ → Meaning → Type 0
 MadeOf source bytes unit = (unit.encoding ≡ source.encoding) × (unit.bytes ≡ bytes)
 
+by-made : (source : Source) (bytes : List ℕ) (row : Option Ranges)
+    → IfSome (meaning_by source bytes row) (MadeOf source bytes)
+unfolding meaning_by
+by-made source bytes row = grind arith
+
 unit-made : (source : Source) (read : DwarfObject × UnitRead)
     → IfSome (unit_meaning source read) (MadeOf source read.1.unit.whole.bytes)
-unfolding unit_meaning meaning_by
-unit-made source read = grind arith
+unfolding unit_meaning
+unit-made source read = grind (arith, by-made)
 
 -- the units that an input adds
 module _ (P : Meaning → Type 0) where
