@@ -1,12 +1,12 @@
 -- Sections that are compared.
 use Rattle.std.proofs.Common.{false, length, List, true, [], ℕ, ◌++◌, ◌+◌, ◌<◌, ◌∙◌, ◌∷◌, ◌≡◌, ◌≤◌}
 use Rattle.std.proofs.Common.{append-nil, append_assoc, Ok, option_map, slice_get, take-append-drop}
-use Rattle.std.proofs.Common.{Bool, codes, drop, Err, get_or, Option, refl, Result, Some, sym, take}
+use Rattle.std.proofs.Common.{codes, drop, Err, get_or, Option, refl, Result, Some, sym, take}
 use Rattle.std.proofs.lemmas.Option.{get_or_from_slice_get, slice_get_read, slice_get_within}
 use Rattle.dwp_decompress.specs.Result.{plain_contents, result_section, result_sections}
 use Rattle.dwp_base.specs.Reading.{◌>>=◌}
 use Rattle.std.proofs.{Common.ap, Common.ap₂, lemmas.Option.slice_get-map}
-use Rattle.std.specs.{Global.Vec, List.list_any}
+use Rattle.std.specs.Global.{Vec}
 use Rattle.std.proofs.lemmas.List.{drop_all, drop_more, map-append}
 use Rattle.dwp_elf_read.specs.Elf.{SectionMeaning}
 use Rattle.dwp_decompress.specs.{declared.error.DecompressError.DecompressError, Result.contents_of}
@@ -19,15 +19,6 @@ pub drop_step : {X : Type 0} (xs : List X) (i : ℕ) (x : X) → slice_get xs i 
     → drop i xs ≡ x ∷ drop (i + 1) xs
 drop_step xs i x e = drop_more xs i x (slice_get_within xs i x e)
     ∙ ap (λ y. y ∷ drop (i + 1) xs) (get_or_from_slice_get xs i x x e)
-
--- one of them passes; another doesn't
-pub any_hit : {X : Type 0} (p : X → Bool) (xs : List X) (i : ℕ) (x : X) → slice_get xs i ≡ Some x
-    → p x ≡ true → list_any p (drop i xs) ≡ true
-any_hit p xs i x at yes = rw (drop_step xs i x at, yes) refl
-
-pub any_miss : {X : Type 0} (p : X → Bool) (xs : List X) (i : ℕ) (x : X) → slice_get xs i ≡ Some x
-    → p x ≡ false → list_any p (drop i xs) ≡ list_any p (drop (i + 1) xs)
-any_miss p xs i x at no = rw (drop_step xs i x at, no) refl
 
 abbrev pub Contents : Type 0
 Contents = List (Option (List ℕ))

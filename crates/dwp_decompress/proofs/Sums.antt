@@ -54,27 +54,28 @@ module _ (asked : Asked) (class : Class) (order : Endianness) (sections : List S
   told_end n h = rw (drop_all i sections h) (plus_none n)
 
 module _ (asked : Asked) (sections : List SectionMeaning) (i : ℕ) where
-  pub size_step : (left here less : ℕ) (section : SectionMeaning)
-      → slice_get sections i ≡ Some section → here ≡ size_in asked section → here ≤ left
-      → less ≡ left - here → nat_lt less (compressed_size asked (drop (i + 1) sections))
-      ≡ nat_lt left (compressed_size asked (drop i sections))
+  pub size_step : (left : ℕ) (section : SectionMeaning) → slice_get sections i ≡ Some section
+      → size_in asked section ≤ left
+      → nat_lt left (compressed_size asked (drop i sections)) ≡ nat_lt
+      (left - size_in asked section)
+      (compressed_size asked (drop (i + 1) sections))
   unfolding compressed_size
-  size_step left here less section at is h m =
+  size_step left section at h =
       let rest = compressed_size asked (drop (i + 1) sections) in
       let all = ap (compressed_size asked) (drop_step sections i section at)
       ∙ sum_by-cons (size_in asked) section (drop (i + 1) sections) in
-      by-bool _ (nat_lt less rest)
-      (λ yes. rw yes (sym (lt-ltb left _ (omega (arith, all, is, h, m, ltb-true _ _ yes)))))
-      (λ no. rw no (sym (le-ltb left _ (omega (arith, all, is, h, m, ltb-false _ _ no)))))
+      by-bool _ (nat_lt (left - size_in asked section) rest)
+      (λ yes. rw yes (lt-ltb left _ (omega (arith, all, h, ltb-true _ _ yes))))
+      (λ no. rw no (le-ltb left _ (omega (arith, all, h, ltb-false _ _ no))))
 
-  pub size_past : (left here : ℕ) (section : SectionMeaning) → slice_get sections i ≡ Some section
-      → here ≡ size_in asked section → left < here
+  pub size_past : (left : ℕ) (section : SectionMeaning) → slice_get sections i ≡ Some section
+      → left < size_in asked section
       → nat_lt left (compressed_size asked (drop i sections)) ≡ true
   unfolding compressed_size
-  size_past left here section at is h =
+  size_past left section at h =
       let all = ap (compressed_size asked) (drop_step sections i section at)
       ∙ sum_by-cons (size_in asked) section (drop (i + 1) sections) in
-      lt-ltb left _ (omega (arith, all, is, h))
+      lt-ltb left _ (omega (arith, all, h))
 
   pub size_end : (left : ℕ) → length sections ≤ i
       → nat_lt left (compressed_size asked (drop i sections)) ≡ false

@@ -161,7 +161,6 @@ impl WritableObject {
     ///
     /// # Errors
     /// Want of memory.
-    #[tactic(auto, using(crate::proofs::Changes::told_lengths))]
     pub fn lengths(&self) -> Result<Vec<usize>, AllocError>
         ensures { IfOk result (λ sizes. sizes.items ≡ lengths self.now.contents) }
     {

@@ -59,9 +59,10 @@ pub struct Section<'a> {
 impl<'a> Section<'a> {
     ghost use Rattle.dwp_elf_read.specs.declared.error.ReadError.TheVariants.{NameRange};
     ghost use Rattle.dwp_elf_read.specs.declared.error.ReadError.TheVariants.{SectionRange};
-    ghost use Rattle.std.specs.Prelude.{◌≤◌, ◌+◌, ◌↔◌, IfSome, IsTrue, Some, length, slice_range};
+    ghost use Rattle.std.specs.Prelude.{◌≤◌, ◌+◌, ◌↔◌, IfSome, IsTrue, Some, find, length};
+    ghost use Rattle.std.specs.Prelude.{slice_range};
     ghost use Rattle.std.specs.Option.{ok_or, option_and_then};
-    ghost use Rattle.dwp_base.specs.Sections.{kind_named};
+    ghost use Rattle.dwp_base.specs.Sections.{all_kinds, kind_named};
     ghost use Rattle.dwp_base.specs.Reading.{Answers};
     ghost use Rattle.dwp_elf_read.specs.Elf.{is_empty, has_compressed_flag, is_named, is_of};
     ghost use Rattle.dwp_elf_read.specs.Elf.{has_older_name, holds};
@@ -178,8 +179,15 @@ impl<'a> Section<'a> {
 
     /// The kind of section that the name belongs to, in either spelling; None where it has no name
     /// that can be read. No more of a long name is looked at than the names of kinds are long.
+    #[tactic(auto, using(crate::proofs::ShortNames::kinds_are))]
     pub fn section_kind(&self) -> Option<SectionKind>
         ensures { result ≡ option_and_then kind_named (section self.now).name }
+    {
+        self.first_kind()
+    }
+
+    fn first_kind(&self) -> Option<SectionKind>
+        ensures { result ≡ find (λ kind. is_of kind (section self.now)) all_kinds }
     {
         SectionKind::ALL
             .iter()

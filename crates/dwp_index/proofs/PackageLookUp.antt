@@ -1,15 +1,18 @@
 -- What looking a unit up in a package gives; it is found by its row.
 use Rattle.std.proofs.Common.{Bool, List, None, Ok, Option, Some, [], ap, arith, false, find}
-use Rattle.std.proofs.Common.{le-leb, length, not, refl, slice_range, ℕ, ◌+◌, ◌∷◌, ◌≡◌, ◌≤◌}
+use Rattle.std.proofs.Common.{le-leb, length, not, refl, slice_range, sym, ℕ, ◌+◌, ◌∷◌, ◌≡◌, ◌≤◌}
 use Rattle.dwp_index.proofs.Terms.{DwarfObject, Encoding, FindsExactly, Index, IsIndex, Package}
 use Rattle.dwp_index.proofs.Terms.{Ranges, SectionKind, contribution_kinds, encoding_in, found_row}
-use Rattle.dwp_index.proofs.Terms.{identifier_of, index_for, look_count, range_in, row_in}
+use Rattle.dwp_index.proofs.Terms.{identifier_of, index_for, look_count, range_in, row_in, ◌>>=◌}
 use Rattle.dwp_base.specs.declared.section.Contribution.{Contribution}
 use Rattle.dwp_index.specs.Contents.{Sections, content}
 use Rattle.dwp_index.specs.Finding.{GivesWithin, HasIndex, IsNotNamed, IsUnitOf, LiesInside}
 use Rattle.dwp_index.specs.Finding.{own_bytes, own_place, unit_of}
-use Rattle.dwp_index.specs.Package.{FoundUnit, first_outside, found, found_by_row, found_counted}
-use Rattle.dwp_index.specs.Package.{is_outside, row_bytes, row_counted, unit_at_row, unit_in}
+use Rattle.dwp_index.specs.Package.{FoundUnit, all_inside, first_outside, found, found_by}
+use Rattle.dwp_index.specs.Package.{found_by_row, found_counted, is_outside, row_by, row_bytes}
+use Rattle.dwp_index.specs.Package.{row_counted, row_found, row_inside, unit_at_row, unit_found}
+use Rattle.dwp_index.specs.Package.{unit_in, unit_of_row}
+use Rattle.dwp_units.proofs.Readings.{by-result}
 
 -- ---- the ranges
 not_outside : (bytes : List ℕ) (range : Option Contribution) → ((c : Contribution) → range ≡ Some c
@@ -95,8 +98,34 @@ pub row_bytes-absent : (contents : Sections) (row : Ranges) (kind : SectionKind)
 unfolding row_bytes
 row_bytes-absent contents row kind e = rw e refl
 
--- by its row a unit is found as by its identifier
+module _ (pack : Package) (object : DwarfObject) where
+  -- a range outside is told by both
+  ranged : (number count : ℕ) (row : Ranges) (outside : Option SectionKind)
+      → first_outside pack.contents row ≡ outside
+      → (unit_in pack object number row >>= λ unit. Ok (Some unit, count))
+      ≡ (row_inside pack number count row >>= unit_of_row pack object)
+  unfolding unit_in
+  ranged number count row None e = sym (ap (λ (o : Option SectionKind).
+      (all_inside o >>= λ inside. Ok (Some (number, row), count)) >>= unit_of_row pack object) e)
+  ranged number count row (Some kind) e = rw e refl
+
+  numbered : (index : Index) (number : Option ℕ) (count : ℕ)
+      → unit_found pack object index number count
+      ≡ (row_found pack index number count >>= unit_of_row pack object)
+  unfolding unit_at_row
+  numbered index None count = refl
+  numbered index (Some number) count = by-result _ (row_in index number)
+      (λ row e. rw e (ranged number count row (first_outside pack.contents row) refl))
+      (λ cause e. rw e refl)
+
+  indexed : (index : Option Index)
+      → found_by pack object index ≡ (row_by pack object index >>= unit_of_row pack object)
+  indexed None = refl
+  indexed (Some index) = numbered index
+      (found_row index.signatures index.rows (identifier_of object))
+      (look_count index.signatures index.rows (identifier_of object))
+
 pub by_row : (pack : Package) (object : DwarfObject)
     → found_counted pack object ≡ found_by_row pack object
-unfolding found_counted row_counted unit_at_row unit_in
-by_row pack object = grind arith
+unfolding found_counted row_counted
+by_row pack object = indexed pack object (index_for pack object)

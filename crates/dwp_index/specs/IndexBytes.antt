@@ -12,7 +12,6 @@ use Rattle.dwp_bytes.specs.declared.error.ReadError.TheVariants.{UnexpectedEof, 
 use Rattle.dwp_bytes.specs.declared.error.ReadError.TheVariants.{SlotCount, UnknownColumn}
 use Rattle.dwp_bytes.specs.declared.error.ReadError.TheVariants.{RepeatedColumn}
 use Rattle.dwp_table.specs.Columns.{kind_of_column}
-use Rattle.dwp_index.specs.declared.parsing.Sizes.{Sizes}
 use Rattle.dwp_index.specs.Index.{Index}
 
 -- n numbers of so many bytes, one after the other
@@ -45,7 +44,12 @@ is_slot_count units slots =
     (is_power_of_two slots && nat_lt units slots) || (slots == 0 && units == 0)
 
 -- how many columns, rows and slots
-unfoldable pub counts_of : Endianness → List ℕ → Result Sizes ReadError
+pub record Counts : Type 0 where
+  pub columns : ℕ
+  pub units : ℕ
+  pub slots : ℕ
+
+unfoldable pub counts_of : Endianness → List ℕ → Result Counts ReadError
 counts_of order bytes =
     if nat_lt (length bytes) 16 then Err UnexpectedEof
     else if is_slot_count (number order 4 (drop 8 bytes)) (number order 4 (drop 12 bytes))

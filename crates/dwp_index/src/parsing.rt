@@ -59,7 +59,8 @@ pub(crate) fn version_of(bytes: &[u8], order: Endianness) -> Result<u16, ReadErr
 #[tactic(auto, unfolding(crate::specs::IndexBytes::counts_of))]
 #[inline(always)]
 pub(crate) fn counts_of(bytes: &[u8], order: Endianness) -> Result<Sizes, ReadError>
-    ensures exact { Answers (λ x. x) result (counts_of order bytes.now) }
+    ensures exact { Answers (λ x. record { columns = x.columns; units = x.units; slots = x.slots })
+        result (counts_of order bytes.now) }
     ensures enough { OnOk result (16 ≤ length bytes.now) }
     ensures slots { IfOk result (λ x. IsTrue (is_slot_count x.units x.slots)) }
 {

@@ -95,7 +95,7 @@ fn put(slots: &mut [Slot], size: u32, slot: Slot) -> bool
 
 /// Puts the used ones of other slots into slots; how many there are. None where one can't be put.
 fn put_again(slots: &mut [Slot], size: u32, others: &[Slot]) -> Option<usize>
-    ensures kept { IfSome result (λ _. (other h n : ℕ) → place_of others.now other h ≡ Some n
+    ensures { IfSome result (λ _. (other h n : ℕ) → place_of others.now other h ≡ Some n
         → place_of slots.new size h ≡ Some n) }
 {
     let mut used: usize = 0;

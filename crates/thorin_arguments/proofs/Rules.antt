@@ -1,13 +1,13 @@
 -- What building a command line keeps of its words, in clap's terms.
-use Rattle.std.proofs.Common.{ap, Bool, List, refl, sym, true, [], ℕ, ◌++◌, ◌+◌, ◌<◌, ◌∙◌, ◌∷◌, ◌≡◌}
-use Rattle.std.proofs.Common.{ap₂, drop, false, length, map, take}
+use Rattle.std.proofs.Common.{Bool, List, refl, sym, [], ℕ, ◌&&◌, ◌++◌, ◌+◌, ◌<◌, ◌∙◌, ◌∷◌, ◌≡◌}
+use Rattle.std.proofs.Common.{ap, ap₂, drop, false, is_some, length, map, not, take, true}
 use Rattle.clap.specs.Words.{AddsArg, AddsSubcommand, app_of, rule_of, with_rule, with_subcommand}
 use Rattle.thorin_arguments.specs.Rules.{app_in, app_of_words, AreLongNames, ArePeerWords, shape_in}
 use Rattle.std.specs.{Borrow.Bor, Prelude.codes, Prelude.filter_map, Prelude.fold}
 use Rattle.std.proofs.{lemmas.List.Sums.fold-append, Math.ListN.get_or}
 use Rattle.std.proofs.lemmas.List.{append_assoc, map-append, take-map, take_more}
 use Rattle.clap.specs.{declared.builder.arg.Arg.Arg, Simple.new_shape, Words.App, Words.Shape}
-use Rattle.clap.specs.Walk.{is_simple_arg, Rule, Text, texts}
+use Rattle.clap.specs.Walk.{is_empty, Rule, Text, texts}
 use Rattle.clap.specs.declared.builder.command.Command.{Command}
 use Rattle.clap.proofs.{OnLiterals.clap_on_literals, SimpleLemmas.is_false, WalkLemmas.both}
 use Rattle.thorin_arguments.specs.Grammar.{command, long_names, peer, peer_words, thorin}
@@ -15,19 +15,25 @@ use Rattle.thorin_arguments.specs.{declared.command.Line.Line, Rules.rule_in, Wh
 use Rattle.thorin_arguments.specs.declared.command.Word.{Word}
 use Rattle.thorin_arguments.specs.declared.command.Word.TheVariants as words
 
+last-of-ten : (a b c d e f g h i j : Bool)
+    → (a && (b && (c && (d && (e && (f && (g && (h && (i && j))))))))) ≡ true → j ≡ true
+last-of-ten a b c d e f g h i j x =
+    let p = both a (b && (c && (d && (e && (f && (g && (h && (i && j)))))))) x in
+    let q = both b (c && (d && (e && (f && (g && (h && (i && j))))))) p.1 in
+    let r = both c (d && (e && (f && (g && (h && (i && j)))))) q.1 in
+    let s = both d (e && (f && (g && (h && (i && j))))) r.1 in
+    let t = both e (f && (g && (h && (i && j)))) s.1 in
+    let u = both f (g && (h && (i && j))) t.1 in
+    let v = both g (h && (i && j)) u.1 in
+    let w = both h (i && j) v.1 in
+    (both i j w.1).1
+
 -- a simple argument isn't global
-local : (x : Arg) → is_simple_arg x ≡ true → x.global ≡ false
-local x e =
-    let p = both _ _ e in
-    let q = both _ _ p.1 in
-    let r = both _ _ q.1 in
-    let s = both _ _ r.1 in
-    let t = both _ _ s.1 in
-    let u = both _ _ t.1 in
-    let v = both _ _ u.1 in
-    let w = both _ _ v.1 in
-    let last = both _ _ w.1 in
-    is_false _ last.1
+local : (x : Arg) → (rule_of x).is_simple ≡ true → x.global ≡ false
+local x e = is_false x.global (last-of-ten (is_empty x.overrides.items)
+    (is_empty x.default_vals_ifs.items) (is_empty x.groups.items) (not (is_some x.val_delim))
+    (not (is_some x.terminator)) (not x.allow_hyphen_values) (not x.allow_negative_numbers)
+    (not x.require_equals) (not x.last) (not x.global) e)
 
 simple : (word : Word) → (rule_in word).is_simple ≡ true
 simple words.Output = refl

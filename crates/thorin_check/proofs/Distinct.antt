@@ -216,7 +216,9 @@ module _ (pack : Package) where
       (kept : (range : StringRange) → IsGathered pack old range → IsGathered pack new range) where
     kept_in : (looked : Result (Option FoundUnit) PackageError) → IsGatheredIn pack old looked
         → IsGatheredIn pack new looked
-    kept_in looked g = grind (arith, kept)
+    kept_in (Err cause) g = tt
+    kept_in (Ok None) g = tt
+    kept_in (Ok (Some unit)) g = λ range has. kept range (g range has)
 
     -- one more unit was told of, and more may be gathered
     pub seen_next : (entries : List UnitEntry) (i : ℕ) (d : UnitEntry) {a b c : Progress}

@@ -216,15 +216,20 @@ known_again pack object unit shared read is all among same =
     let h = rw (← among.1.1) at (all among.0 read among.1.0) in
     h ∙ (rw same (own_is pack object unit is))
 
--- one more place is remembered, by what was read of a unit there
-pub known_more : {K : Type 0} (cmp : K → K → Ordering) (pack : Package) (object : DwarfObject)
-    (unit : FoundUnit) (old new : List (K × PlaceRead)) (key : K) (read : PlaceRead)
+-- one more place is remembered
+pub known_more : {K : Type 0} (cmp : K → K → Ordering) (pack : Package)
+    (old new : List (K × PlaceRead)) (key : K) (read : PlaceRead)
+    → new ≡ insert_entry cmp old key read → All (IsReadIn pack) (values_of old)
+    → IsReadIn pack read → All (IsReadIn pack) (values_of new)
+known_more cmp pack old new key read e all is =
+    rw e (All-values-insert_entry cmp key read (IsReadIn pack) old all is)
+
+-- what was read of a unit is what stands at its place
+pub read_at : (pack : Package) (object : DwarfObject) (unit : FoundUnit) (read : PlaceRead)
     → found pack object ≡ Ok (Some unit) → read.place ≡ place_in object unit
-    → said_of read.own ≡ own_of object unit → new ≡ insert_entry cmp old key read
-    → All (IsReadIn pack) (values_of old) → All (IsReadIn pack) (values_of new)
-known_more cmp pack object unit old new key read is same said e all =
-    let here : IsReadIn pack read = said ∙ (rw same (sym (own_is pack object unit is))) in
-    rw e (All-values-insert_entry cmp key read (IsReadIn pack) old all here)
+    → said_of read.own ≡ own_of object unit → IsReadIn pack read
+read_at pack object unit read is same said =
+    said ∙ (rw same (sym (own_is pack object unit is)))
 
 -- ---- units of one row
 

@@ -217,7 +217,8 @@ one_version : (versions : Option (ℕ × ℕ)) → Is (versions_faults versions)
 one_version versions h = grind (arith)
 
 map_none : {X Y : Type 0} (f : X → Y) (xs : List X) → [] ≡ map f xs → xs ≡ []
-map_none f xs e = grind (arith)
+map_none f [] e = refl
+map_none f (x ∷ xs) e = absurd cc
 
 -- the slots are the entries, in another order
 module _ (pack : Package) (entries : List UnitEntry) (by_row : AreByRow pack entries) where

@@ -1,9 +1,6 @@
 -- What is remembered of the bytes that units share, and of their abbreviations.
 use Rattle.std.specs.Prelude.{◌≡◌, ℕ, ◌+◌, Bool, true, false, List, drop, take, Option, Some, None}
-use Rattle.std.specs.Prelude.{Result, String}
-use Rattle.std.specs.Global.{Global}
 use Rattle.std.specs.List.{All}
-use Rattle.std.specs.Result.{result_ok}
 use Rattle.std.specs.BTreeMap.{values}
 use Rattle.dwp_base.specs.declared.section.Contribution.{Contribution}
 use Rattle.dwp_base.specs.declared.section.SectionKind.TheVariants.{Abbrev}
@@ -16,15 +13,19 @@ use Rattle.dwp_units.specs.Units.{units}
 use Rattle.dwp_units.specs.declared.unit.UnitSection.{UnitSection}
 use Rattle.dwp_units.specs.declared.unit.UnitSection.TheVariants.{Info, Types}
 use Rattle.thorin_find.specs.Names.{first_of}
+use Rattle.thorin_check.specs.declared.abbreviations.OwnIdentifier.{OwnIdentifier}
 use Rattle.thorin_check.specs.declared.abbreviations.UnitPlace.{UnitPlace}
 use Rattle.thorin_check.specs.declared.abbreviations.PlaceRead.{PlaceRead}
 use Rattle.thorin_check.specs.declared.abbreviations.Remembered.{Remembered}
 use Rattle.thorin_check.specs.Own.{own_by}
 use Rattle.dwp_base.specs.declared.section.SectionKind.TheVariants as kinds
+use Rattle.thorin_check.specs.declared.abbreviations.OwnIdentifier.TheVariants as says
 
 -- what was read
-abbrev pub said_of : Result (Option DwarfObject) (String Global) → Option (Option DwarfObject)
-said_of own = result_ok own
+abbrev pub said_of : OwnIdentifier → Option (Option DwarfObject)
+said_of (says.Is object) = Some (Some object)
+said_of says.Nameless = Some None
+said_of (says.Unread cause) = None
 
 -- where a range begins, and its size; an absent one has no bytes
 abbrev pub numbers_of : Option Contribution → ℕ × ℕ

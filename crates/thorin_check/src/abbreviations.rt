@@ -24,8 +24,14 @@ use thorin_errors::Error;
 use thorin_find::{header_of, short_kind};
 use thorin_identity::RangeTables;
 
-/// The identifier that a unit's own bytes give, where it has one; or why it can't be read.
-type OwnIdentifier = Result<Option<DwarfObject>, String>;
+/// What a unit's own bytes say of its identifier.
+#[derive(Drop)]
+pub(crate) enum OwnIdentifier {
+    Is(DwarfObject),
+    Nameless,
+    /// Why it can't be read.
+    Unread(String),
+}
 
 /// The places of a unit's own bytes and its abbreviations: what they say depends on nothing else.
 #[derive(Clone, Copy, PartialEq)]
@@ -71,6 +77,7 @@ pub(crate) struct PlaceRead {
 /// bytes: these are read once.
 #[derive(Drop)]
 pub(crate) struct Remembered<'a> {
+    alloc: Global,
     tables: TablesByTurns<'a>,
     shared: BTreeMap<[u64; 3], PlaceRead>,
 }
@@ -82,6 +89,7 @@ impl<'a> Remembered<'a> {
     {
         let order = pack.order();
         Remembered {
+            alloc,
             tables: TablesByTurns {
                 alloc,
                 order,
@@ -113,21 +121,22 @@ impl<'a> Remembered<'a> {
             let place = UnitPlace::of(unit, object);
             if let Some(read) = self.shared.get(&place.key()) {
                 if read.place == place {
-                    return own_fault(self.tables.alloc, &read.own, object);
+                    return own_fault(self.alloc, &read.own, object);
                 }
             }
-            let own = read(&mut self.tables, pack, object, unit)?;
-            let text = own_fault(self.tables.alloc, &own, object)?;
+            let own = read(self.alloc, &mut self.tables, pack, object, unit)?;
+            let text = own_fault(self.alloc, &own, object)?;
             self.shared.insert(place.key(), PlaceRead { place, own })?;
             return Ok(text);
         }
-        let own = read(&mut self.tables, pack, object, unit)?;
-        own_fault(self.tables.alloc, &own, object)
+        let own = read(self.alloc, &mut self.tables, pack, object, unit)?;
+        own_fault(self.alloc, &own, object)
     }
 }
 
 /// Reads what a unit's own bytes say of its identifier.
 fn read<'a>(
+    alloc: Global,
     tables: &mut TablesByTurns<'a>,
     pack: &PackageFile<'a>,
     object: DwarfObject,
@@ -139,13 +148,14 @@ fn read<'a>(
     ensures kept { tables.new ≡ tables.old }
 {
     match header_of(unit, object, pack.order()) {
-        Ok(header) => read_behind(tables, unit, &header),
-        Err(error) => Ok(Err(format!(in tables.alloc; "{error}")?)),
+        Ok(header) => read_behind(alloc, tables, unit, &header),
+        Err(error) => Ok(OwnIdentifier::Unread(format!(in alloc; "{error}")?)),
     }
 }
 
 /// The identifier that a unit with this header says itself, by its abbreviations.
 fn read_behind<'a>(
+    alloc: Global,
     tables: &mut TablesByTurns<'a>,
     unit: &PackagedUnit<'a>,
     header: &UnitHeader<SliceReader<'a>>,
@@ -162,8 +172,9 @@ fn read_behind<'a>(
         .saturating_add(size)
         .min(tables.first.bytes().len() as u64);
     match tables.identifier(start as usize, end as usize, header) {
-        Ok(own) => Ok(Ok(own)),
-        Err(error) => Ok(Err(format!(in tables.alloc; "{error}")?)),
+        Ok(Some(own)) => Ok(OwnIdentifier::Is(own)),
+        Ok(None) => Ok(OwnIdentifier::Nameless),
+        Err(error) => Ok(OwnIdentifier::Unread(format!(in alloc; "{error}")?)),
     }
 }
 
@@ -184,7 +195,7 @@ fn own_fault(
     ensures { IsTextOf (TellsOwn object (said_of own.now)) object result }
 {
     match own {
-        Ok(Some(own)) => {
+        OwnIdentifier::Is(own) => {
             if *own == object {
                 return Ok(None);
             }
@@ -192,8 +203,8 @@ fn own_fault(
             let id = own.index();
             some(format!(in alloc; "its own identifier is {kind} 0x{id:016x}"))
         }
-        Ok(None) => some(format!(in alloc; "it has no identifier of its own")),
-        Err(cause) => {
+        OwnIdentifier::Nameless => some(format!(in alloc; "it has no identifier of its own")),
+        OwnIdentifier::Unread(cause) => {
             let cause = cause.as_str();
             some(format!(in alloc; "its own identifier can't be read: {cause}"))
         }

@@ -2,11 +2,11 @@
 -- section's table where it says the same of the root entry's code.
 use Rattle.std.proofs.Common.{drop, length, min, Ok, take, [], ℕ, ◌+◌, ◌-◌, ◌<◌, ◌∙◌, ◌∷◌, ◌≡◌, ◌≤◌}
 use Rattle.std.proofs.Common.{drop-drop, length-drop, length-take-le, Option, option_map, take-take}
-use Rattle.std.proofs.Common.{ap, arith, inl, inr, List, refl, Result, Some, sym}
+use Rattle.std.proofs.Common.{ap, arith, Err, inl, inr, List, None, refl, Result, Some, sym}
 use Rattle.dwp_base.specs.Reading.{◌>>=◌}
 use Rattle.thorin_identity.specs.Identity.{entry_identity, part_between, root_identity, with_offset}
 use Rattle.thorin_identity.specs.Identity.{DW_AT_GNU_dwo_id, first_identifier, numbered_identity}
-use Rattle.thorin_identity.specs.Identity.{compilation}
+use Rattle.thorin_identity.specs.Identity.{compilation, found_or, identifier_in}
 use Rattle.std.proofs.{lemmas.Bool.cases_lt, lemmas.List.take_min, lemmas.Slice.between_is}
 use Rattle.std.specs.Option.{ok_or}
 use Rattle.dwp_bytes.specs.declared.error.ReadError.TheVariants.{UnknownCode}
@@ -21,7 +21,7 @@ use Rattle.thorin_errors.specs.Errors.{ErrorValue, GimliRead, NoDie, ParseUnitAb
 use Rattle.thorin_errors.specs.Answers.{as_error}
 use Rattle.dwp_base.specs.declared.endian.Endianness.{Endianness}
 use Rattle.dwp_bytes.specs.{declared.encoding.Encoding.Encoding, declared.error.ReadError.ReadError}
-use Rattle.dwp_dwarf.specs.Numbers.{first_number, numbered, numbered_at}
+use Rattle.dwp_dwarf.specs.Numbers.{first_number, number_or, numbered, numbered_at}
 
 -- by the code of the root entry
 abbrev by_code : Unit → Input → ℕ × Input → Result (Option DwarfObject) ErrorValue
@@ -107,10 +107,18 @@ part_within order bytes begin start end last part early in_order late held =
 abbrev by_number : Result (Option ℕ) ReadError → Result (Option DwarfObject) ErrorValue
 by_number number = as_error GimliRead number >>= λ id. Ok (option_map compilation id)
 
+found_alike : (o : Option ℕ) (r : Result (Option ℕ) ReadError)
+    → by_number (number_or o r) ≡ found_or o (by_number r)
+found_alike (Some n) r = refl
+found_alike None r = refl
+
 first_alike : (read : List (Result DebugAttribute ReadError))
     → by_number (first_number DW_AT_GNU_dwo_id read) ≡ first_identifier read
 first_alike [] = refl
-first_alike (read ∷ others) = grind (arith, first_alike others)
+first_alike (Ok a ∷ others) =
+    found_alike (identifier_in a) (first_number DW_AT_GNU_dwo_id others)
+    ∙ ap (found_or (identifier_in a)) (first_alike others)
+first_alike (Err e ∷ others) = refl
 
 pub numbered_is : (e : DebugEntry)
     → numbered_identity (numbered DW_AT_GNU_dwo_id e) ≡ entry_identity e
@@ -124,9 +132,11 @@ declared_is : (encoding : Encoding) (values : Input) (said : Result (Option Decl
     (entry encoding d values)) o)) ≡ Ok (Some found)
     → (as_error ParseUnitAbbreviations said >>= λ o. ok_or o (GimliRead UnknownCode) >>= λ d.
     entry_identity (entry encoding d values)) ≡ numbered_identity found
-declared_is encoding values said found is =
-    let same = λ (d : Declaration). sym (numbered_is (entry encoding d values)) in
-    grind (arith, same)
+declared_is encoding values (Err e) found is = absurd cc
+declared_is encoding values (Ok None) found is = absurd cc
+declared_is encoding values (Ok (Some d)) found is =
+    let same : numbered DW_AT_GNU_dwo_id (entry encoding d values) ≡ found = cc in
+    sym (numbered_is (entry encoding d values)) ∙ ap numbered_identity same
 
 -- the identity in a unit's root entry, by what was found of it
 pub root_is : (section : Input) (unit : Unit) (table values : Input) (code : ℕ)

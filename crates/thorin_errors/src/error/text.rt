@@ -1,10 +1,25 @@
 //! The texts of errors.
 #![tactic(auto, using(crate::proofs::Hex::hex8_written))]
 
-ghost use Rattle.thorin_errors.specs.Text.{error_text};
+ghost use Rattle.std.specs.Prelude.{Some, ◌++◌};
+ghost use Rattle.std.specs.Fmt.{DisplaysOnOk};
+ghost use Rattle.thorin_errors.specs.Text.{error_text, hex8};
 
 use super::Error;
 use std::fmt;
+
+/// Writes a number, in at least eight hexadecimal digits, between two texts.
+fn write_unit<W: fmt::Write>(
+    f: &mut fmt::Formatter<W>,
+    before: &str,
+    unit: u64,
+    after: &str,
+) -> fmt::Result
+    ensures { DisplaysOnOk W.write_str_gives f.old result
+        (Some (before.now ++ (hex8 unit ++ after.now))) f.new }
+{
+    write!(f, "{before}{unit:08x}{after}")
+}
 
 impl fmt::Display for Error {
     ghost use Rattle.thorin_errors.specs.Errors.{error_of};
@@ -63,7 +78,7 @@ impl Error {
             Error::ParseUnitHeader(_) => f.write_str("Failed to parse unit header"),
             Error::ParseUnit(_) => f.write_str("Failed to parse unit"),
             Error::EmptyUnit(unit) => {
-                write!(f, "Unit 0x{unit:08x} in input DWARF object with no data")
+                write_unit(f, "Unit 0x", *unit, " in input DWARF object with no data")
             }
             Error::NotSplitUnit => f.write_str(
                 "Regular compilation unit in object (missing dwo identifier)",
@@ -72,9 +87,11 @@ impl Error {
                 write!(f, "Duplicate split compilation unit (0x{unit:08x})")
             }
             Error::MissingReferencedUnit(unit) => {
-                write!(
+                write_unit(
                     f,
-                    "Unit 0x{unit:08x} referenced by executable was not found"
+                    "Unit 0x",
+                    *unit,
+                    " referenced by executable was not found",
                 )
             }
             _ => self.write_index_text(f),
@@ -104,9 +121,11 @@ impl Error {
                 write!(f, "Failed to parse `{section}` index section")
             }
             Error::UnitNotInIndex(unit) => {
-                write!(
+                write_unit(
                     f,
-                    "Unit 0x{unit:08x} from input package is not in its index"
+                    "Unit 0x",
+                    *unit,
+                    " from input package is not in its index",
                 )
             }
             Error::RowNotInIndex(_, row) => write!(

@@ -10,8 +10,8 @@ loop-number-preserved c = λ j less some.
 pub loop-number-preserved-then-slot-eq0 : goal.loop-number-preserved-then-slot-eq0
 loop-number-preserved-then-slot-eq0 c = grind (arith, c.loop-number.invariant)
 
-pub returns-clause-kept : goal.returns-clause-kept
+pub returns : goal.returns
 unfolding place_of
-returns-clause-kept c = λ other h n. each_from c.args.others.now c.loop-number.slots c.args.size
+returns c = λ other h n. each_from c.args.others.now c.loop-number.slots c.args.size
     (home other h) 128 h n (λ j some. c.loop-number.invariant j
     (omega (arith, slot_within c.args.others.now j some)) some)

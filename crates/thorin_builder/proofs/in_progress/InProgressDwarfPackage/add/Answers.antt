@@ -1,5 +1,5 @@
 use Rattle.thorin_builder.proofs.in_progress.InProgressDwarfPackage.add.Goals as goal
 
-pub returns-in-Err-clause-err : goal.returns-in-Err-clause-err
-returns-in-Err-clause-err c =
+pub returns-clause-err : goal.returns-clause-err
+returns-clause-err c =
     c.restore.ensures _ c.try_add.ensures.extends c.in_ok-mark.ensures.mark

@@ -3,7 +3,8 @@ use Terms.{accepted_of, AreTaken, Err, Io, Memory, Ok, Outcome, path_bytes, refl
 use Terms.{TakesReferredFile, []}
 use Rattle.thorin_builder.{proofs.Extending.on_ok-both, specs.Taking.PassesOver}
 use Rattle.thorin_builder.proofs.AddedAgain.{are-taken-later, taken-remembered}
-use Rattle.thorin_builder.proofs.{package.DwarfPackage.add_referred.Given.Over, Running.on-ok-taken}
+use Rattle.thorin_builder.proofs.Running.{on-ok-taken}
+use Rattle.thorin_builder.proofs.package.DwarfPackage.add_referred.Given.{Over}
 use Rattle.thorin_builder.proofs.package.DwarfPackage.add_referred.Goals.{In-Err-Failed-Io}
 use Rattle.thorin_builder.proofs.package.DwarfPackage.add_referred.Goals as goal
 

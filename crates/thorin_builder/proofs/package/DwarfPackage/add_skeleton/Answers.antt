@@ -2,7 +2,8 @@ use Rattle.thorin_builder.proofs.Terms
 use Terms.{accepted_of, err_from_is_err_and, Memory, on_ok_weaker, TakesReferredFile, TakesSkeleton}
 use Terms.{[], AreTaken, came, Err, inl, inr, Io, IsTaken, List, Ok, Outcome, refl, rules, State, ℕ}
 use Rattle.thorin_builder.proofs.AddedAgain.{are-taken-later, taken-found, target-kept}
-use Rattle.thorin_builder.proofs.{package.DwarfPackage.add_skeleton.Given.Over, Running.on-ok-taken}
+use Rattle.thorin_builder.proofs.Running.{on-ok-taken}
+use Rattle.thorin_builder.proofs.package.DwarfPackage.add_skeleton.Given.{Over}
 use Rattle.thorin_builder.proofs.package.DwarfPackage.add_skeleton.Goals.{In-Some, In_ok-add_target}
 use Rattle.thorin_builder.proofs.package.DwarfPackage.add_skeleton.Goals as goal
 

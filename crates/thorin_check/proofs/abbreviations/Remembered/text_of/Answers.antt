@@ -1,5 +1,5 @@
 use Rattle.thorin_check.proofs.Terms.{PlaceRead, sym, ◌∙◌}
-use Rattle.thorin_check.proofs.Own.{known_again, known_more, places_same}
+use Rattle.thorin_check.proofs.Own.{known_again, known_more, places_same, read_at}
 use Rattle.thorin_check.proofs.abbreviations.Remembered.text_of.Goals as goal
 
 pub returns-then-eq-clause-text : goal.returns-then-eq-clause-text
@@ -16,7 +16,8 @@ returns-then-has_twin-clause-knows c =
     } in
     record {
       tables = rw c.read.ensures.kept c.requires.knows.tables;
-      shared = known_more _ c.args.pack.now c.args.object c.args.unit.now _ _ _ read
-          c.requires.is_found c.of-place.ensures c.in_ok-own.ensures.own
-          c.in_ok-insert.ensures.entries c.requires.knows.shared;
+      shared = known_more _ c.args.pack.now _ _ _ read c.in_ok-insert.ensures.entries
+          c.requires.knows.shared
+          (read_at c.args.pack.now c.args.object c.args.unit.now read c.requires.is_found
+          c.of-place.ensures c.in_ok-own.ensures.own);
     }
