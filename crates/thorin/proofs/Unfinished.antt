@@ -109,10 +109,6 @@ module _ {X : Type 0} (P : X → Type 0) (test : X → Result (Unit {0}) ErrorVa
 
 -- ---- the tests of one row
 
-number-failed : (what : List ℕ) (n : ℕ) (error : ErrorValue) → number_test what n ≡ Err error
-    → (2 ^ 32 ≤ n) × (error ≡ NumberTooLarge what n)
-number-failed what n error h = grind (arith, nat_tests)
-
 -- a number of a range that lies inside a section is no larger than that
 range-long : (c : Contents) (row : IndexEntry) → LieInside c row → (kind : SectionKind)
     → (offset_or_0 (contribution_to kind row) ≤ length (content_of kind c))
@@ -170,8 +166,9 @@ module _ (inputs : List (List ℕ)) (state : State) (error : ErrorValue) where
       let r = each-failed (LieInside contents) (contributions_test test) error rows inside h in
       let k = each-failed (λ kind. Unit {0}) (λ kind. test kind (contribution_to kind r.0)) error
       contribution_kinds (each-all (λ kind. Unit {0}) (λ kind. tt) contribution_kinds) r.2 in
-      let n = number-failed what _ error k.2 in
-      ((k.0, omega (arith, n.0, most r.0 r.1 k.0)), (_, n.1))
+      let fits = most r.0 r.1 k.0 in
+      let n = measure (contribution_to k.0 r.0) in
+      ((k.0, grind (arith, nat_tests, k.2, fits)), (n, grind (arith, nat_tests, k.2)))
 
   format-failed : (encoding : Encoding) (rows : List IndexEntry) → EachRow IsInFormat rows
       → EachRow (IsOfVersion encoding) rows
