@@ -119,10 +119,6 @@ range-long c row lie kind = grind (arith, lie.inside kind)
 abbrev IsOfVersion : Encoding → IndexEntry → Type 0
 IsOfVersion encoding row = row.encoding.version ≡ encoding.version
 
-same-version : (encoding : Encoding) (row : IndexEntry) → encoding_test encoding row ≡ Ok tt
-    → IsOfVersion encoding row
-same-version encoding row h = grind (arith, nat_tests)
-
 same-self : (encoding : Encoding) → same_encoding encoding encoding ≡ true
 same-self encoding = grind (arith, nat_tests)
 
@@ -223,7 +219,7 @@ module _ (inputs : List (List ℕ)) (state : State) (error : ErrorValue) where
           | inr same ↦ elim (step-failed _ _ error same.2) [
             | inl outside ↦ absurd (format-failed encoding all known.format
                 (each-passed (IsOfVersion encoding) (encoding_test encoding)
-                (same-version encoding) all same.1) outside)
+                (λ row passed. grind (arith, nat_tests, passed)) all same.1) outside)
             | inr inside ↦ elim (step-failed _ _ error inside.2) [
               | inl far ↦
                   let long = number-long (codes "contribution offset") offset_or_0
