@@ -199,10 +199,6 @@ module _ (inputs : List (List ℕ)) (state : State) (error : ErrorValue) where
         other.0,
       )
 
-  count-failed : (n : ℕ) → count_test n ≡ Err error
-      → (2 ^ 32 ≤ 3 * n) × (error ≡ NumberTooLarge (codes "unit count") n)
-  count-failed n h = grind (arith, nat_tests)
-
   index-failed : (rows : List IndexEntry) → RowsKnown inputs state rows
       → index_tests rows ≡ Err error → IsRefused inputs state error
   unfolding tests_under
@@ -212,8 +208,10 @@ module _ (inputs : List (List ℕ)) (state : State) (error : ErrorValue) where
       let encoding = row.encoding in
       elim (step-failed (count_test (length all)) _ error h) [
         | inl many ↦
-            let count = count-failed (length all) many in
-            inr (known.many count.0, (length all, inl count.1))
+            inr (
+              known.many (grind (arith, nat_tests, many)),
+              (length all, inl (grind (arith, nat_tests, many))),
+            )
         | inr counted ↦ elim (step-failed (each (encoding_test encoding) all) _ error counted.2) [
           | inl other ↦ inl (mixed row rows known.encodings other)
           | inr same ↦ elim (step-failed _ _ error same.2) [
