@@ -256,19 +256,14 @@ none-taken (bytes ∷ rest) old new are none =
     let t = takes bytes old.begun _ (begun-now bytes (record old { targets = are.0 }) _ are.2) in
     grind (arith, t.does, none-taken rest are.1 new are.3)
 
-target-failed : (state : State) (error : ErrorValue)
-    → targets_test (names_in state.begun) state.targets ≡ Err error → LacksTarget state error
-unfolding targets_test
-target-failed state error h = grind arith
-
 pub unfinished : (inputs : List (List ℕ)) (state : State) (error : ErrorValue)
     → AreTaken inputs start state → IsSoundBegun state.begun → AreInFormat state.begun
     → HaveEncodingsOf inputs state.begun → finish_test state ≡ Err error
     → IsUnfinished inputs state error
-unfolding finish_test indexes_test
+unfolding finish_test indexes_test targets_test
 unfinished inputs state error are sound format encodings h =
     elim (step-failed (targets_test (names_in state.begun) state.targets) _ error h) [
-      | inl missing ↦ inl (target-failed state error missing)
+      | inl missing ↦ inl (grind (arith, missing))
       | inr passed ↦ inr (by state.begun refl passed.2)
     ]
   where
