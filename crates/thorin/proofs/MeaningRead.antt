@@ -84,10 +84,6 @@ error-was f r x h = grind rules
 
 -- ---- the input
 
-elf-by : (bytes : List ℕ) (kind : FileKind) (file w : Elf) → elf_in bytes kind ≡ Ok file
-    → elf_of bytes ≡ Ok w → file ≡ w
-elf-by bytes kind file w h k = grind rules
-
 index-same : (order : Endianness) (kind : SectionKind) (bytes : List ℕ) (a b : Option Index)
     → index_in order kind bytes ≡ Ok a → index_in_section order bytes ≡ Ok b → a ≡ b
 unfolding index_in index_in_section
@@ -112,7 +108,8 @@ read-as bytes pack file object encoding indexes h o k l =
     let p3 = bind-was (index_in_section order (content p2.0 CuIndex)) _ pack p2.2 in
     let p4 = bind-was (index_in_section order (content p2.0 TuIndex)) _ pack p3.2 in
     let s = bind-was (as_error ParseFileKind (identification.kind_of bytes)) _ file o in
-    let same = elf-by bytes s.0 file p1.0 s.2 (error-was errors.Elf (elf_of bytes) p1.0 p1.1) in
+    let same : file ≡ p1.0 =
+    grind (rules, s.2, error-was errors.Elf (elf_of bytes) p1.0 p1.1) in
     let t = bind-was (used_from [] p1.0.sections) _ object (rw same at k) in
     let is = same-ok _ object t.2 in
     let each : (kind : SectionKind) → first kind t.0 ≡ content p2.0 kind = λ kind.
