@@ -24,16 +24,6 @@ if-written view state P (Err e) w f = tt
 
 -- ---- packages of groups
 
-abbrev pub AcceptedLaw : Type 0
-AcceptedLaw = (accepted : List (List ℕ)) (state : State) (file : File)
-    → AreTaken accepted start state → finish_test state ≡ Ok tt → IsFinishedState state file
-    → IsAcceptedOnceWritten state file
-
-abbrev pub OrderLaw : Type 0
-OrderLaw = (bytes : List ℕ) (file : Elf) (old new : State) (order : Endianness)
-    → elf_of bytes ≡ Ok file → taken bytes old ≡ Ok new
-    → order_of new.begun order ≡ order_of old.begun file.order
-
 -- why what a new builder took isn't finished
 abbrev pub UnfinishedLaw : Type 0
 UnfinishedLaw = (accepted : List (List ℕ)) (state : State) (error : ErrorValue)
@@ -73,8 +63,12 @@ unwritten-why law packages error u = ⊎_elim
     })))
     u.refused
 
-module _ (any : AcceptedLaw) (finishes : UnfinishedLaw) (orders : OrderLaw) (order : Endianness)
-  where
+module _ (any : (accepted : List (List ℕ)) (state : State) (file : File)
+    → AreTaken accepted start state → finish_test state ≡ Ok tt → IsFinishedState state file
+    → IsAcceptedOnceWritten state file) (finishes : UnfinishedLaw)
+    (orders : (bytes : List ℕ) (file : Elf) (old new : State) (order : Endianness)
+    → elf_of bytes ≡ Ok file → taken bytes old ≡ Ok new
+    → order_of new.begun order ≡ order_of old.begun file.order) (order : Endianness) where
   each-foreseen : (groups : List (List (List ℕ))) (packages : List (List ℕ))
       (each : ArePackedAlone groups packages) → CanBePackedAgain order groups packages each
       → (old : State) → IsSoundBegun old.begun → order_of old.begun order ≡ order
