@@ -119,6 +119,11 @@ range-long c row lie kind = grind (arith, lie.inside kind)
 abbrev IsOfVersion : Encoding → IndexEntry → Type 0
 IsOfVersion encoding row = row.encoding.version ≡ encoding.version
 
+no-column : (version : ℕ) (kind : SectionKind) (range : Option Contribution) (error : ErrorValue)
+    → (is_some range ≡ true → is_some (column_of version kind) ≡ true)
+    → format_test version kind range ≡ Err error → ⊥
+no-column version kind range error has h = grind (arith, has)
+
 same-self : (encoding : Encoding) → same_encoding encoding encoding ≡ true
 same-self encoding = grind (arith, nat_tests)
 
@@ -174,7 +179,9 @@ module _ (inputs : List (List ℕ)) (state : State) (error : ErrorValue) where
             let k = each-failed (λ kind. Unit {0})
             (λ kind. format_test version kind (contribution_to kind row)) error contribution_kinds
             (each-all (λ kind. Unit {0}) (λ kind. tt) contribution_kinds) here in
-            grind (arith, k.2, of.0, format.0 k.0)
+            no-column version k.0 (contribution_to k.0 row) error (λ some.
+            subst (λ v. is_some (column_of (index_version_of v) k.0) ≡ true) of.0
+            (format.0 k.0 some)) k.2
         | inr later ↦ format-failed encoding rows format.1 of.1 later.2
       ]
 
