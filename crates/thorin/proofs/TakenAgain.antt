@@ -1,19 +1,6 @@
 -- Packages that are packed again, and inputs of one encoding, as packing has them.
-use Rattle.thorin.proofs.Terms
-use Terms.{ap, ArePackedAlone, AreTaken, arith, begun-now, CanBePackedAgain, DwarfObject, Elf}
-use Terms.{elf_of, Encoding, encoding_of, Endianness, Err, ErrorValue, File, find, finish_test}
-use Terms.{IfOk, inl, input-keeps, inr, is_missing, IsFinishedState, IsOfEncoding, IsPlainOf}
-use Terms.{IsSoundBegun, IsWritten, List, names_in, None, Ok, Option, refl, RefusesPackages, Result}
-use Terms.{Some, start, State, sym, taken, taken_each, Writes, written_elf, [], ℕ, ⊎_elim, ◌∙◌, ◌∷◌}
-use Terms.{◌≡◌, ◌⊎◌}
-use Rattle.thorin.specs.Unfinished.{AreMixed, AreTooLong, IsGroupsError, IsUnfinished, LacksInput}
-use Rattle.thorin_input.specs.Used.{input_file_of, InputFile, opened}
-use Rattle.thorin_errors.specs.declared.error.Error.{Error}
-use Rattle.thorin_join.specs.Builder.{order_of}
-use Rattle.thorin_again.specs.{Again.input_encoding, OwnAccepted.IsAcceptedOnceWritten}
-use Rattle.thorin_again.specs.OwnRefusals.{IsForeseen, UnlessForeseen}
-use Rattle.thorin.{proofs.Running.each-taken, proofs.Running.read-text, specs.Groups.IsUnwritten}
-use Rattle.thorin_again.proofs.Opened.Sections.{and-then}
+pub mod GroupJoins
+unfoldable pub use GroupJoins.*
 
 -- of a file that may have been written
 pub if-written : {V : Type 0} (view : V → List ℕ) (state : State) (P : List ℕ → Type 0)

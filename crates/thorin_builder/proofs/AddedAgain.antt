@@ -1,18 +1,17 @@
 -- What an input adds that adds no unit, however often it is taken.
 use Rattle.thorin_builder.proofs.Terms
-use Terms.{append-nil, append_assoc, AreTaken, arith, begun_of, bytes_eq, DwarfObject, Encoding}
-use Terms.{false, Global, held_units, in_progress_of, IndexEntry, inl, InProgress}
-use Terms.{InProgressDwarfPackage, inr, IsLater, IsTaken, kept_more, le-ltb, length, List, lookup}
-use Terms.{map, map-append, Meaning, meaning_at, names_in, None, none-some, Ok, Option, own_after}
-use Terms.{own_encoding, part, refl, Remembers, rules, Some, State, String, string_bytes, string_eq}
-use Terms.{sym, take-length, taken, true≢false, UnitlessInput, units_begun, units_of, with_input}
-use Terms.{with_more, ℕ, [], ◌∷◌, ◌≡◌, ◌⊎◌}
-use Rattle.thorin_join.proofs.Terms.{is_some, Joins}
-use Rattle.std.proofs.{lemmas.Simd.map-map, lemmas.Slice.Eq.bytes_eq-Decides}
-use Rattle.indexmap.specs.IndexMap.{insert_entry}
+use Rattle.{indexmap.specs.IndexMap.insert_entry, thorin_builder.proofs.Extending.extends-refl}
+use Rattle.std.proofs.lemmas.{Simd.map-map, Slice.Eq.bytes_eq-Decides}
+use Rattle.thorin_builder.{proofs.Running.Offer, specs.Taking.with_target}
 use Rattle.thorin_builder.specs.Repeated.{AddsAgain, AddsAgainTo, ExtendsBegun, IsLaterBegun}
-use Rattle.thorin_builder.specs.Taking.{with_target}
-use Rattle.thorin_builder.proofs.{Extending.extends-refl, Running.Offer}
+use Rattle.thorin_join.proofs.Finished.Joined.Rows.SharedParts.Units.{is_some, Joins}
+use Terms.{append-nil, DwarfObject, IndexEntry, InProgress, string_bytes, take-length, units_begun}
+use Terms.{append_assoc, in_progress_of, InProgressDwarfPackage, own_encoding, State, UnitlessInput}
+use Terms.{AreTaken, begun_of, bytes_eq, Encoding, List, none-some, own_after, string_eq, with_more}
+use Terms.{arith, false, inl, inr, map, None, part, refl, rules, Some, sym, taken, ◌∷◌, ◌≡◌, ◌⊎◌}
+use Terms.{Global, held_units, kept_more, map-append, meaning_at, Remembers, with_input, true≢false}
+use Terms.{IsLater, IsTaken, le-ltb, length, lookup, Meaning, names_in, Option, String, units_of, ℕ}
+use Terms.{Ok, []}
 
 -- packages that another one became
 pub later-refl : (made : InProgress) → IsLater made made

@@ -1,11 +1,11 @@
 -- What an input adds that adds no unit is the same over more strings, and beside more units.
 use Rattle.thorin_builder.proofs.Terms
+use Rattle.thorin_join.proofs.Finished.Joined.Rows.SharedParts.Units as Joined
 use Terms.{[], Bool, Contents, DwarfObject, Err, ErrorValue, first, IndexEntry, kept_bytes}
 use Terms.{kept_more, length, List, lookup, SeenSections, New, new_units, NewUnit, none_met, Ok}
 use Terms.{Option, or_held, parts_of, Result, rules, same_name, Some, Source, suc, take}
 use Terms.{take-append_seam, take-length, Used, with_each_read, with_each_section, with_first}
 use Terms.{with_section, zero, ℕ, ◌++◌, ◌+◌, ◌∙◌, ◌∷◌, ◌≡◌}
-use Rattle.thorin_join.proofs.Terms as Joined
 use Joined.{◌>>=◌, Adding, Contribution, entry_count, name_for, packaged_offsets, ReadError}
 use Joined.{remapped, rewritten, slice_range, Str, unit_section, UnitSection}
 use Joined.{with_each_part, with_offsets, with_part, with_string, with_unit}

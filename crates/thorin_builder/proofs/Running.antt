@@ -1,20 +1,19 @@
 -- The units that an executable refers to, one after the other.
 use Rattle.thorin_builder.proofs.Terms
-use Terms.{ap, append-nil, append_assoc, Bool, came, DwarfObject, Err, Error, error_of, ErrorValue}
-use Terms.{false, input_error_in, keys, length, List, MemoryAside, names_in, None, Ok, Option}
-use Terms.{Outcome, outcome_of, refl, Result, rules, Some, State, subst, sym, take, take-append-add}
-use Terms.{take-length, TakesSkeleton, units_in, unread, ℕ, [], ◌++◌, ◌∙◌, ◌∷◌, ◌≡◌, ◌≢◌}
 use Rattle.thorin_errors.specs.declared.error.InputError.TheVariants as input
-use Rattle.std.proofs.lemmas.List.{length-append}
-use Rattle.std.specs.{declared.io.Error.Error as IoError, Prelude.OnOk}
+use Rattle.{std.proofs.lemmas.List.length-append, thorin_executable.specs.Skeletons.Listed}
+use Rattle.{std.specs.Prelude.OnOk, thorin_builder.specs.declared.reader.NotTaken.NotTaken}
+use Rattle.std.specs.declared.io.Error.{Error as IoError}
+use Rattle.thorin_builder.specs.Reading.{DeclinesNamed, error_in, IsRead, OnDeclined}
+use Rattle.thorin_builder.specs.Taking.{MayRead, TakesNamed, TakesSkeletons}
+use Rattle.thorin_errors.specs.{Errors.Memory, Inputs.input_error}
 use Rattle.thorin_errors.specs.declared.error.InputError.{InputError}
 use Rattle.thorin_errors.specs.declared.error.MissingReferencedObjectBehaviour.{MissingReferencedObjectBehaviour}
-use Rattle.thorin_executable.specs.Skeletons.{Listed}
-use Rattle.thorin_builder.specs.Taking.{MayRead, TakesNamed, TakesSkeletons}
-use Rattle.thorin_builder.specs.Reading.{DeclinesNamed, error_in, IsRead, OnDeclined}
-use Rattle.thorin_builder.specs.declared.reader.NotTaken.{NotTaken}
-use Rattle.thorin_errors.specs.{Errors.Memory, Inputs.input_error}
-use Rattle.thorin_join.proofs.Units.InRows.{keys-units}
+use Rattle.thorin_join.proofs.Finished.Joined.Rows.{keys-units}
+use Terms.{ap, came, keys, Ok, refl, Some, sym, take, [], ℕ, ◌++◌, ◌∙◌, ◌∷◌, ◌≡◌, ◌≢◌}
+use Terms.{append-nil, error_of, ErrorValue, names_in, Outcome, outcome_of, take-length, units_in}
+use Terms.{append_assoc, DwarfObject, input_error_in, MemoryAside, take-append-add, TakesSkeleton}
+use Terms.{Bool, Err, Error, false, length, List, None, Option, Result, rules, State, subst, unread}
 
 abbrev pub Offer : Type 1
 Offer = List ℕ → Result (List ℕ) IoError → Type 0

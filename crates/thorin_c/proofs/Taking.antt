@@ -1,23 +1,25 @@
 -- Inputs taken one after the other.
-use Rattle.thorin.proofs.Terms.{ap, AreTaken, arith, Err, [], ℕ, ◌+◌, ◌<◌, ◌∙◌, ◌∷◌, ◌≡◌, ◌≤◌, ◌⊎◌}
-use Rattle.thorin.proofs.Terms.{finish_test, inl, IsPackageOf, IsTakenAgain, length-map, taken_each}
-use Rattle.thorin.proofs.Terms.{bind-ok, get_or, IsWritten, length, List, map_more, start, units_in}
-use Rattle.thorin.proofs.Terms.{inr, map, Ok, refl, State, sym, take, taken, true}
+use Rattle.{thorin.specs.Run.RefusesToWrite, thorin_again.specs.Own.packs_again}
+use Rattle.dwp_table.specs.declared.object.DebugTypeSignature.{DebugTypeSignature}
 use Rattle.std.proofs.Common.{if◌then◌else◌}
 use Rattle.std.specs.Prelude.{pos, ℤ, ◌≢◌}
-use Rattle.thorin_c.specs.Packing.{ArePackedAgain, IsDifferingStatus, TellsRefused, TellsUnfinished}
-use Rattle.thorin_c.specs.Packing.{Accepts, bytes_of, IsFailure, IsPackage, RunsOutAfter, RunsOutAt}
+use Rattle.thorin.proofs.TakenAgain.GroupJoins.{each-taken, join-append, taken-then}
+use Rattle.thorin.proofs.TakenAgain.GroupJoins.Unfinished.{ap, Ok, []}
+use Rattle.thorin.proofs.TakenAgain.GroupJoins.Unfinished.{AreTaken, bind-ok, map_more, units_in, ℕ}
+use Rattle.thorin.proofs.TakenAgain.GroupJoins.Unfinished.{arith, Err, get_or, length, start, taken}
+use Rattle.thorin.proofs.TakenAgain.GroupJoins.Unfinished.{finish_test, IsPackageOf, IsTakenAgain}
+use Rattle.thorin.proofs.TakenAgain.GroupJoins.Unfinished.{inl, inr, List, map, refl, take, true}
+use Rattle.thorin.proofs.TakenAgain.GroupJoins.Unfinished.{IsWritten, length-map, State, taken_each}
+use Rattle.thorin.proofs.TakenAgain.GroupJoins.Unfinished.{sym, ◌+◌, ◌<◌, ◌∙◌, ◌∷◌, ◌≡◌, ◌≤◌, ◌⊎◌}
+use Rattle.thorin_c.specs.{Errors.Tells, Listing.written_over}
+use Rattle.thorin_c.specs.Packing.{Accepts, bytes_of, IsFailure, IsPackage, RunsOutAt, TellsRefused}
+use Rattle.thorin_c.specs.Packing.{ArePackedAgain, IsDifferingStatus, RunsOutAfter, TellsUnfinished}
 use Rattle.thorin_c.specs.Packing.{Differ, Leaves, Refuses, StopsAt}
-use Rattle.thorin_errors.specs.Errors.{error_of, NoOutputObjectCreated}
-use Rattle.thorin_errors.specs.{Answers.MemoryAside, declared.error.Error.Error}
-use Rattle.thorin.specs.Run.{RefusesToWrite}
-use Rattle.dwp_table.specs.declared.object.DebugTypeSignature.{DebugTypeSignature}
-use Rattle.thorin_c.specs.{declared.packing.RefusedInput.RefusedInput, Listing.written_over}
-use Rattle.thorin_c.specs.{declared.types.ThorinReport.ThorinReport, Errors.Tells}
+use Rattle.thorin_c.specs.declared.packing.RefusedInput.{RefusedInput}
+use Rattle.thorin_c.specs.declared.types.{ThorinBytes.ThorinBytes, ThorinReport.ThorinReport}
+use Rattle.thorin_errors.specs.{Answers.MemoryAside, Errors.error_of, Errors.NoOutputObjectCreated}
+use Rattle.thorin_errors.specs.declared.error.Error.{Error}
 use Rattle.thorin_join.specs.{Builder.differing_in, Builder.targets_test, Join.Joins}
-use Rattle.thorin_again.specs.Own.{packs_again}
-use Rattle.thorin.proofs.Running.{each-taken, join-append, taken-then}
-use Rattle.thorin_c.specs.declared.types.ThorinBytes.{ThorinBytes}
 use Rattle.thorin_errors.specs.declared.error.Error.TheVariants as errors
 
 -- one more input is accepted

@@ -1,15 +1,14 @@
 -- Inputs that stand for others, taken one after the other.
 use Rattle.thorin_commands.proofs.Terms
-use Terms.{added_in, ap, append-nil, append_assoc, Bool, Bor, Err, Error, false, Growth, inl, Input}
-use Terms.{inr, is_archive, IsTakenFor, List, Manner, map, NotTaken, Offer, Ok, OnOk, outcome_of}
-use Terms.{Path, path_bytes, refl, Result, StandsFor, State, sym, Took, TookAll, TookEach}
-use Terms.{TookInputs, TookNone, true, unit_count, units_in, [], ℕ, ◌++◌, ◌-◌, ◌∷◌, ◌≡◌}
-use Rattle.thorin_join.specs.Join.{JoinAll}
-use Rattle.thorin_builder.specs.Taking.{Outcome}
-use Rattle.thorin.{proofs.Running.join-append, specs.Run.Ran}
-use Rattle.thorin_commands.specs.Archives.{AreTakenFor}
-use Rattle.thorin_commands.specs.Opened.{accepted_in, AreAllAccepted, TookMembers, TookNext}
 use Rattle.thorin.specs.declared.packing.Input.TheVariants as inputs
+use Rattle.{thorin_builder.specs.Taking.Outcome, thorin_commands.specs.Archives.AreTakenFor}
+use Rattle.thorin.{proofs.TakenAgain.GroupJoins.join-append, specs.Run.Ran}
+use Rattle.thorin_commands.specs.Opened.{accepted_in, AreAllAccepted, TookMembers, TookNext}
+use Rattle.thorin_join.specs.Join.{JoinAll}
+use Terms.{added_in, Growth, NotTaken, StandsFor, TookAll, TookEach, TookNone, unit_count, units_in}
+use Terms.{ap, Bor, Err, inl, inr, map, sym, true, [], ◌++◌, ◌-◌, ◌∷◌, ◌≡◌}
+use Terms.{append-nil, append_assoc, is_archive, IsTakenFor, Ok, outcome_of, path_bytes, TookInputs}
+use Terms.{Bool, Error, false, Input, List, Manner, Offer, OnOk, Path, refl, Result, State, Took, ℕ}
 
 -- a run, and one behind it
 ran_append : (offer : Offer) (xs ys : List Input) (a b c : State) (before here : List (List ℕ))

@@ -1,4 +1,4 @@
-use Rattle.thorin.proofs.Running.{each-taken, run-accepts}
+use Rattle.thorin.proofs.TakenAgain.{each-taken, run-accepts}
 use Rattle.thorin.proofs.again.accepted_inputs_are_taken.Goals as goal
 
 pub returns-clause-ran : goal.returns-clause-ran

@@ -1,6 +1,6 @@
-use Rattle.thorin.proofs.Terms.{All-head, All-tail, HasCommonEncoding, start, units_in, [], ◌∷◌}
+use Rattle.thorin.proofs.TakenAgain.{All-head, All-tail, as-written, each-taken, HasCommonEncoding}
+use Rattle.thorin.proofs.TakenAgain.{start, units_in, [], ◌∷◌}
 use Rattle.thorin_again.specs.Again.{HaveEncodingOf}
-use Rattle.thorin.proofs.Running.{as-written, each-taken}
 use Rattle.thorin.proofs.again.groups_of_one_encoding_are_packed_alike.Goals as goal
 
 pub returns-clause-encodings : goal.returns-clause-encodings

@@ -1,4 +1,4 @@
-use Rattle.thorin.proofs.MeaningRead.{read-meaning}
+use Rattle.thorin.proofs.TakenAgain.{read-meaning}
 use Rattle.thorin.proofs.again.packages_mean_what_is_read.Goals as goal
 
 pub returns : goal.returns

@@ -1,4 +1,4 @@
-use Rattle.thorin.proofs.{Running.each-taken, TakenAgain.groups-left, Terms.start}
+use Rattle.thorin.proofs.TakenAgain.{each-taken, groups-left, start}
 use Rattle.thorin.proofs.again.packages_of_groups_are_taken_again.Goals as goal
 
 pub returns-clause-alone : goal.returns-clause-alone

@@ -1,5 +1,5 @@
-use Rattle.thorin.proofs.Terms.{AnswersAs, IsTakenAgain, start, units_in}
-use Rattle.thorin.proofs.{Running.run-accepts, TakenAgain.if-written}
+use Rattle.thorin.proofs.TakenAgain.{AnswersAs, IsTakenAgain, start, units_in}
+use Rattle.thorin.proofs.TakenAgain.{run-accepts, if-written}
 use Rattle.thorin.proofs.again.packed_files_are_taken_again.Goals as goal
 
 pub returns-clause-again : goal.returns-clause-again

@@ -1,8 +1,8 @@
-use Rattle.thorin.proofs.Terms.{begun-now, input-keeps, IsPackageOf, Ok, start, subst, sym, ◌≡◌}
-use Rattle.thorin.proofs.{GroupJoins.sound-taken, Running.as-written, TakenAgain.plain-encoding}
-use Rattle.thorin.proofs.{Running.read-text, Terms.taken, Terms.units_in}
+use Rattle.thorin.proofs.TakenAgain.{as-written, begun-now, read-text, subst, sym, taken, units_in}
+use Rattle.thorin.proofs.TakenAgain.{input-keeps, IsPackageOf, plain-encoding, sound-taken, start}
+use Rattle.thorin.proofs.TakenAgain.{Ok, ◌≡◌}
 use Rattle.thorin_again.specs.Again.{HaveEncodingOf, MeansWhereTaken}
-use Rattle.thorin_join.proofs.Files.Finished.{finished-is}
+use Rattle.thorin_join.proofs.Finished.{finished-is}
 use Rattle.thorin.proofs.again.refused_packages_mean_what_is_read.Goals as goal
 
 pub returns-clause-taken : goal.returns-clause-taken

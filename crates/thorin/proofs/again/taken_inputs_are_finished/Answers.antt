@@ -1,4 +1,4 @@
-use Rattle.thorin.proofs.{GroupJoins.sound-taken, Terms.start, Unfinished.unfinished}
+use Rattle.thorin.proofs.TakenAgain.{sound-taken, start, unfinished}
 use Rattle.thorin.proofs.again.taken_inputs_are_finished.Goals as goal
 
 pub returns : goal.returns

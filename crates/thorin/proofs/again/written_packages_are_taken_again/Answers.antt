@@ -1,4 +1,4 @@
-use Rattle.thorin.proofs.{Running.as-written, Running.read-text, Terms.AnswersAs, Terms.units_in}
+use Rattle.thorin.proofs.TakenAgain.{as-written, read-text, AnswersAs, units_in}
 use Rattle.thorin.proofs.again.written_packages_are_taken_again.Goals as goal
 
 pub returns-clause-again : goal.returns-clause-again

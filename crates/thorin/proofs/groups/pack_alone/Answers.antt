@@ -1,9 +1,9 @@
-use Rattle.thorin.proofs.Terms
+use Rattle.thorin.proofs.TakenAgain as Terms
+use Rattle.thorin.proofs.groups.pack_alone.Goals as goal
 use Terms.{ap, bind-err, bind-ok, Bor, bytes_in, drop, Err, get_or, IfOk, inl, inr, IsPackageOf}
 use Terms.{List, map_more, Ok, PacksAlone, refl, start, sym, take, take_all, taken, taken_each}
 use Terms.{units_in, Writes, [], ℕ, ◌++◌, ◌+◌, ◌∙◌, ◌∷◌, ◌≡◌}
-use Rattle.thorin.proofs.Running.{join-append, mapped-around, taken-then}
-use Rattle.thorin.proofs.groups.pack_alone.Goals as goal
+use Rattle.thorin.proofs.TakenAgain.{join-append, mapped-around, taken-then}
 
 abbrev none : Bor (List ℕ)
 none = record { ref_ptr = (0, 0); now = [] }

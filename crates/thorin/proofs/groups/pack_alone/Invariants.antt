@@ -1,4 +1,5 @@
-use Rattle.thorin.proofs.Terms.{bytes_in, JoinAll, Ok, start, take, taken_each, units_in, [], ◌≡◌}
+use Rattle.thorin.proofs.TakenAgain.{bytes_in, JoinAll, Ok, start, take, taken_each, units_in, ◌≡◌}
+use Rattle.thorin.proofs.TakenAgain.{[]}
 use Rattle.thorin.proofs.groups.pack_alone.Given as goal
 
 -- the inputs so far were taken, and their units joined

@@ -1,9 +1,9 @@
-use Rattle.thorin.proofs.Terms
+use Rattle.thorin.proofs.TakenAgain as Terms
+use Rattle.thorin.proofs.groups.pack_groups.Goals as goal
 use Terms.{Bor, bytes_in, drop, Err, get_or, groups_in, inl, inr, List, map-append, map_more, Ok}
 use Terms.{PacksAlone, PacksInGroups, rules, take, take_all, [], ℕ, ◌++◌, ◌+◌, ◌∷◌, ◌≡◌}
 use Rattle.std.proofs.lemmas.Result.{err_from_is_err_and}
-use Rattle.thorin.proofs.Running.{if-ok, mapped-around, packed-more}
-use Rattle.thorin.proofs.groups.pack_groups.Goals as goal
+use Rattle.thorin.proofs.TakenAgain.{if-ok, mapped-around, packed-more}
 
 abbrev none : Bor (List (Bor (List ℕ)))
 none = record { ref_ptr = (0, 0); now = [] }

@@ -1,4 +1,4 @@
-use Rattle.thorin.proofs.Terms.{ArePackedAlone, bytes_in, groups_in, take}
+use Rattle.thorin.proofs.TakenAgain.{ArePackedAlone, bytes_in, groups_in, take}
 use Rattle.thorin.proofs.groups.pack_groups.Given as goal
 
 -- the groups so far were packed

@@ -1,4 +1,4 @@
-use Rattle.thorin.proofs.Terms.{arith, refl, tests_under, [], ◌∷◌}
+use Rattle.thorin.proofs.TakenAgain.{arith, refl, tests_under, [], ◌∷◌}
 use Rattle.dwp_elf.specs.Numbers.{Fits}
 use Rattle.thorin_strings.specs.StringOffsets.{fitting_offset, remapped_entry}
 use Rattle.dwp_elf_read.specs.declared.error.WriteError.TheVariants as written

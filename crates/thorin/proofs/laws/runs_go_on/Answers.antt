@@ -1,4 +1,4 @@
-use Rattle.thorin.proofs.Running.{ran-next, run-accepts}
+use Rattle.thorin.proofs.TakenAgain.{ran-next, run-accepts}
 use Rattle.thorin.proofs.laws.runs_go_on.Goals as goal
 
 pub returns-clause-next : goal.returns-clause-next

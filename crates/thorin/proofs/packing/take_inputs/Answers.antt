@@ -1,5 +1,6 @@
-use Rattle.thorin.proofs.Terms.{get_or, Input, rules, take, take_all, take_more, [], ◌++◌, ◌∷◌, ◌≡◌}
-use Rattle.thorin.{proofs.Running.ran-next, specs.declared.packing.Input.TheVariants.Object}
+use Rattle.thorin.proofs.TakenAgain.{[], ◌≡◌}
+use Rattle.thorin.proofs.TakenAgain.{get_or, ran-next, rules, take, take_all, take_more, ◌++◌, ◌∷◌}
+use Rattle.thorin.specs.declared.packing.Input.{Input, TheVariants.Object}
 use Rattle.thorin.proofs.packing.take_inputs.Goals as goal
 
 pub loop-input-preserved : goal.loop-input-preserved

@@ -1,4 +1,4 @@
-use Rattle.thorin.proofs.Terms.{List, Ran, take, ℕ}
+use Rattle.thorin.proofs.TakenAgain.{List, Ran, take, ℕ}
 use Rattle.thorin.proofs.packing.take_inputs.Given as goal
 
 -- the inputs so far ran

@@ -1,5 +1,4 @@
-use Rattle.thorin_again.proofs.{Accepted.OwnUnits.taken-all, Opened.Indexes.own-plain, Terms.refl}
-use Rattle.thorin_again.proofs.{Opened.Indexes.read-of, Terms.inr, Terms.IsForeseen}
+use Rattle.thorin_again.proofs.Accepted.{inr, IsForeseen, own-plain, read-of, refl, taken-all}
 use Rattle.thorin_again.proofs.laws.own_units_are_taken.Goals as goal
 
 pub returns : goal.returns

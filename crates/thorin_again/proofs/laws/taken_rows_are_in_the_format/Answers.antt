@@ -1,4 +1,4 @@
-use Rattle.thorin_again.proofs.Lists.{rows-taken}
+use Rattle.thorin_again.proofs.Accepted.{rows-taken}
 use Rattle.thorin_again.proofs.laws.taken_rows_are_in_the_format.Goals as goal
 
 pub returns-clause-format : goal.returns-clause-format

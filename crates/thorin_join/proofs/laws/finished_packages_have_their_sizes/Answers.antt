@@ -1,4 +1,4 @@
-use Rattle.thorin_join.proofs.Sizes.{file-within, finished-size}
+use Rattle.thorin_join.proofs.Finished.{file-within, finished-size}
 use Rattle.thorin_join.proofs.laws.finished_packages_have_their_sizes.Goals as goal
 
 pub returns : goal.returns

@@ -1,4 +1,4 @@
-use Rattle.thorin_join.proofs.Joined.{input-keeps}
+use Rattle.thorin_join.proofs.Finished.{input-keeps}
 use Rattle.thorin_join.proofs.laws.inputs_are_joined.Goals as goal
 
 pub returns : goal.returns

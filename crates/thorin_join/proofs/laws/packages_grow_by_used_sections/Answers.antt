@@ -1,5 +1,5 @@
-use Rattle.thorin_join.proofs.Sizes.{bytes-grow, carried-used, inputs-most, lengths-within}
-use Rattle.thorin_join.proofs.{Sizes.input-most, Terms.arith}
+use Rattle.thorin_join.proofs.Finished.{bytes-grow, carried-used, inputs-most, lengths-within}
+use Rattle.thorin_join.proofs.Finished.{input-most, arith}
 use Rattle.thorin_join.proofs.laws.packages_grow_by_used_sections.Goals as goal
 
 pub returns : goal.returns

@@ -1,4 +1,4 @@
-use Rattle.thorin_join.proofs.Sizes.{input-most, inputs-most, strings-grow}
+use Rattle.thorin_join.proofs.Finished.{input-most, inputs-most, strings-grow}
 use Rattle.thorin_join.proofs.laws.strings_grow_by_offsets.Goals as goal
 
 pub returns : goal.returns

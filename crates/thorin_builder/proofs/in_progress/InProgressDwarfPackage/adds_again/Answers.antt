@@ -1,20 +1,20 @@
 use Rattle.thorin_builder.proofs.Terms
-use Terms.{ap, append-nil, Contents, DwarfObject, Extends, file_encoding, held_units, IfOk-weaker}
-use Terms.{IfSome_then, in_progress_of, IndexEntry, InProgress, input_file_of, IsLater, List, map}
-use Terms.{New, None, Ok, one_encoding, own_encoding, parts_of, refl, rules, Source, subst, sym}
-use Terms.{take-length, unit_bytes, UnitlessInput, with_all, with_input, with_more, with_new_units}
-use Terms.{with_parts, with_source, with_source_or_new, with_units, ℕ, [], ◌∙◌, ◌≡◌}
-use Rattle.thorin_join.proofs.Terms.{content_of, contribution_to, kind_of, part_of, place_of}
-use Rattle.thorin_input.specs.Encodings.{encoding_of}
-use Rattle.thorin_join.{proofs.Rows.OneAdded.not-shared, specs.Builder.source_for}
-use Rattle.dwp_elf_read.specs.View.{elf}
-use Rattle.thorin_join.proofs.Parts.Added.{content-with_parts, parts-none}
-use Rattle.thorin_builder.specs.Repeated.{AddsNoUnit}
+use Rattle.thorin_input.specs.View as view
+use Rattle.thorin_builder.proofs.in_progress.InProgressDwarfPackage.adds_again.Goals as goal
+use Rattle.{dwp_elf_read.specs.View.elf, thorin_input.specs.Encodings.encoding_of}
 use Rattle.thorin_builder.proofs.AddedAgain.{later-refl, with_again}
 use Rattle.thorin_builder.proofs.Extending.{strings-extend, with_source-is}
 use Rattle.thorin_builder.proofs.Later.{parts-later, units-later}
-use Rattle.thorin_input.specs.View as view
-use Rattle.thorin_builder.proofs.in_progress.InProgressDwarfPackage.adds_again.Goals as goal
+use Rattle.thorin_builder.specs.Repeated.{AddsNoUnit}
+use Rattle.thorin_join.{proofs.Finished.Joined.Rows.not-shared, specs.Builder.source_for}
+use Rattle.thorin_join.proofs.Finished.Joined.Rows.SharedParts.{content-with_parts, parts-none}
+use Rattle.thorin_join.proofs.Finished.Joined.Rows.SharedParts.Units.{content_of, contribution_to}
+use Rattle.thorin_join.proofs.Finished.Joined.Rows.SharedParts.Units.{kind_of, part_of, place_of}
+use Terms.{ap, IsLater, List, map, New, None, refl, subst, sym, ℕ, ◌∙◌, ◌≡◌}
+use Terms.{append-nil, held_units, IndexEntry, InProgress, Ok, take-length, unit_bytes, with_source}
+use Terms.{Contents, Extends, parts_of, with_all, with_input, with_more, with_parts, with_units, []}
+use Terms.{DwarfObject, IfOk-weaker, IfSome_then, input_file_of, one_encoding, own_encoding, rules}
+use Terms.{file_encoding, in_progress_of, Source, UnitlessInput, with_new_units, with_source_or_new}
 
 -- an input without units adds nothing
 nothing-more : (made : InProgress) → with_more [] [] made ≡ made

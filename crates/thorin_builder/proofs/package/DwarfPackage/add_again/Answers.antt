@@ -1,8 +1,8 @@
 use Rattle.thorin_builder.proofs.Terms
-use Terms.{ap, begun_of, building, in_progress_of, None, rules, Some, State, ◌≡◌}
-use Rattle.thorin_again.proofs.Kept.OneEncoding.{taken-holds, taken-plain}
-use Rattle.thorin_builder.proofs.AddedAgain.{input-known, taken-known, later-known, with_again}
 use Rattle.thorin_builder.proofs.package.DwarfPackage.add_again.Goals as goal
+use Terms.{ap, begun_of, building, in_progress_of, None, rules, Some, State, ◌≡◌}
+use Rattle.thorin_again.proofs.Accepted.Again.OneRow.Lists.{taken-holds, taken-plain}
+use Rattle.thorin_builder.proofs.AddedAgain.{input-known, taken-known, later-known, with_again}
 
 pub invariant_of-self-in-Some : goal.invariant_of-self-in-Some
 invariant_of-self-in-Some g c =

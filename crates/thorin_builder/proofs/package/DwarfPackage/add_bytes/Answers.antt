@@ -1,10 +1,10 @@
 use Rattle.thorin_builder.proofs.Terms
+use Rattle.thorin_builder.proofs.package.DwarfPackage.add_bytes.Goals as goal
 use Terms.{begun_of, Bool, building, common, cond, Encoding, InProgressDwarfPackage, le-ltb, lt-ltb}
 use Terms.{not, Option, own_after, rules, State, sym, with_own, ◌∙◌, ◌≡◌}
 use Rattle.std.specs.Prelude.{is_some}
-use Rattle.thorin_again.proofs.Kept.OneEncoding.{taken-holds, taken-plain}
+use Rattle.thorin_again.proofs.Accepted.Again.OneRow.Lists.{taken-holds, taken-plain}
 use Rattle.thorin_builder.proofs.AddedAgain.{joined-later, taken-as}
-use Rattle.thorin_builder.proofs.package.DwarfPackage.add_bytes.Goals as goal
 
 -- the first input has its own encoding, a later one what all have
 with-own : (p : Option InProgressDwarfPackage) (first : Bool) (own found : Option Encoding)

@@ -1,4 +1,0 @@
--- What an input adds to the sections that units share.
-pub mod Ranges
-pub mod Added
-pub mod ReadAlike
