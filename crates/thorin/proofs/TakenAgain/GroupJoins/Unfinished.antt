@@ -5,35 +5,35 @@
 use Rattle.thorin_again.proofs.Accepted.Again.OneRow.Lists.Opened.Tiled.Kept.Offsets
 use Rattle.thorin_join.proofs.Finished.Joined.Rows.SharedParts.Units
 pub use Offsets.{Adding, ErrorValue, InProgress, source-made, units_begun, with_source, written_elf}
-pub use Offsets.{adding, arith, Each, elf_of, filter, get_or, length, lookup, Source, State, ⊎_elim}
-pub use Offsets.{All-head, All-tail, AreTaken, Contents, index_for, nat_tests, same_kind, same_name}
+pub use Offsets.{adding, elf_of, filter, get_or, length, lookup, Ranges, Result, Source, [], ⊎_elim}
+pub use Offsets.{All-head, All-tail, CuIndex, file_text, index_for, nat_tests, same_kind, same_name}
 pub use Offsets.{all_kept_by, Bool, encoding_of, index_tests, input-keeps, length-drop, UnitSection}
-pub use Offsets.{all_kinds, all_meant, file_text, Index, InputFile, IsPlainOf, LieInside, ReadError}
+pub use Offsets.{all_kinds, all_meant, column_of, Index, InputFile, IsPlainOf, LieInside, ReadError}
 pub use Offsets.{AnswersAs, Contribution, IsOfEncoding, length-append, length-filter, same_encoding}
-pub use Offsets.{ap, inr, map, not, sym, [], ◌*◌, ◌+◌, ◌-◌, ◌<◌, ◌^◌, ◌∙◌, ◌∷◌, ◌≡◌, ◌≤◌, ◌⊎◌}
+pub use Offsets.{ap, inl, inr, map, New, not, Str, sym, ◌*◌, ◌+◌, ◌-◌, ◌<◌, ◌^◌, ◌∙◌, ◌∷◌, ◌≡◌, ◌≤◌}
 pub use Offsets.{append-nil, content_of, IndexEntry, IsDistinct, IsForeseen, IsInFormat, StrOffsets}
 pub use Offsets.{append_assoc, IsSoundBegun, meaning_with, shared_kinds, sound-inside, source_units}
 pub use Offsets.{AreInFormat, DwarfObject, Err, IsPackageOf, KindsDiffer, SectionKind, version_test}
-pub use Offsets.{bind-was, can_join, each-all, Encoding, has_info, has_kind, list_any, Ok, UnitRead}
-pub use Offsets.{both, cond, drop, find, inl, keys, New, refl, Str, take, true, ◌&&◌, ◌++◌, ◌||◌}
-pub use Offsets.{by-bool, is-same, is_none, is_some, Meaning, Members, NewUnit, Package, TuIndex, ℕ}
+pub use Offsets.{AreTaken, bind-was, can_join, Contents, each-all, Encoding, has_info, Ok, UnitRead}
+pub use Offsets.{arith, false, first, Input, is_at, List, None, start, State, subst, takes, ◌>>=◌}
+pub use Offsets.{both, cond, drop, find, keys, Lie, refl, Some, take, true, Used, ◌&&◌, ◌++◌, ◌||◌}
+pub use Offsets.{by-bool, is-same, is_none, IsSound, Meaning, Members, NewUnit, Package, TuIndex, ℕ}
 pub use Offsets.{contribution_to, HaveEncodingOf, is_compilation, list_any-append, SectionMeaning}
-pub use Offsets.{CuIndex, EachRow, Header, Indexes, IsSound, names_in, order_of, range_in, units_in}
 pub use Offsets.{drop-append_seam, Endianness, HasEncodingOfOne, index_version_of, own_contribution}
+pub use Offsets.{Each, EachRow, has_kind, Indexes, list_any, names_in, order_of, range_in, units_in}
 pub use Offsets.{Elf, filter-append, package_or_new, same_name-self, same_name-true, with_all_parts}
-pub use Offsets.{false, File, first, is_at, Lie, List, None, Some, start, subst, takes, Used, ◌>>=◌}
+pub use Offsets.{File, Header, is_some, IsLaid, joining, map-map, Option, part_of, same-ok, section}
 pub use Offsets.{get_or-map, is_outside, is_package, length-map, map-append, meaning_at, strings_of}
 pub use Offsets.{HaveEncodingsOf, IsFinishedState, IsPermutation, MeansWhereTaken, take-append_seam}
-pub use Offsets.{Input, IsLaid, joining, map-map, Option, part_of, Ranges, Result, same-ok, section}
 pub use Offsets.{IsDistinct-from_apart, IsPermutation-refl, IsPermutation-sym, IsPermutation-trans}
-pub use Rattle.{dwp_elf_read.specs.Elf.has_name, thorin_join.specs.Join.JoinAll}
-pub use Rattle.{thorin_builder.proofs.Running.Offer, thorin_input.proofs.Walking.kind-full}
+pub use Offsets.{◌⊎◌}
+pub use Rattle.{dwp_elf_read.specs.Elf.has_name, std.proofs.lemmas.List.Filters.length-filter_both}
+pub use Rattle.{thorin_builder.proofs.Running.Offer, thorin_join.specs.Join.JoinAll}
 pub use Rattle.dwp_base.proofs.Bools.{is-false, both as both-true}
 pub use Rattle.dwp_base.proofs.Steps.{bind-err, by-choice}
 pub use Rattle.dwp_index.proofs.HeldContents.{found-passes, named-of}
 pub use Rattle.std.proofs.Common.{Bor, remove, swap, ◌==◌}
 pub use Rattle.std.proofs.lemmas.List.{Folds.find-append, map-set, Sums.count_by-le-length}
-pub use Rattle.std.proofs.lemmas.List.Filters.{length-filter_both}
 pub use Rattle.std.proofs.lemmas.List.Sorted.{IsPermutation-cons, IsPermutation-remove}
 pub use Rattle.std.proofs.lemmas.Map.{Entries.none_past_head, Keys.IsDistinct-tail, lookup-none}
 pub use Rattle.std.proofs.lemmas.Map.{Made.keys_of-map_values, Views.Contains-from_lookup}
@@ -50,8 +50,8 @@ pub use Rattle.thorin.specs.Unfinished.{AreMixed, AreTooLong, LacksInput}
 pub use Rattle.thorin.specs.Unfinished.{HasLongSection, IsGroupsError, IsIndexNumber, IsUnfinished}
 pub use Rattle.thorin_again.proofs.Accepted.{apart-again, count-again, equivalence, found-again}
 pub use Rattle.thorin_again.proofs.Accepted.Again.OneRow.Lists.{begun-now, Opened.and-then}
-pub use Rattle.thorin_again.specs.{OwnAccepted.IsAcceptedOnceWritten, OwnRefusals.UnlessForeseen}
-pub use Rattle.thorin_again.specs.Again.{MeansOnceWritten}
+pub use Rattle.thorin_again.specs.{Again.MeansOnceWritten, OwnRefusals.UnlessForeseen}
+pub use Rattle.thorin_again.specs.OwnAccepted.{IsAcceptedOnceWritten}
 pub use Rattle.thorin_builder.proofs.Terms.{accepted_of, drop_more, IfOk, is_missing, TakesSkeleton}
 pub use Rattle.thorin_builder.proofs.Terms.{came, Error, Io, or_held, Outcome}
 pub use Rattle.thorin_builder.specs.Taking.{Came, TakesBytes, TakesRead, with_target}
@@ -66,7 +66,7 @@ pub use Rattle.thorin_index.{proofs.Terms.each, specs.EntryTests.count_test}
 pub use Rattle.thorin_index.proofs.Terms.{contribution_kinds, encoding_test, option_and_then, rules}
 pub use Rattle.thorin_index.proofs.Terms.{flat_map, map_more, offset_or_0, size_or_0, take_more}
 pub use Rattle.thorin_index.specs.EntryTests.{contributions_test, format_test, number_test}
-pub use Rattle.thorin_input.specs.Used.{with_used}
+pub use Rattle.thorin_input.{proofs.Walking.kind-full, specs.Used.with_used}
 pub use Rattle.thorin_join.proofs.Finished.Joined.Rows.{apart-none, joined_distinct}
 pub use Rattle.thorin_join.proofs.Finished.Joined.Rows.SharedParts.{each-unit}
 pub use Rattle.thorin_join.specs.Builder.{compilations, differing_begun, differing_in}
@@ -175,6 +175,11 @@ range-long c row lie kind = grind (arith, lie.inside kind)
 abbrev IsOfVersion : Encoding → IndexEntry → Type 0
 IsOfVersion encoding row = row.encoding.version ≡ encoding.version
 
+no-column : (version : ℕ) (kind : SectionKind) (range : Option Contribution) (error : ErrorValue)
+    → (is_some range ≡ true → is_some (column_of version kind) ≡ true)
+    → format_test version kind range ≡ Err error → ⊥
+no-column version kind range error has h = grind (arith, has)
+
 same-self : (encoding : Encoding) → same_encoding encoding encoding ≡ true
 same-self encoding = grind (arith, nat_tests)
 
@@ -230,7 +235,9 @@ module _ (inputs : List (List ℕ)) (state : State) (error : ErrorValue) where
             let k = each-failed (λ kind. Unit {0})
             (λ kind. format_test version kind (contribution_to kind row)) error contribution_kinds
             (each-all (λ kind. Unit {0}) (λ kind. tt) contribution_kinds) here in
-            grind (arith, k.2, of.0, format.0 k.0)
+            no-column version k.0 (contribution_to k.0 row) error (λ some.
+            subst (λ v. is_some (column_of (index_version_of v) k.0) ≡ true) of.0
+            (format.0 k.0 some)) k.2
         | inr later ↦ format-failed encoding rows format.1 of.1 later.2
       ]
 
