@@ -32,7 +32,7 @@ InTurn Tells (one ∷ list) (its ∷ rest) text = (line : List ℕ) × (more : L
     × Tells one its line × InTurn Tells list rest more × (text ≡ line ++ more)
 InTurn Tells list rest text = ⊥
 
--- the same by that alone
+-- a text that tells of each of a list, one behind the other, and has nothing else
 abbrev pub InOrder : {A : Type 0} → (A → List ℕ → Type 0) → List A → (text : List ℕ) → Type 0
 InOrder Tells [] text = text ≡ []
 InOrder Tells (one ∷ list) text = (line : List ℕ) × (more : List ℕ) × Tells one line

@@ -32,6 +32,8 @@ pub struct Whole {
     /// The row; its identifier says nothing, and it has no range of info or types.
     pub row: IndexEntry,
     ghost fits: { EndsFit row },
+    ghost no_info: { row.debug_info ≡ None },
+    ghost no_types: { row.debug_types ≡ None },
 }
 
 /// Where the whole of a section that units share comes to lie once parts are put; None for any
@@ -147,7 +149,9 @@ fn own_contribution<'a>(header: &UnitHeader<SliceReader<'a>>) -> Contribution
 /// The rows by place of both indexes of an input, in a section of a kind.
 #[derive(Drop)]
 pub struct PlacedRows<'i, 'a> {
+    /// Those of the compilation index.
     pub compilations: RowPlaces<'i, 'a>,
+    /// Those of the type index.
     pub types: RowPlaces<'i, 'a>,
 }
 
