@@ -30,7 +30,7 @@ loop-section-preserved g c =
     (c.as_slice.ensures ∙ c.section_header-header.ensures) c.name.ensures in
     let step = length-content_bytes-drop _ _ _ c.loop-section-test.true c.section-item.is in
     record {
-      written = so_far_more _ _ _ _ c.loop-section.invariant.written split
+      written = so_far_more c.loop-section.invariant.written _ _ _ split
           c.in_ok-write_whole.ensures.text;
       error = λ kind f. c.loop-section.invariant.error kind
           (c.in_ok-write_whole.ensures.error kind f);
