@@ -1,6 +1,6 @@
 -- Lemmas on the parts of a file, section by section, and one after the other.
 use Rattle.dwp_elf.proofs.Terms
-use Terms.{◌+◌, ◌++◌, ◌<◌, [], add-one, ap, append_assoc, IsLayout, arith, at_drop_all, Class}
+use Terms.{◌+◌, ◌++◌, ◌<◌, [], add-one, append_assoc, IsLayout, arith, at_drop_all, Class}
 use Terms.{content_bytes, contents_of, drop, drop-cons, Endianness, entry_size, every, get_or}
 use Terms.{header_size, headers_from, length, length-append, List, name_of, name_table, names_of}
 use Terms.{refl, replicate, SectionKind, sym, take, take-replicate, Vec, ℕ, ◌∙◌, ◌∷◌, ◌≡◌, ◌≤◌}
@@ -23,17 +23,12 @@ module _ (xs : Sections) (i : ℕ) (x : SectionKind × Vec ℕ) (h : i < length 
   unfolding content_bytes
   content_bytes-drop = rw drop-item refl
 
-  names_of-drop : (name : List ℕ) → name ≡ name_of x.0
-      → names_of (contents_of (drop i xs)) ≡ name ++ (0 ∷ names_of (contents_of (drop (i + 1) xs)))
-  unfolding names_of
-  names_of-drop name named = rw (drop-item, named, append_assoc) refl
-
-  -- the same, with what follows all names
+  -- the same of names, with what follows all of them
   pub names_of-drop-more : (name more : List ℕ) → name ≡ name_of x.0
       → names_of (contents_of (drop i xs)) ++ more
       ≡ name ++ (0 ∷ (names_of (contents_of (drop (i + 1) xs)) ++ more))
-  names_of-drop-more name more named = ap (λ l. l ++ more) (names_of-drop name named)
-      ∙ append_assoc name (0 ∷ names_of (contents_of (drop (i + 1) xs))) more
+  unfolding names_of
+  names_of-drop-more name more named = rw (drop-item, named) (simp append_assoc)
 
   -- the same for lengths
   pub length-content_bytes-drop : length (content_bytes (contents_of (drop i xs)))
@@ -42,8 +37,8 @@ module _ (xs : Sections) (i : ℕ) (x : SectionKind × Vec ℕ) (h : i < length 
 
   pub length-names_of-drop : length (names_of (contents_of (drop i xs)))
       ≡ length (name_of x.0) + 1 + length (names_of (contents_of (drop (i + 1) xs)))
-  length-names_of-drop =
-      rw (names_of-drop (name_of x.0) refl) (omega (arith, length-append {A = ℕ}))
+  unfolding names_of
+  length-names_of-drop = rw drop-item (omega (arith, length-append {A = ℕ}))
 
   -- a section's header, and what its name and its content leave to those after it
   pub headers_from-drop : (class : Class) (order : Endianness) (size name place n : ℕ)
