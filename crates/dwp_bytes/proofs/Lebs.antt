@@ -77,11 +77,6 @@ module _ {N : Type 0} {read : ℕ → Input → Result (N × Input) ReadError} {
 abbrev pub unsigned : ℕ → ℕ → ℕ → ℕ
 unsigned value scale n = value + scale * n
 
-last_byte : (n : ℕ) (i : Input) (b : ℕ) (j : Input) → byte_at i ≡ Ok (b, j) → b < 128
-    → leb_at (suc n) i ≡ Ok (b, j)
-unfolding leb_at
-last_byte n i b j read last = rw (read, lt-ltb b 128 last) refl
-
 goes_on : (n : ℕ) (i : Input) (b : ℕ) (j : Input) → byte_at i ≡ Ok (b, j) → 128 ≤ b
     → leb_at (suc n) i ≡ carried leb_at unsigned (b - 128) 128 (leb_at n j)
 unfolding leb_at
@@ -105,8 +100,9 @@ module _ {first i : Input} {k value scale : ℕ}
 
   ends : (b : ℕ) (j : Input) → k < 10 → byte_at i ≡ Ok (b, j) → b < 128
       → leb_at 10 first ≡ Ok (value + b * scale, j)
-  ends b j lt read last = whole leb_at unsigned far (Ok (b, j)) lt (last_byte (9 - k) i b j read
-      last) ∙ ap (λ (n : ℕ). Ok (n, j)) (omega arith)
+  unfolding leb_at
+  ends b j lt read last = whole leb_at unsigned far (Ok (b, j)) lt
+      (rw (read, lt-ltb b 128 last) refl) ∙ ap (λ (n : ℕ). Ok (n, j)) (omega arith)
 
   pub uleb_ends : {b : ℕ} {j : Input} → k < 10 → byte_at i ≡ Ok (b, j) → b < 128
       → value + b * scale < 2 ^ 64 → uleb_at first ≡ Ok (value + b * scale, j)
@@ -178,16 +174,6 @@ is_i64_less v w low high =
     ]
 
 -- ---- one step of the definition
-low_byte : (n : ℕ) (i : Input) (b : ℕ) (j : Input) → byte_at i ≡ Ok (b, j) → b < 64
-    → signed_leb_at (suc n) i ≡ Ok (pos b, j)
-unfolding signed_leb_at
-low_byte n i b j read last = rw (read, lt-ltb b 64 last) refl
-
-high_byte : (n : ℕ) (i : Input) (b : ℕ) (j : Input) → byte_at i ≡ Ok (b, j) → 64 ≤ b → b < 128
-    → signed_leb_at (suc n) i ≡ Ok (pos b -ℤ pos 128, j)
-unfolding signed_leb_at
-high_byte n i b j read low last = rw (read, le-ltb b 64 low, lt-ltb b 128 last) refl
-
 signed_goes_on : (n : ℕ) (i : Input) (b : ℕ) (j : Input) → byte_at i ≡ Ok (b, j) → 128 ≤ b
     → signed_leb_at (suc n) i ≡ carried signed_leb_at signed (b - 128) 128 (signed_leb_at n j)
 unfolding signed_leb_at
@@ -211,13 +197,15 @@ module _ {first i : Input} {k value scale : ℕ}
 
   ends_low : (b : ℕ) (j : Input) → k < 10 → byte_at i ≡ Ok (b, j) → b < 64
       → signed_leb_at 10 first ≡ Ok (pos (value + b * scale), j)
-  ends_low b j lt read last = whole signed_leb_at signed far (Ok (pos b, j)) lt (low_byte (9 - k) i
-      b j read last) ∙ ap (λ (n : ℕ). Ok (pos n, j)) (omega arith)
+  unfolding signed_leb_at
+  ends_low b j lt read last = whole signed_leb_at signed far (Ok (pos b, j)) lt
+      (rw (read, lt-ltb b 64 last) refl) ∙ ap (λ (n : ℕ). Ok (pos n, j)) (omega arith)
 
   ends_high : (b : ℕ) (j : Input) → k < 10 → byte_at i ≡ Ok (b, j) → 64 ≤ b → b < 128
       → signed_leb_at 10 first ≡ Ok (pos value -ℤ pos ((128 - b) * scale), j)
+  unfolding signed_leb_at
   ends_high b j lt read low last = whole signed_leb_at signed far (Ok (pos b -ℤ pos 128, j)) lt
-      (high_byte (9 - k) i b j read low last)
+      (rw (read, le-ltb b 64 low, lt-ltb b 128 last) refl)
       ∙ ap (λ (z : ℤ). Ok (z, j)) (last_high value scale b (omega arith))
 
   pub sleb_low : {b : ℕ} {j : Input} {z : ℤ} → k < 10 → byte_at i ≡ Ok (b, j) → b < 64

@@ -1,17 +1,17 @@
 -- Sections that are compared.
 use Rattle.std.proofs.Common.{false, length, List, true, [], ℕ, ◌++◌, ◌+◌, ◌<◌, ◌∙◌, ◌∷◌, ◌≡◌, ◌≤◌}
-use Rattle.std.proofs.Common.{append-nil, append_assoc, Ok, option_map, slice_get, take-append-drop}
-use Rattle.std.proofs.Common.{codes, drop, Err, get_or, Option, refl, Result, Some, sym, take}
+use Rattle.std.proofs.Common.{append-nil, append_assoc, Bool, drop, Err, get_or, Ok, option_map}
+use Rattle.std.proofs.Common.{ap, Option, refl, Result, slice_get, Some}
 use Rattle.std.proofs.lemmas.Option.{get_or_from_slice_get, slice_get_read, slice_get_within}
 use Rattle.dwp_decompress.specs.Result.{plain_contents, result_section, result_sections}
 use Rattle.dwp_base.specs.Reading.{◌>>=◌}
-use Rattle.std.proofs.{Common.ap, Common.ap₂, lemmas.Option.slice_get-map}
-use Rattle.std.specs.Global.{Vec}
+use Rattle.std.proofs.lemmas.Option.{slice_get-map}
+use Rattle.std.specs.{Global.Vec, List.list_any}
 use Rattle.std.proofs.lemmas.List.{drop_all, drop_more, map-append}
 use Rattle.dwp_elf_read.specs.Elf.{SectionMeaning}
 use Rattle.dwp_decompress.specs.{declared.error.DecompressError.DecompressError, Result.contents_of}
 use Rattle.dwp_decompress.specs.{declared.asked.Asked.Asked, Names.added_name_of, Names.added_names}
-use Rattle.dwp_decompress.specs.{Compressed.is_older, Headers.content_of, Names.plain_name}
+use Rattle.dwp_decompress.specs.Headers.{content_of}
 use Rattle.dwp_base.specs.{declared.class.Class.Class, declared.endian.Endianness.Endianness}
 
 -- ---- sections taken one after the other
@@ -19,6 +19,15 @@ pub drop_step : {X : Type 0} (xs : List X) (i : ℕ) (x : X) → slice_get xs i 
     → drop i xs ≡ x ∷ drop (i + 1) xs
 drop_step xs i x e = drop_more xs i x (slice_get_within xs i x e)
     ∙ ap (λ y. y ∷ drop (i + 1) xs) (get_or_from_slice_get xs i x x e)
+
+-- one of them passes; another doesn't
+pub any_hit : {X : Type 0} (p : X → Bool) (xs : List X) (i : ℕ) (x : X) → slice_get xs i ≡ Some x
+    → p x ≡ true → list_any p (drop i xs) ≡ true
+any_hit p xs i x at passes = rw (drop_step xs i x at, passes) refl
+
+pub any_miss : {X : Type 0} (p : X → Bool) (xs : List X) (i : ℕ) (x : X) → slice_get xs i ≡ Some x
+    → p x ≡ false → list_any p (drop i xs) ≡ list_any p (drop (i + 1) xs)
+any_miss p xs i x at fails = rw (drop_step xs i x at, fails) refl
 
 abbrev pub Contents : Type 0
 Contents = List (Option (List ℕ))
@@ -109,13 +118,3 @@ module _ (names : ℕ) (added : List ℕ) (old new : List SectionMeaning)
       → drop i new ≡ result_sections names added (drop i old) (drop i contents)
   unfolding result_sections
   agree_end o n = rw (drop_all i new n, drop_all i old o) refl
-
--- a name that becomes another
-pub renamed : (old new : List ℕ) → is_older old ≡ true → take 7 new ≡ codes ".debug_"
-    → drop 7 new ≡ drop 8 old → new ≡ plain_name old
-unfolding plain_name
-renamed old new h p q = rw h (sym (take-append-drop 7 new) ∙ ap₂ (λ (a b : List ℕ). a ++ b) p q)
-
-pub kept : (old new : List ℕ) → is_older old ≡ false → new ≡ old → new ≡ plain_name old
-unfolding plain_name
-kept old new h e = rw h e

@@ -25,9 +25,6 @@ plus_more : (n m : ℕ) (rest : Result ℕ DecompressError) → plus n (rest >>=
 plus_more n m (Ok k) = ap Ok (omega arith)
 plus_more n m (Err e) = refl
 
-plus_none : (n : ℕ) → plus n (Ok 0) ≡ Ok n
-plus_none n = ap Ok (omega arith)
-
 pub none_plus : (rest : Result ℕ DecompressError) → plus 0 rest ≡ rest
 none_plus (Ok k) = ap Ok (omega arith)
 none_plus (Err e) = refl
@@ -51,21 +48,21 @@ module _ (asked : Asked) (class : Class) (order : Endianness) (sections : List S
   pub told_end : (n : ℕ) → length sections ≤ i
       → plus n (told_sizes asked class order (drop i sections)) ≡ Ok n
   unfolding told_sizes
-  told_end n h = rw (drop_all i sections h) (plus_none n)
+  told_end n h = rw (drop_all i sections h) (ap Ok (omega arith))
 
 module _ (asked : Asked) (sections : List SectionMeaning) (i : ℕ) where
-  pub size_step : (left : ℕ) (section : SectionMeaning) → slice_get sections i ≡ Some section
-      → size_in asked section ≤ left
-      → nat_lt left (compressed_size asked (drop i sections)) ≡ nat_lt
-      (left - size_in asked section) (compressed_size asked (drop (i + 1) sections))
+  pub size_step : (left here less : ℕ) (section : SectionMeaning)
+      → slice_get sections i ≡ Some section → here ≡ size_in asked section → here ≤ left
+      → less ≡ left - here → nat_lt less (compressed_size asked (drop (i + 1) sections))
+      ≡ nat_lt left (compressed_size asked (drop i sections))
   unfolding compressed_size
-  size_step left section at h =
+  size_step left here less section at is h m =
       let rest = compressed_size asked (drop (i + 1) sections) in
       let all = ap (compressed_size asked) (drop_step sections i section at)
       ∙ sum_by-cons (size_in asked) section (drop (i + 1) sections) in
-      by-bool _ (nat_lt (left - size_in asked section) rest)
-      (λ yes. rw yes (lt-ltb left _ (omega (arith, all, h, ltb-true _ _ yes))))
-      (λ no. rw no (le-ltb left _ (omega (arith, all, h, ltb-false _ _ no))))
+      by-bool _ (nat_lt less rest)
+      (λ yes. rw yes (sym (lt-ltb left _ (omega (arith, all, is, h, m, ltb-true _ _ yes)))))
+      (λ no. rw no (sym (le-ltb left _ (omega (arith, all, is, h, m, ltb-false _ _ no)))))
 
   pub size_past : (left : ℕ) (section : SectionMeaning) → slice_get sections i ≡ Some section
       → left < size_in asked section → nat_lt left (compressed_size asked (drop i sections)) ≡ true

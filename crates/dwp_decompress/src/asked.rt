@@ -65,6 +65,7 @@ pub fn is_compressed(asked: Asked, section: &Section<'_>) -> bool
 }
 
 /// Whether some section's is.
+#[tactic(auto, using(crate::proofs::Sections::any_hit, crate::proofs::Sections::any_miss, dwp_base::proofs::Finds::slice_get_none))]
 pub fn has_compressed(asked: Asked, file: &ElfFile<'_>) -> bool
     ensures { result ≡ has_compressed asked (elf file.now).sections }
 {

@@ -220,7 +220,7 @@ fn size_in(asked: Asked, section: &Section<'_>) -> u64
 }
 
 /// Whether the compressed sections that are asked for have more bytes than these.
-#[tactic(auto, using(crate::proofs::Sums::size_step, crate::proofs::Sums::size_past, crate::proofs::Sums::size_end))]
+#[tactic(auto, using(crate::proofs::Sums::size_step, crate::proofs::Sums::size_end, dwp_base::proofs::Finds::slice_get_none))]
 fn have_more(asked: Asked, file: &ElfFile<'_>, room: u64) -> bool
     ensures { result ≡ nat_lt room (compressed_size asked (elf file.now).sections) }
 {

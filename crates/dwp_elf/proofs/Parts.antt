@@ -1,10 +1,9 @@
 -- Lemmas on the parts of a file, section by section, and one after the other.
 use Rattle.dwp_elf.proofs.Terms
-use Terms.{◌*◌, ◌+◌, ◌++◌, ◌<◌, [], ◌^◌, add-one, ap, append_assoc, IsLayout, arith, at_drop_all}
-use Terms.{Class, content_bytes, contents_of, drop, drop-cons, Elf32, Elf64, Endianness, entry_size}
-use Terms.{every, get_or, header_size, headers_from, length, length-append, List, name_of}
-use Terms.{name_table, names_of, refl, replicate, SectionKind, sym, take, take-replicate, Vec}
-use Terms.{word_size, ℕ, ◌∙◌, ◌∷◌, ◌≡◌, ◌≤◌}
+use Terms.{◌+◌, ◌++◌, ◌<◌, [], add-one, append_assoc, IsLayout, arith, at_drop_all, Class}
+use Terms.{content_bytes, contents_of, drop, drop-cons, Endianness, entry_size, every, get_or}
+use Terms.{header_size, headers_from, length, length-append, List, name_of, name_table, names_of}
+use Terms.{refl, replicate, SectionKind, sym, take, take-replicate, Vec, ℕ, ◌∙◌, ◌∷◌, ◌≡◌, ◌≤◌}
 use Rattle.dwp_elf.specs.FileText.{headers_place, section_count, section_header, section_headers}
 use Rattle.dwp_elf.specs.FileText.{file_header, file_text, names_end, Object, zeros_after}
 use Rattle.std.proofs.Common.{leb-true, nat_le, subst}
@@ -24,17 +23,12 @@ module _ (xs : Sections) (i : ℕ) (x : SectionKind × Vec ℕ) (h : i < length 
   unfolding content_bytes
   content_bytes-drop = rw drop-item refl
 
-  names_of-drop : (name : List ℕ) → name ≡ name_of x.0
-      → names_of (contents_of (drop i xs)) ≡ name ++ (0 ∷ names_of (contents_of (drop (i + 1) xs)))
-  unfolding names_of
-  names_of-drop name named = rw (drop-item, named, append_assoc) refl
-
-  -- the same, with what follows all names
+  -- the same of names, with what follows all of them
   pub names_of-drop-more : (name more : List ℕ) → name ≡ name_of x.0
       → names_of (contents_of (drop i xs)) ++ more
       ≡ name ++ (0 ∷ (names_of (contents_of (drop (i + 1) xs)) ++ more))
-  names_of-drop-more name more named = ap (λ l. l ++ more) (names_of-drop name named)
-      ∙ append_assoc name (0 ∷ names_of (contents_of (drop (i + 1) xs))) more
+  unfolding names_of
+  names_of-drop-more name more named = rw (drop-item, named) (simp append_assoc)
 
   -- the same for lengths
   pub length-content_bytes-drop : length (content_bytes (contents_of (drop i xs)))
@@ -43,8 +37,8 @@ module _ (xs : Sections) (i : ℕ) (x : SectionKind × Vec ℕ) (h : i < length 
 
   pub length-names_of-drop : length (names_of (contents_of (drop i xs)))
       ≡ length (name_of x.0) + 1 + length (names_of (contents_of (drop (i + 1) xs)))
-  length-names_of-drop =
-      rw (names_of-drop (name_of x.0) refl) (omega (arith, length-append {A = ℕ}))
+  unfolding names_of
+  length-names_of-drop = rw drop-item (omega (arith, length-append {A = ℕ}))
 
   -- a section's header, and what its name and its content leave to those after it
   pub headers_from-drop : (class : Class) (order : Endianness) (size name place n : ℕ)
@@ -70,21 +64,9 @@ pub names_of-end : (xs : Sections) (i : ℕ) → length xs ≤ i
 unfolding names_of
 names_of-end = at_drop_all (λ xs. names_of (contents_of xs))
 
-pub headers_from-end : (class : Class) (order : Endianness) (size name place : ℕ) (xs : Sections)
-    (i : ℕ) → length xs ≤ i → headers_from class order size name place (contents_of (drop i xs))
-    ≡ section_header class order name 3 place size
-unfolding headers_from
-headers_from-end class order size name place =
-    at_drop_all (λ xs. headers_from class order size name place (contents_of xs))
-
 -- no name has more than 24 bytes
 pub length-name_of : (kind : SectionKind) → length (name_of kind) ≤ 24
 length-name_of kind = leb-true _ 24 (every (λ k. nat_le (length (name_of k)) 24) refl kind)
-
--- what the class limits is within 64 bits
-pub limit-le : (class : Class) → 2 ^ (8 * word_size class) ≤ 2 ^ 64
-limit-le Elf32 = omega arith
-limit-le Elf64 = omega arith
 
 -- what stands from the zeros, the names and the contents on
 abbrev pub from_zeros : Object → List ℕ
@@ -122,16 +104,10 @@ text_parts w o p header count entry is placed counted made sized =
     rw (together, ← is, file_text-split, made, sized)
     (rw (are.headers, are.zeros, are.names_size, count) refl)
 
-few_zeros : (class : Class) (n zeros entry : ℕ) → zeros ≡ zeros_after n → entry ≡ entry_size class
-    → zeros + entry ≤ 72
-few_zeros Elf32 n zeros entry z e = omega (arith, z, e)
-few_zeros Elf64 n zeros entry z e = omega (arith, z, e)
-
 -- these zeros are the first of 72
 pub zeros_of : (w : Inside) (o : Object) (p : Layout) (entry : ℕ) → object_of w ≡ o
     → IsLayout o.class o.contents p → entry ≡ entry_size w.class
     → take (p.zeros + entry) (replicate {A = ℕ} 72 0) ≡ replicate (p.zeros + entry) 0
 zeros_of w o p entry is placed sized =
     let are = subst (λ (x : Object). IsLayout x.class x.contents p) (sym is) placed in
-    take-replicate {X = ℕ} (p.zeros + entry) 72 0
-    (few_zeros w.class _ p.zeros entry are.zeros sized)
+    take-replicate {X = ℕ} (p.zeros + entry) 72 0 (grind (arith, are.zeros, sized))

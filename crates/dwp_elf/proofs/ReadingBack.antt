@@ -59,11 +59,6 @@ field-back front order (f ∷ fs) rest (suc i) n x k at place h =
     ap (λ l. number order n (drop k l)) (sym (append_assoc front here (spelled order fs rest)))
     ∙ field-back (front ++ here) order fs rest i n x k at (omega arith) h
 
--- the numbers of a section header
-abbrev section_fields : ℕ → ℕ → ℕ → ℕ → ℕ → List (ℕ × ℕ)
-section_fields w name type place size = (4, name) ∷ (4, type) ∷ (w, 0) ∷ (w, 0) ∷ (w, place) ∷
-    (w, size) ∷ (4, 0) ∷ (4, 0) ∷ (w, 1) ∷ (w, 0) ∷ []
-
 positive : (class : Class) → 0 < 256 ^ word_size class
 positive class = grind arith
 
@@ -87,7 +82,8 @@ unfolding section_header section_header_of
 section_header-back class order name type place size rest a b c d =
     let w = word_size class in
     let zero_fits = positive class in
-    let back = field-back [] order (section_fields w name type place size) rest in
+    let back = field-back [] order ((4, name) ∷ (4, type) ∷ (w, 0) ∷ (w, 0) ∷ (w, place) ∷ (w, size)
+    ∷ (4, 0) ∷ (4, 0) ∷ (w, 1) ∷ (w, 0) ∷ []) rest in
     simp append_assoc (cc (
       back 0 4 name 0 refl refl a,
       back 1 4 type 4 refl refl b,
@@ -211,16 +207,6 @@ module _ (class : Class) (order : Endianness) (bytes table after : List ℕ) (he
       ap (section_of bytes table i) header
       ∙ rw (other, inside, size, f, take-append_seam content after, named) refl
 
-  -- the null section
-  null-back : (more rest : List ℕ) → table ≡ 0 ∷ more
-      → drop (headers + 0 * entry_size class) bytes ≡ null_header class ++ rest
-      → section_of bytes table 0 (section_header_at class order bytes headers 0) ≡
-      plain_section 0 0 [] []
-  null-back more rest begins e =
-      one-back [] bytes [] more rest 0 0 0 0 refl (lit< tt)
-      (ap (section_header_of (word_size class) order) e ∙ null-header class order rest) refl
-      (omega arith) (positive class) begins (lit< tt) refl
-
   -- the contents' sections and the name table's, from the i-th on, and the name table's content
   sections-back : (cs : List (SectionKind × List ℕ)) (i name place : ℕ)
       → drop (headers + i * entry_size class) bytes ≡ headers_from class order
@@ -272,9 +258,6 @@ identity-back : (class : Class) (order : Endianness) (rest : List ℕ)
 unfolding kind_of identity_of
 identity-back class order rest long = grind arith
 
-not-zero : (n : ℕ) → 0 < n → (n == 0) ≡ false
-not-zero n h = ne_eqb n 0 (λ e. absurd (omega arith))
-
 -- ---- a written file means the contents that it was written from
 
 length-names_of : (cs : List (SectionKind × List ℕ)) → length (names_of cs) ≤ 25 * length cs
@@ -321,8 +304,11 @@ module _ (o : Object) where
       let first = headers_from o.class o.order (length names) 1 (header_size o.class) o.contents in
       let two : length o.contents + 2 ≡ suc (suc (length o.contents)) = omega arith in
       let start : headers + 0 * entry_size o.class ≡ headers = omega arith in
-      let null = null-back o.class o.order text names (from_zeros o) headers (names_of o.contents ++
-      (codes ".shstrtab" ++ 0 ∷ [])) first refl (rw start headers-behind) in
+      let null = one-back o.class o.order text names (from_zeros o) headers [] text [] (names_of
+      o.contents ++ (codes ".shstrtab" ++ 0 ∷ [])) first 0 0 0 0 refl (lit< tt)
+      (ap (section_header_of (word_size o.class) o.order) (rw start headers-behind)
+      ∙ null-header o.class o.order first) refl (omega arith) (positive o.class) refl (lit< tt) refl
+      in
       let rest = sections-back o.class o.order text names (from_zeros o) headers o.contents 1 1
       (header_size o.class) (past text (null_header o.class) first headers (entry_size o.class) _
       headers-behind (length-null_header o.class) (omega arith)) contents-behind refl
@@ -351,9 +337,9 @@ module _ (o : Object) where
       (omega (arith, size, mul_comm count (entry_size o.class))) in
       let known = ne_eqb (count - 1) 0xffff (λ e. absurd (omega arith)) in
       let found = lt-ltb (count - 1) count (omega arith) in
-      let placed = not-zero headers (omega arith) in
-      let other = not-zero (count - 1) (omega arith) in
-      let counted = not-zero count (omega arith) in
+      let placed = ne_eqb headers 0 (λ e. absurd (omega arith)) in
+      let other = ne_eqb (count - 1) 0 (λ e. absurd (omega arith)) in
+      let counted = ne_eqb count 0 (λ e. absurd (omega arith)) in
       let sized = eq-eqb (entry_size o.class) _ refl in
       let got = rw last at sections.1 in
       rw (identified, read, placed, sized, counted, inside, known, other, found, got, sections.0)

@@ -4,7 +4,6 @@ pub mod FourStreams
 pub mod HighBits
 pub mod Loops
 pub mod LowBits
-pub mod Marks
 pub mod Rounds
 pub mod States
 pub mod Values

@@ -121,8 +121,7 @@ fn with_rest(h: u64, bytes: &[u8]) -> u64
     let mut sum = h;
     let mut rest = bytes;
     if bytes.len() >= 4 {
-        let four = LittleEndian::read_u32(bytes) as u64;
-        sum = (h ^ four.wrapping_mul(PRIME_1))
+        sum = (h ^ (LittleEndian::read_u32(bytes) as u64).wrapping_mul(PRIME_1))
             .rotate_left(23)
             .wrapping_mul(PRIME_2)
             .wrapping_add(PRIME_3);

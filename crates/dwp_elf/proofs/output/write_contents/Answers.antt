@@ -1,5 +1,6 @@
 use Rattle.dwp_elf.proofs.Parts.{content_bytes-drop, content_bytes-end}
-use Rattle.dwp_elf.proofs.SoFar.{so_far_more, so_far_all, so_far_part, failed}
+use Rattle.dwp_elf.proofs.SoFar.{so_far_more, so_far_part, failed}
+use Rattle.std.proofs.KnownBytes.{Appends-nil}
 use Rattle.dwp_elf.proofs.output.write_contents.Goals as goal
 
 pub returns-in_err-write_whole-clause-text : goal.returns-in_err-write_whole-clause-text
@@ -12,7 +13,7 @@ returns-in_err-write_whole-clause-text g c =
 pub loop-section-preserved : goal.loop-section-preserved
 loop-section-preserved g c =
     record {
-      text = so_far_more _ _ _ _ c.loop-section.invariant.text (content_bytes-drop _ _ _
+      text = so_far_more c.loop-section.invariant.text _ _ _ (content_bytes-drop _ _ _
           c.loop-section-test.true c.section-item.is)
           (rw c.deref.ensures.value at c.in_ok-write_whole.ensures.text);
       error = λ kind f. c.loop-section.invariant.error kind
@@ -20,5 +21,5 @@ loop-section-preserved g c =
     }
 
 pub returns-clause-text : goal.returns-clause-text
-returns-clause-text g c = so_far_all c.loop-section.invariant.text
-    (content_bytes-end _ _ c.loop-section-test.false)
+returns-clause-text g c = c.loop-section.invariant.text.whole _
+    (rw (content_bytes-end _ _ c.loop-section-test.false) (Appends-nil _))

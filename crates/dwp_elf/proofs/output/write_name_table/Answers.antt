@@ -9,7 +9,7 @@ returns-in_err-write_whole-clause-text g c =
 
 pub loop-section-init : goal.loop-section-init
 loop-section-init g c = record {
-  text = so_far_more _ _ (0 ∷ []) _ (so_far_none _ _) refl c.in_ok-write_whole.ensures.text;
+  text = so_far_more (so_far_none _ _) _ (0 ∷ []) _ refl c.in_ok-write_whole.ensures.text;
   error = c.in_ok-write_whole.ensures.error;
 }
 
@@ -24,7 +24,7 @@ pub returns-in_err-write_whole-3-clause-text : goal.returns-in_err-write_whole-3
 returns-in_err-write_whole-3-clause-text g c =
     let named = names_of-drop-more _ _ _ c.loop-section-test.true c.section-item.is _
     (codes ".shstrtab" ++ 0 ∷ []) (c.as_bytes.ensures.value ∙ c.name.ensures) in
-    let first = so_far_more _ _ _ _ c.loop-section.invariant.text named
+    let first = so_far_more c.loop-section.invariant.text _ _ _ named
     c.in_ok-write_whole-2.ensures.text in
     failed _ _ c.from_residual-in_err-write_whole-3.ensures.1
     (so_far_part first _ (0 ∷ []) _ refl c.in_err-write_whole-3.ensures.text)
@@ -33,10 +33,10 @@ pub loop-section-preserved : goal.loop-section-preserved
 loop-section-preserved g c =
     let named = names_of-drop-more _ _ _ c.loop-section-test.true c.section-item.is _
     (codes ".shstrtab" ++ 0 ∷ []) (c.as_bytes.ensures.value ∙ c.name.ensures) in
-    let first = so_far_more _ _ _ _ c.loop-section.invariant.text named
+    let first = so_far_more c.loop-section.invariant.text _ _ _ named
     c.in_ok-write_whole-2.ensures.text in
     record {
-      text = so_far_more _ _ (0 ∷ []) _ first refl c.in_ok-write_whole-3.ensures.text;
+      text = so_far_more first _ (0 ∷ []) _ refl c.in_ok-write_whole-3.ensures.text;
       error = λ kind f. c.loop-section.invariant.error kind
           (c.in_ok-write_whole-2.ensures.error kind
           (c.in_ok-write_whole-3.ensures.error kind f));

@@ -1,6 +1,5 @@
-use Rattle.dwp_elf.proofs.Terms.{ap, arith, length, refl, ◌∙◌}
-use Rattle.dwp_elf.proofs.Parts.{length-content_bytes-drop, headers_from-drop, headers_from-end}
-use Rattle.dwp_elf.proofs.Parts.{length-name_of, limit-le}
+use Rattle.dwp_elf.proofs.Terms.{ap, arith, drop_all, headers_from, length, refl, ◌∙◌}
+use Rattle.dwp_elf.proofs.Parts.{length-content_bytes-drop, headers_from-drop, length-name_of}
 use Rattle.dwp_elf.proofs.SoFar.{so_far_more, so_far_part, Writes-so_far, failed}
 use Rattle.dwp_elf.proofs.output.write_section_headers.Goals as goal
 
@@ -19,7 +18,7 @@ returns-in_err-write_whole-clause-text g c =
     c.in_err-write_whole.ensures.text)
 
 pub overflow_add-place : goal.overflow_add-place
-overflow_add-place g c = grind (arith, length-content_bytes-drop, limit-le)
+overflow_add-place g c = grind (arith, length-content_bytes-drop)
 
 pub loop-section-preserved : goal.loop-section-preserved
 loop-section-preserved g c =
@@ -30,7 +29,7 @@ loop-section-preserved g c =
     (c.as_slice.ensures ∙ c.section_header-header.ensures) c.name.ensures in
     let step = length-content_bytes-drop _ _ _ c.loop-section-test.true c.section-item.is in
     record {
-      written = so_far_more _ _ _ _ c.loop-section.invariant.written split
+      written = so_far_more c.loop-section.invariant.written _ _ _ split
           c.in_ok-write_whole.ensures.text;
       error = λ kind f. c.loop-section.invariant.error kind
           (c.in_ok-write_whole.ensures.error kind f);
@@ -39,9 +38,10 @@ loop-section-preserved g c =
     }
 
 pub returns-clause-text : goal.returns-clause-text
+unfolding headers_from
 returns-clause-text g c =
-    let end = headers_from-end c.args.class c.args.endianness c.args.names_size c.loop-section.name
-    c.loop-section.place _ _ c.loop-section-test.false in
     Writes-so_far c.loop-section.invariant.written _ _
-    (rw (end, ← (c.as_slice-2.ensures ∙ c.section_header-header-2.ensures))
-    c.write_whole-2.ensures.text)
+    (rw (
+      drop_all _ _ c.loop-section-test.false,
+      ← (c.as_slice-2.ensures ∙ c.section_header-header-2.ensures),
+    ) c.write_whole-2.ensures.text)

@@ -1,6 +1,7 @@
-use Rattle.dwp_elf.proofs.Terms.{ap, arith, length, sym, take, take_rest, ◌++◌, ◌<◌, ◌∙◌}
+use Rattle.dwp_elf.proofs.Terms.{[], ap, arith, length, sym, take, take_rest, ◌++◌, ◌<◌, ◌∙◌}
 use Rattle.std.proofs.{Common.take-append-drop, lemmas.Bool.Decides.nat_tests}
-use Rattle.dwp_elf.proofs.SoFar.{failed, Keeps-from_none, so_far_more, so_far_none, so_far_stop}
+use Rattle.std.proofs.KnownBytes.{Appends-kept, Appends-nil}
+use Rattle.dwp_elf.proofs.SoFar.{failed, so_far_more, so_far_none}
 use Rattle.dwp_elf.proofs.output.write_whole.Goals as goal
 
 pub loop-rest-init : goal.loop-rest-init
@@ -9,14 +10,20 @@ loop-rest-init g c = record { text = so_far_none _ _; error = λ kind f. f }
 pub returns-in_err-taken-clause-text : goal.returns-in_err-taken-clause-text
 returns-in_err-taken-clause-text g c =
     let some : 0 < length c.loop-rest.rest.now = grind (arith, nat_tests) in
-    failed _ _ c.from_residual.ensures.1 (so_far_stop c.loop-rest.invariant.text _ some
-    c.in_err-taken.ensures.bytes)
+    failed _ _ c.from_residual.ensures.1 (c.loop-rest.invariant.text.part _ (record {
+      count = 0;
+      part = some;
+      appended = Appends-kept _ _ _ [] (Appends-nil _) c.in_err-taken.ensures.bytes;
+    }))
 
 pub returns-then-taken-eq0-clause-text : goal.returns-then-taken-eq0-clause-text
 returns-then-taken-eq0-clause-text g c =
     let some : 0 < length c.loop-rest.rest.now = grind (arith, nat_tests) in
-    so_far_stop c.loop-rest.invariant.text _ some
-    (Keeps-from_none _ _ _ _ c.if-taken-eq0.true c.in_ok-taken.ensures.bytes)
+    c.loop-rest.invariant.text.part _ (record {
+      count = c.in_ok-taken.taken;
+      part = omega arith;
+      appended = c.in_ok-taken.ensures.bytes;
+    })
 
 pub loop-rest-preserved : goal.loop-rest-preserved
 loop-rest-preserved g c =
@@ -24,7 +31,7 @@ loop-rest-preserved g c =
     let n = c.in_ok-taken.taken in
     let some : 0 < n = grind (arith, nat_tests) in
     record {
-      text = so_far_more _ rest (take n rest) _ c.loop-rest.invariant.text
+      text = so_far_more c.loop-rest.invariant.text _ (take n rest) _
           (sym (take-append-drop n rest) ∙ ap (λ l. take n rest ++ l) (sym (take_rest rest n)))
           c.in_ok-taken.ensures.bytes;
       error = λ kind f. c.loop-rest.invariant.error kind (c.in_ok-taken.ensures.some some kind f);
