@@ -2,31 +2,31 @@
 -- strings that are used. Strings of entries, found by their hashes, or else by their order.
 use Rattle.dwp_strings.proofs.Terms
 use Terms.{All, All-contains, All-permutation, AllPairs, BeginsAt, Bool, Contains, Decides-eqb, Err}
-use Terms.{IsBefore, IsFindable, IsHashed, IsIndexed, IsOrdered, IsPermutation-insert, IsPlaced}
-use Terms.{IsTable, IsZeroFree, List, None, Ok, OnErr, OnOk, Option, Result, Slot, Some}
-use Terms.{StandsAt, [], ap, append-nil, arith, by-bool, cases_eq, cases_lt, common_steps}
-use Terms.{cond-true, data_of, drop, eqb, false, filter, get_or, get_or-map, get_or-take}
-use Terms.{get_or_default, held, insert, length, length-append, length-take, lt-ltb, ltb, ltb-true}
-use Terms.{map, nat_eq_equiv, nat_list_cmp_total, not, offset_of, offsets_from, place_of, refl}
-use Terms.{string_from, strings_in, suc, sym, take, take-append-drop, take_at, terminated}
-use Terms.{tied_itself, true, zero, ℕ, ⊎_elim, ◌++◌, ◌+◌, ◌-◌, ◌<◌, ◌^◌, ◌∙◌, ◌∷◌, ◌≡◌, ◌≢◌, ◌≤◌}
-use Rattle.std.proofs.lemmas.List.Edits.{get_or-insert_above, get_or-insert_at, get_or-insert_below}
-use Rattle.std.proofs.lemmas.List.Elements.{All-filter, Contains-append_cases, Contains-append_left}
-use Rattle.std.proofs.lemmas.List.Elements.{All-cons, Contains-get_or, Contains-push, filter_passes}
-use Rattle.std.proofs.lemmas.List.Elements.{All-push, All-take}
-use Rattle.std.proofs.lemmas.Map.Made.{IsDistinct-from_AllPairs, length-le_from_is_member}
+use Terms.{IsBefore, IsHashed, IsIndexed, IsOrdered, IsPermutation-insert, IsPlaced, IsTable}
+use Terms.{IsZeroFree, List, None, Ok, OnErr, OnOk, Result, Some, StandsAt, [], ap, append-nil}
+use Terms.{arith, by-bool, cases_eq, cases_lt, common_steps, cond-true, data_of, drop, eqb, false}
+use Terms.{filter, get_or, get_or-map, get_or-take, get_or_default, held, insert, length}
+use Terms.{length-append, length-take, lt-ltb, ltb, ltb-true, map, nat_eq_equiv, nat_list_cmp_total}
+use Terms.{offset_of, offsets_from, refl, split_at, string_from, strings_in, suc, sym, take}
+use Terms.{take-append-drop, take_at, terminated, tied_itself, zero, ℕ, ⊎_elim, ◌++◌, ◌+◌, ◌-◌, ◌<◌}
+use Terms.{◌^◌, ◌∙◌, ◌∷◌, ◌≡◌, ◌≢◌, ◌≤◌}
+use Rattle.std.proofs.lemmas.List.Elements.{All-cons, Contains-append_cases, Contains-append_right}
+use Rattle.std.proofs.lemmas.List.Elements.{Contains-append_left, Contains-get_or, Contains-push}
+use Rattle.std.proofs.lemmas.List.Elements.{All-filter, All-push, All-take, filter_passes}
 use Rattle.dwp_strings.proofs.Named.{length-data_of-cons, length-offsets_from, zero_free-strings_in}
 use Rattle.dwp_strings.proofs.Named.{begins_there, distinct_push, map-string_from, offset_of-absent}
 use Rattle.dwp_strings.proofs.Named.{offsets_from-above, offsets_from-append, offsets_from-below}
 use Rattle.dwp_strings.proofs.Named.{offsets_from-take, string_from-ended, strings_in-data_of}
 use Rattle.dwp_strings.proofs.Named.{has_Decides, offset_of-at}
-use Rattle.std.proofs.lemmas.List.{flat_map_more, length-map, map-append, take-map}
+use Rattle.std.proofs.lemmas.List.{length-map, Elements.filter-append, Sorted.Contains-permutation}
+use Rattle.std.proofs.lemmas.List.{flat_map_more, map-append, take-map}
 use Rattle.std.proofs.{lemmas.List.Concat.flat_map-append, lemmas.Map.Made.is_member-Decides}
 use Rattle.std.proofs.{lemmas.List.Edits.length-insert, lemmas.List.Kept.AllPairs-filter}
-use Rattle.std.proofs.lemmas.List.Sorted.{Contains-permutation, IsPermutation-filter_both}
+use Rattle.dwp_strings.specs.{Hashed.IsFound, Places.AreRelated, Places.hash, Places.place_in}
+use Rattle.dwp_strings.specs.{declared.entries.Entries.Entries, Places.shared}
+use Rattle.std.proofs.lemmas.List.Edits.{get_or-insert_above, get_or-insert_at, get_or-insert_below}
+use Rattle.std.proofs.lemmas.Map.Made.{IsDistinct-from_AllPairs, length-le_from_is_member}
 use Rattle.std.specs.declared.alloc.AllocError.{AllocError}
-use Rattle.dwp_strings.specs.Places.{AreFound, AreRelated, hash, IsFound, shared}
-use Rattle.dwp_strings.specs.declared.entries.Entries.{Entries}
 
 -- a string that begins at an offset is the section's, whatever comes behind
 string_there : (bytes rest : List ℕ) (p : ℕ) → data_of (strings_in bytes) ≡ bytes
@@ -50,13 +50,13 @@ not_before_itself : (s : List ℕ) → IsBefore s s → ⊥
 not_before_itself s less = let own = tied_itself nat_list_cmp_total s in cc
 
 -- the string that begins at an offset has that offset
-pub known_offset_in : (bytes s : List ℕ) (p : ℕ) → data_of (strings_in bytes) ≡ bytes
-    → AllPairs (λ s t. s ≢ t) (strings_in bytes) → Contains (offsets_from 0 (strings_in bytes)) p
-    → string_from bytes p ≡ s → Contains (strings_in bytes) s × (p ≡ offset_of (strings_in bytes) s)
-known_offset_in bytes s p ended distinct there is =
+pub known_offset_in : (bytes positions s : List ℕ) (p : ℕ) → IsIndexed bytes positions
+    → Contains (offsets_from 0 (strings_in bytes)) p → string_from bytes p ≡ s
+    → Contains (strings_in bytes) s × (p ≡ offset_of (strings_in bytes) s)
+known_offset_in bytes positions s p table there is =
     let ss = strings_in bytes in
-    let string = string_there bytes [] p ended there in
-    let offset = offset_of-at ss 0 there.0 [] p distinct in
+    let string = string_there bytes [] p table.ended there in
+    let offset = offset_of-at ss 0 there.0 [] p table.distinct in
     let among = Contains-get_or ss there.0 [] in
     grind (arith, string, append-nil bytes, offset, length-offsets_from 0 ss, among)
 
@@ -246,8 +246,7 @@ pub used_there : (bytes positions s : List ℕ) (at : ℕ) → IsIndexed bytes p
     → BeginsAt bytes at × (string_from bytes at ≡ s)
     → IsPlaced (strings_in bytes) (strings_in bytes) s at
 used_there bytes positions s at table here =
-    let begins = offset_there bytes at here.0 in
-    let known = known_offset_in bytes s at table.ended table.distinct begins here.1 in
+    let known = known_offset_in bytes _ s at table (offset_there bytes at here.0) here.1 in
     used_found (strings_in bytes) s at known.0 known.1
 
 -- a new one, which went last
@@ -258,20 +257,13 @@ used_new bytes new s n ended free is_new is_long absent =
     let ss = strings_in bytes in
     grind (arith, has_Decides ss s, offset_of-absent ss s, strings_push bytes s ended free)
 
--- the place that a hash has among those of entries
-abbrev pub place_in : Entries → ℕ → Option ℕ
-place_in e h = place_of e.places.slots.items e.places.size h
-
-abbrev pub IsFoundIn : Entries → ℕ → ℕ → Type 0
-IsFoundIn e h n = IsFound e.places.slots.items e.places.size e.places.is_full e.ordered h n
-
 -- there are no more strings than bytes, so that one more can be counted
 pub entries_few : (e : Entries) → IsHashed e → length e.bytes < 2 ^ 63
     → (e.count + 1 < 2 ^ 64) × (length e.ordered + 1 < 2 ^ 64)
 entries_few e table small =
-    let ended = ap length table.findable.indexed.ended in
+    let ended = ap length table.indexed.ended in
     let few : length (held e) ≤ length e.bytes = omega (arith, strings_few (held e), ended) in
-    (omega (arith, table.counted), omega (arith, positions_few _ _ table.findable.indexed))
+    (omega (arith, table.counted), omega (arith, positions_few _ _ table.indexed))
 
 module _ (e : Entries) (table : IsHashed e) where
   -- a string of the section stands where its offset says
@@ -280,37 +272,37 @@ module _ (e : Entries) (table : IsHashed e) where
   stands_there s there =
       let free = All-contains IsZeroFree (held e) s (zero_free-strings_in e.bytes) there in
       let begins = begins_there (held e) s free in
-      grind (arith, table.findable.indexed.ended, begins, has_Decides (held e) s)
+      grind (arith, table.indexed.ended, begins, has_Decides (held e) s)
 
   -- a string begins where one is said to
   pub begins_at_offset : (p : ℕ) → Contains (offsets_from 0 (held e)) p → BeginsAt e.bytes p
   begins_at_offset p there =
       let ss = held e in
-      let at = offset_of-at ss 0 there.0 [] p table.findable.indexed.distinct in
+      let at = offset_of-at ss 0 there.0 [] p table.indexed.distinct in
       let stands = stands_there (get_or ss there.0 []) in
       grind (arith, there.2, length-offsets_from 0 ss, at, stands, Contains-get_or ss there.0 [])
 
 module _ (e : Entries) (table : IsHashed e) (s : List ℕ) (h : ℕ) (is_hash : h ≡ hash s) where
   -- it is found
-  found_at : Contains (held e) s → IsFoundIn e h (offset_of (held e) s)
+  found_at : Contains (held e) s → IsFound e h (offset_of (held e) s)
   found_at there =
       let ss = held e in
-      let at = offset_of-at ss 0 there.0 s 0 table.findable.indexed.distinct in
-      let found = table.findable.found there.0 in
+      let at = offset_of-at ss 0 there.0 s 0 table.indexed.distinct in
+      let found = table.found there.0 in
       grind (arith, get_or-map hash ss there.0 s 0, is_hash, at, found, length-map ss hash)
 
   -- a string whose hash has no place isn't there, where more get one
-  pub unplaced : e.places.is_full ≡ false → place_in e h ≡ None → Contains (held e) s → ⊥
+  pub unplaced : e.places.is_full ≡ false → place_in e.places h ≡ None → Contains (held e) s → ⊥
   unplaced gets none there = grind (arith, found_at there)
 
   -- nor one that doesn't stand at the place of its hash, where strings don't share that
-  pub misplaced : (p : ℕ) → place_in e h ≡ Some p → p ≢ shared
+  pub misplaced : (p : ℕ) → place_in e.places h ≡ Some p → p ≢ shared
       → (BeginsAt e.bytes p × (string_from e.bytes p ≡ s) → ⊥) → Contains (held e) s → ⊥
   misplaced p has own far there = grind (arith, found_at there, stands_there e table s there, far)
 
   -- nor one that isn't among those in order, where it is looked for there
-  pub unordered : (r : ℕ) → IsOrdered e.places.slots.items e.places.size e.places.is_full h
-      → StandsAt e.bytes e.ordered s r → Contains (held e) s → ⊥
+  pub unordered : (r : ℕ) → IsOrdered e.places h → StandsAt e.bytes e.ordered s r
+      → Contains (held e) s → ⊥
   unordered r leads stands there =
       let here = stands_there e table s there in
       let apart : Contains e.ordered (offset_of (held e) s) → ⊥ =
@@ -319,13 +311,12 @@ module _ (e : Entries) (table : IsHashed e) (s : List ℕ) (h : ℕ) (is_hash : 
 
 -- what is found among entries is so among others
 abbrev pub Carries : Entries → Entries → Type 0
-Carries e new = (g m : ℕ) → Contains (offsets_from 0 (held e)) m → IsFoundIn e g m
-    → IsFoundIn new g m
+Carries e new = (g m : ℕ) → Contains (offsets_from 0 (held e)) m → IsFound e g m → IsFound new g m
 
 -- where each place that a hash has is kept, and no more are full
 pub carried_kept : (e new : Entries) → e.places.is_full ≡ false
-    → ((h n : ℕ) → place_in e h ≡ Some n → place_in new h ≡ Some n) → new.ordered ≡ e.ordered
-    → Carries e new
+    → ((h n : ℕ) → place_in e.places h ≡ Some n → place_in new.places h ≡ Some n)
+    → new.ordered ≡ e.ordered → Carries e new
 carried_kept e new gets kept same = λ g m _ found.
     rw same (grind (arith, found, kept g m, kept g shared))
 
@@ -336,10 +327,10 @@ carried_among e new same more = λ g m _ found. rw same (grind (arith, found, mo
 
 -- where the place of one hash alone is another
 module _ (e new : Entries) (h p : ℕ) (full : new.places.is_full ≡ e.places.is_full)
-    (ordered : new.ordered ≡ e.ordered) (has : place_in e h ≡ Some p)
-    (others : (g : ℕ) → g ≢ h → place_in new g ≡ place_in e g) where
+    (ordered : new.ordered ≡ e.ordered) (has : place_in e.places h ≡ Some p)
+    (others : (g : ℕ) → g ≢ h → place_in new.places g ≡ place_in e.places g) where
   -- that of strings which share it, and the one there is among those in order
-  pub carried_shared : place_in new h ≡ Some shared
+  pub carried_shared : place_in new.places h ≡ Some shared
       → (Contains (offsets_from 0 (held e)) p → Contains e.ordered p) → Carries e new
   carried_shared is there = λ g m begun found. grind (arith, others g, cases_eq g h)
 
@@ -348,19 +339,20 @@ module _ (e new : Entries) (h p : ℕ) (full : new.places.is_full ≡ e.places.i
   carried_over own gone = λ g m begun found. grind (arith, others g, cases_eq g h)
 
 -- each string is found where each was
-found_each : (e new : Entries) → IsHashed e → Carries e new → AreRelated (IsFoundIn new)
+found_each : (e new : Entries) → IsHashed e → Carries e new → AreRelated (IsFound new)
     (map hash (held e)) (offsets_from 0 (held e))
 found_each e new table more = λ k less.
     let offsets = offsets_from 0 (held e) in
     let next = more (get_or (map hash (held e)) k 0) (get_or offsets k 0) in
     let among = Contains-get_or offsets k 0 in
-    grind (arith, next, among, length-map, length-offsets_from, table.findable.found k)
+    grind (arith, next, among, length-map, length-offsets_from, table.found k)
 
 -- the strings stay, and are found in another way
 pub hashed_kept : (e new : Entries) → IsHashed e → new.bytes ≡ e.bytes
     → new.count ≡ e.count → IsIndexed e.bytes new.ordered → Carries e new → IsHashed new
 hashed_kept e new table is_new is_count indexed more = record {
-  findable = rw is_new (record { indexed = indexed; found = found_each e new table more });
+  indexed = rw is_new indexed;
+  found = rw is_new (found_each e new table more);
   counted = grind (arith, is_count, table.counted, is_new);
 }
 
@@ -379,22 +371,20 @@ pub record IsAdded (e new : Entries) (s : List ℕ) (n : ℕ) : Type 0 where
 pub added : (e new : Entries) (s : List ℕ) (h n : ℕ) → IsHashed e → IsZeroFree s → h ≡ hash s
     → (Contains (held e) s → ⊥) → new.bytes ≡ e.bytes ++ terminated s
     → n ≡ length e.bytes → new.count ≡ e.count + 1
-    → IsIndexed (e.bytes ++ terminated s) new.ordered → Carries e new → IsFoundIn new h n
+    → IsIndexed (e.bytes ++ terminated s) new.ordered → Carries e new → IsFound new h n
     → IsAdded e new s n
 added e new s h n table free is_hash absent is_new is_long is_count indexed more last =
     let ss = held e in
-    let ended = table.findable.indexed.ended in
+    let ended = table.indexed.ended in
     let push : held new ≡ ss ++ s ∷ [] = ap strings_in is_new
     ∙ (strings_push e.bytes s ended free).0 in
     let far : 0 + length (data_of ss) ≡ n = omega (arith, ap length ended, is_long) in
-    let related = related_push (IsFoundIn new) (map hash ss) (offsets_from 0 ss) h n
+    let related = related_push (IsFound new) (map hash ss) (offsets_from 0 ss) h n
     (length-offsets_from 0 ss ∙ sym (length-map ss hash)) (found_each e new table more) last in
     record {
       table = record {
-        findable = record {
-          indexed = rw is_new indexed;
-          found = rw (push, map-append, ← is_hash, offsets_from-append, far) related;
-        };
+        indexed = rw is_new indexed;
+        found = rw (push, map-append, ← is_hash, offsets_from-append, far) related;
         counted = grind (arith, is_count, table.counted, push, length-append);
       };
       placed = used_new e.bytes new.bytes s n ended free is_new is_long absent;
@@ -424,42 +414,36 @@ inserted_or bytes ordered s r p new (Err e) table _ _ _ _ err = rw err (table, �
 kept_below : (xs : List ℕ) (m y : ℕ) → y < m → Contains xs y → Contains (filter (λ x. ltb x m) xs) y
 kept_below xs m y below there =
     let low : ℕ → Bool = λ x. ltb x m in
-    let high : ℕ → Bool = λ x. not (ltb x m) in
-    let parted = Contains-permutation xs (filter low xs ++ filter high xs) y
-    (IsPermutation-filter_both low high (λ x. refl) xs) there in
-    ⊎_elim (λ kept. kept) (λ gone.
-    let above = All-contains (λ x. high x ≡ true) _ y (filter_passes high xs) gone in
-    grind (arith, above, lt-ltb y m below))
-    (Contains-append_cases (filter low xs) (filter high xs) y parted)
+    let front = take there.0 xs in
+    let back = drop (suc there.0) xs in
+    let parts : xs ≡ front ++ y ∷ back = rw there.2 at (split_at xs there.0 y there.1) in
+    rw (ap (filter low) parts, filter-append low front (y ∷ back), lt-ltb y m below)
+    (Contains-append_right (filter low front) _ y (0, omega arith, refl))
 
 -- back to the first strings
-pub findable_take : (bytes kept : List ℕ) (slots : List Slot) (size : ℕ) (is_full : Bool)
-    (ordered ordered' : List ℕ) (strings : List (List ℕ)) (n m : ℕ)
-    → IsFindable bytes slots size is_full ordered → strings_in bytes ≡ strings
-    → m ≡ length (data_of (take n strings)) → kept ≡ take m bytes
-    → ordered' ≡ filter (λ p. ltb p m) ordered
-    → (strings_in kept ≡ take n strings) × IsFindable kept slots size is_full ordered'
-findable_take bytes kept slots size is_full ordered ordered' strings n m table is_strings is_mark
-    is_kept is_ordered =
-    let ss = strings_in bytes in
-    let long : m ≡ length (data_of (take n ss)) = grind (arith, is_mark, is_strings) in
-    let new = indexed_take bytes ordered n m table.indexed long in
-    let strings' : strings_in kept ≡ take n ss = ap strings_in is_kept ∙ new.0 in
-    let found : AreFound kept slots size is_full ordered' = λ k less.
-    let first : (k < n) × (k < length (take n ss)) =
-    grind (arith, less, length-map, length-take, strings') in
+pub hashed_take : (e new : Entries) (n m : ℕ) → IsHashed e → n ≡ length (take n (held e))
+    → m ≡ length (data_of (take n (held e))) → new.bytes ≡ take m e.bytes → new.places ≡ e.places
+    → new.ordered ≡ filter (λ p. ltb p m) e.ordered → new.count ≡ n → IsHashed new
+hashed_take e new n m table few long is_bytes same is_ordered is_count =
+    let ss = held e in
+    let now = indexed_take e.bytes e.ordered n m table.indexed long in
+    let strings : held new ≡ take n ss = ap strings_in is_bytes ∙ now.0 in
+    let found : AreRelated (IsFound new) (map hash (take n ss)) (offsets_from 0 (take n ss)) =
+    λ k less.
+    let first : (k < n) × (k < length (take n ss)) = grind (arith, less, length-map, length-take) in
     let place = get_or (offsets_from 0 (take n ss)) k 0 in
     let is_place : get_or (offsets_from 0 ss) k 0 ≡ place =
     grind (arith, offsets_from-take n 0 ss, get_or-take, first.0) in
     let low = offsets_from-below 0 (take n ss) k 0 in
     let below : place < m = grind (arith, low, first, length-offsets_from, long) in
     let here = table.found k (omega (arith, length-take n ss, length-map ss hash)) in
-    rw (strings', ← take-map hash n ss, get_or-take n (map hash ss) k 0 first.0)
-    (grind (arith, is_place, here, is_ordered, kept_below ordered m place below)) in (
-      strings' ∙ ap (take n) is_strings,
-      record { indexed = rw (is_kept, is_ordered) new.1; found = found },
-    )
+    rw (same, ← take-map hash n ss, get_or-take n (map hash ss) k 0 first.0)
+    (grind (arith, is_place, here, same, is_ordered, kept_below e.ordered m place below)) in
+    record {
+      indexed = rw (is_bytes, is_ordered) now.1;
+      found = rw strings found;
+      counted = is_count ∙ few ∙ ap length (sym strings);
+    }
 
-pub findable_table : (bytes : List ℕ) (slots : List Slot) (size : ℕ) (is_full : Bool)
-    (ordered : List ℕ) → IsFindable bytes slots size is_full ordered → IsTable (strings_in bytes)
-findable_table bytes slots size is_full ordered table = search (zero_free-strings_in)
+pub hashed_table : (e : Entries) → IsHashed e → IsTable (held e)
+hashed_table e table = search (zero_free-strings_in)

@@ -1,12 +1,9 @@
 -- The strings of a package, as `.debug_str.dwo` holds them: each is ended by a zero byte (DWARF 5,
 -- 7.26).
-use Rattle.std.specs.Prelude.{◌≡◌, ◌≢◌, ℕ, ◌+◌, ◌-◌, ◌^◌, ◌<◌, ◌≤◌, if◌then◌else◌, ◌==◌, List, []}
-use Rattle.std.specs.Prelude.{◌∷◌, ◌++◌, length, slice_index, All, AllPairs, Contains}
-use Rattle.std.specs.List.{flat_map, list_any, onto_first}
-use Rattle.std.specs.Str.{bytes_eq}
-use Rattle.std.specs.Ordering.{nat_cmp}
-use Rattle.std.specs.Cmp.Lexicographic.{slice_cmp}
-use Rattle.std.specs.declared.cmp.Ordering.TheVariants.{Less}
+use Rattle.std.specs.Prelude.{[], if◌then◌else◌, ◌++◌, ◌+◌, ◌-◌, ◌<◌, ◌==◌, ◌^◌, ◌∷◌, ◌≡◌, ◌≢◌, ◌≤◌}
+use Rattle.std.specs.Prelude.{All, AllPairs, Contains, length, List, slice_index, ℕ}
+use Rattle.std.specs.{Cmp.Lexicographic.slice_cmp, declared.cmp.Ordering.TheVariants.Less}
+use Rattle.std.specs.{List.flat_map, List.list_any, List.onto_first, Ordering.nat_cmp, Str.bytes_eq}
 use Rattle.dwp_bytes.specs.StringOffsets.{string_from}
 
 -- a string with the zero byte that ends it

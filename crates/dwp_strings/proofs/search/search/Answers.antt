@@ -29,7 +29,6 @@ compare_at-requires-clause-within c = rw c.get_near-position.ensures
     (positions_within _ _ c.requires.table _ 0 (omega arith))
 
 pub returns-in-Equal-clause-found : goal.returns-in-Equal-clause-found
-returns-in-Equal-clause-found c =
-    known_offset_in _ c.args.string.now _ c.requires.table.ended c.requires.table.distinct
+returns-in-Equal-clause-found c = known_offset_in _ _ c.args.string.now _ c.requires.table
     (rw c.get_near-position.ensures (c.requires.table.begun _ 0 (omega arith)))
     (exact_bytes _ _ (sym c.compare_at.ensures ∙ c.in-Equal.is))
