@@ -15,7 +15,7 @@ pub use Rattle.std.proofs.lemmas.Bool.{eqb-false, eqb-true, lt-ltb}
 pub use Rattle.std.proofs.lemmas.List.{get_or_default, get_or_read, length-replicate, with_items_is}
 pub use Rattle.std.proofs.lemmas.List.{ext_get_or, get_or-map, length-set, take_rest}
 pub use Rattle.dwp_strings.specs.Strings.{BeginsAt, IsBefore, IsIndexed, offset_of, strings_in}
-pub use Rattle.dwp_strings.specs.Strings.{IsZeroFree, offsets_from, terminated, with_string}
+pub use Rattle.dwp_strings.specs.Strings.{IsZeroFree, terminated, with_string}
 pub use Rattle.dwp_strings.specs.Strings.{data_of, IsPlaced, IsTable, StandsAt}
 pub use Rattle.std.proofs.{lemmas.Map.Lookups.exact_bytes, lemmas.Slice.Eq.bytes_eq-Decides}
 pub use Rattle.std.specs.{Cmp.Equal-is, Cmp.nat_cmp_is, Str.bytes_eq, Vec.with_items}

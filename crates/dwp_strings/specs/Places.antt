@@ -1,7 +1,7 @@
 -- Places of strings by their hashes. A slot keeps a hash, which tells where its search begins.
 use Rattle.std.specs.Prelude.{if◌then◌else◌, ◌%◌, ◌*◌, ◌+◌, ◌-◌, ◌/◌, ◌<◌, ◌==◌, ◌^◌, ◌≡◌, ◌≢◌, ◌≤◌}
 use Rattle.std.specs.Prelude.{length, List, nat_le, None, Option, Some, suc, true, zero, ℕ, ◌⊎◌}
-use Rattle.std.specs.Prelude.{bit_xor, slice_index, slice_index_or}
+use Rattle.std.specs.Prelude.{bit_xor, slice_index_or}
 use Rattle.std.specs.Hash.FoldHasher.{finish, folded_multiply, initial, mix, read_u64, write}
 use Rattle.dwp_strings.specs.{declared.places.HashedPlaces.HashedPlaces, declared.places.Slot.Slot}
 
@@ -84,7 +84,3 @@ IsNextIn places h number =
 abbrev pub IsOrdered : HashedPlaces → ℕ → Type 0
 IsOrdered places h =
     (place_in places h ≡ Some shared) ⊎ ((places.is_full ≡ true) × (place_in places h ≡ None))
-
--- numbers of two lists are related one by one
-abbrev pub AreRelated : (ℕ → ℕ → Type 0) → List ℕ → List ℕ → Type 0
-AreRelated R xs ys = (k : ℕ) → k < length xs → R (slice_index xs k) (slice_index ys k)

@@ -1,5 +1,5 @@
 use Rattle.dwp_strings.proofs.Terms.{Some, arith, refl, ◌≡◌}
-use Rattle.dwp_strings.proofs.HashedLemmas.{begins_at_offset, carried_shared, hashed_kept}
+use Rattle.dwp_strings.proofs.{HashedLemmas.carried_shared, HashedLemmas.hashed_kept}
 use Rattle.dwp_strings.specs.Places.{place_in}
 use Rattle.dwp_strings.proofs.entries.Entries.share.Goals as goal
 
@@ -11,5 +11,4 @@ returns-clause-table c =
     let new = record e { places = c.give.new.self } in
     hashed_kept e new table refl refl table.indexed
     (carried_shared e new c.args.hash c.args.place c.give.ensures.full refl has
-    c.give.ensures.others (c.give.ensures.given _ has)
-    (λ begun. c.in_ok-keep_ordered.ensures.there (begins_at_offset e table _ begun)))
+    c.give.ensures.others (c.give.ensures.given _ has) c.in_ok-keep_ordered.ensures.there)

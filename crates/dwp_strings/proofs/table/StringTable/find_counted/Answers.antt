@@ -1,7 +1,7 @@
 use Rattle.dwp_strings.proofs.Terms.{All-contains, Contains, IsZeroFree, arith, false, false≢true}
 use Rattle.dwp_strings.proofs.Terms.{held, offset_of, refl, sym, true, ◌↔◌, ◌∙◌, ◌≡◌}
-use Rattle.dwp_strings.proofs.HashedLemmas.{known_offset_in, misplaced, offset_there, unordered}
-use Rattle.dwp_strings.proofs.{HashedLemmas.unplaced, Named.zero_free-strings_in, Named.zero_within}
+use Rattle.dwp_strings.proofs.HashedLemmas.{known_offset_in, misplaced, unordered, unplaced}
+use Rattle.dwp_strings.proofs.{Named.zero_free-strings_in, Named.zero_within}
 use Rattle.dwp_strings.proofs.table.StringTable.find_counted.Goals as goal
 
 is_absent : {P : Type 0} → (P → ⊥) → (false ≡ true) ↔ P
@@ -28,7 +28,7 @@ known : (c : goal.Then-stands_at) → Contains (held c.self.inside.entries) c.ar
     × (c.match-seek.place ≡ offset_of (held c.self.inside.entries) c.args.string.now)
 known c =
     let here = rw c.as_slice-2.ensures.value at (c.stands_at.ensures.0 c.if-stands_at.true) in
-    known_offset_in _ _ _ _ c.self.invariant.indexed (offset_there _ _ here.0) here.1
+    known_offset_in _ _ _ _ c.self.invariant.indexed here.0 here.1
 
 pub returns-then-stands_at-clause-found : goal.returns-then-stands_at-clause-found
 returns-then-stands_at-clause-found c = rw (← c.self.view_is) (λ _. (known c).0, λ _. refl)
