@@ -109,13 +109,6 @@ module _ (order : Endianness) (encoding : Encoding) (section bytes : List ℕ) (
   unfolding named_at remapped_entry fitting_read
   entry_is named old entry = rw entry refl
 
-  pub entry_read : (named place : ℕ) (old new : List (List ℕ))
-      → entry_at order encoding bytes index ≡ Ok named
-      → offset_read section named old ≡ Ok (place, new) → place ≤ offset_limit encoding.format
-      → remapped_entry order encoding section bytes index old ≡ Ok (place, new)
-  entry_read named place old new entry read fits =
-      entry_is named old entry ∙ read_fitting encoding.format section named place old new read fits
-
   pub entry_absent : (old : List (List ℕ)) → entry_in order encoding bytes index ≡ None
       → remapped_entry order encoding section bytes index old
       ≡ Err (OffsetAtIndex UnexpectedEof index)
