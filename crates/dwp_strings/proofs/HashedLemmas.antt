@@ -285,16 +285,12 @@ hashed_kept e new table is_new is_count indexed more = record {
 }
 
 -- entries with a new string behind all others
-pub record IsAdded (e new : Entries) (s : List ℕ) (n : ℕ) : Type 0 where
-  pub table : IsHashed new
-  pub placed : IsPlaced (held e) (held new) s n
-  pub kept : take (length (held e)) (held new) ≡ held e
-
 pub added : (e new : Entries) (s : List ℕ) (h n : ℕ) → IsHashed e → IsZeroFree s → h ≡ hash s
     → (Contains (held e) s → ⊥) → new.bytes ≡ e.bytes ++ terminated s
     → n ≡ length e.bytes → new.count ≡ e.count + 1
     → IsIndexed (e.bytes ++ terminated s) new.ordered → Carries e new → IsFound new h n
-    → IsAdded e new s n
+    → IsHashed new × IsPlaced (held e) (held new) s n
+    × (take (length (held e)) (held new) ≡ held e)
 added e new s h n table free is_hash absent is_new is_long is_count indexed more last =
     let ss = held e in
     let push : held new ≡ ss ++ s ∷ [] = ap strings_in is_new
@@ -302,9 +298,8 @@ added e new s h n table free is_hash absent is_new is_long is_count indexed more
     let kept : take (length ss) (held new) ≡ ss = grind (arith, push, take_at) in
     let placed : IsPlaced ss (held new) s n = rw (is_new, is_long)
     (used_new e.bytes e.ordered s table.indexed free absent) in
-    let own : offset_of (held new) s ≡ n = rw placed.1 ((there_once_used ss s).1 ∙ sym placed.0) in
-    record {
-      table = record {
+    let own : offset_of (held new) s ≡ n = rw placed.1 ((there_once_used ss s).1 ∙ sym placed.0) in (
+      record {
         indexed = rw is_new indexed;
         found = λ i d within.
             let t = get_or (held new) i d in
@@ -314,10 +309,10 @@ added e new s h n table free is_hash absent is_new is_long is_count indexed more
             (λ same. rw (← same, own, ← is_hash) last)
             (Contains-push_cases ss s t (rw (← push) (Contains-get_or (held new) i d within)));
         counted = grind (arith, is_count, table.counted, push, length-append);
-      };
-      placed = placed;
-      kept = kept;
-    }
+      },
+      placed,
+      kept,
+    )
 
 -- what is in a list is so when one more goes in
 pub among_more : (xs : List ℕ) (r y p : ℕ) → Contains xs p → Contains (insert xs r y) p

@@ -21,5 +21,5 @@ returns c =
     (indexed_push e.bytes e.ordered s table.indexed free absent)
     (carried_kept e new c.if-self.false c.enter.ensures.kept refl)
     (inl (c.if-not-enter.ensures.entered refl, c.if-not-enter.ensures.fits refl)) in
-    let placed = rw (← ended_front c.args.rest.now c.args.end first) at done.placed in
+    let placed = rw (← ended_front c.args.rest.now c.args.end first) at done.1 in
     search rules
