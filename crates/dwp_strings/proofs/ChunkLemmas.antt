@@ -113,10 +113,10 @@ module _ (ps : List (List ℕ)) (starts : List ℕ) (rank at start : ℕ)
       )
 
 -- a filter of each piece
-pub concat-filter : (f : ℕ → Bool) (ps : List (List ℕ)) → concat (map (filter f) ps) ≡
+pub concat_filter : (f : ℕ → Bool) (ps : List (List ℕ)) → concat (map (filter f) ps) ≡
     filter f (concat ps)
-concat-filter f [] = refl
-concat-filter f (p ∷ ps) = grind (arith, concat-filter f ps, filter-append)
+concat_filter f [] = refl
+concat_filter f (p ∷ ps) = grind (arith, concat_filter f ps, filter-append)
 
 -- what it keeps of the first pieces is no more than the whole
 pub kept_within : (f : ℕ → Bool) (ps : List (List ℕ)) (i : ℕ)

@@ -1,7 +1,7 @@
 -- What a vector that is stored makes of a copy.
 use Rattle.std.proofs.lemmas.List.{length-take-le, take-append-le}
 use Rattle.std.proofs.lemmas.Simd.{get_or-chunk, get_or-put_chunk_above, get_or-put_chunk_at}
-use Rattle.std.proofs.lemmas.Simd.{get_or-put_chunk_below, length-chunk}
+use Rattle.std.proofs.lemmas.Simd.{get_or-put_chunk_below, length-chunk, length-put_chunk}
 use Rattle.std.specs.Simd.Lanes.{put_chunk}
 use Rattle.dwp_strings.proofs.Terms
 use Terms.{List, Vec, ap, arith, cases_lt, drop, get_or, length, length-append, length-drop, sym}
@@ -29,6 +29,9 @@ module _ (bytes room : List ℕ) (at n : ℕ) (within : at + n ≤ length bytes)
       let above = get_or-put_chunk_above at room next k 0 in
       let long = length-chunk at n bytes within in
       grind (arith, below, above, stored_there k, long, cases_lt k at, cases_lt k (at + n))
+
+-- how long it stays, too
+pub ruleset stored = (stored_there, stored_kept, length-put_chunk)
 
 -- room of a list, once it is written to:
 -- what stands in it is behind what is used

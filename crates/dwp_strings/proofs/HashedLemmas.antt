@@ -2,83 +2,61 @@
 -- strings that are used. Strings of entries, found by their hashes, or else by their order.
 use Rattle.dwp_strings.proofs.Terms
 use Terms.{All, All-contains, All-permutation, AllPairs, BeginsAt, Bool, Contains, Decides-eqb, Err}
-use Terms.{IsBefore, IsFindable, IsHashed, IsIndexed, IsOrdered, IsPermutation-insert, IsPlaced}
-use Terms.{IsTable, IsZeroFree, List, None, Ok, OnErr, OnOk, Option, Result, Slot, Some}
-use Terms.{StandsAt, [], ap, append-nil, arith, by-bool, cases_eq, cases_lt, common_steps}
-use Terms.{cond-true, data_of, drop, eqb, false, filter, get_or, get_or-map, get_or-take}
-use Terms.{get_or_default, held, insert, length, length-append, length-take, lt-ltb, ltb, ltb-true}
-use Terms.{map, nat_eq_equiv, nat_list_cmp_total, not, offset_of, offsets_from, place_of, refl}
-use Terms.{string_from, strings_in, suc, sym, take, take-append-drop, take_at, terminated}
-use Terms.{tied_itself, true, zero, ℕ, ⊎_elim, ◌++◌, ◌+◌, ◌-◌, ◌<◌, ◌^◌, ◌∙◌, ◌∷◌, ◌≡◌, ◌≢◌, ◌≤◌}
-use Rattle.std.proofs.lemmas.List.Edits.{get_or-insert_above, get_or-insert_at, get_or-insert_below}
-use Rattle.std.proofs.lemmas.List.Elements.{All-filter, Contains-append_cases, Contains-append_left}
-use Rattle.std.proofs.lemmas.List.Elements.{All-cons, Contains-get_or, Contains-push, filter_passes}
-use Rattle.std.proofs.lemmas.List.Elements.{All-push, All-take}
-use Rattle.std.proofs.lemmas.Map.Made.{IsDistinct-from_AllPairs, length-le_from_is_member}
-use Rattle.dwp_strings.proofs.Named.{length-data_of-cons, length-offsets_from, zero_free-strings_in}
-use Rattle.dwp_strings.proofs.Named.{begins_there, distinct_push, map-string_from, offset_of-absent}
-use Rattle.dwp_strings.proofs.Named.{offsets_from-above, offsets_from-append, offsets_from-below}
-use Rattle.dwp_strings.proofs.Named.{offsets_from-take, string_from-ended, strings_in-data_of}
-use Rattle.dwp_strings.proofs.Named.{has_Decides, offset_of-at}
-use Rattle.std.proofs.lemmas.List.{flat_map_more, length-map, map-append, take-map}
-use Rattle.std.proofs.{lemmas.List.Concat.flat_map-append, lemmas.Map.Made.is_member-Decides}
-use Rattle.std.proofs.{lemmas.List.Edits.length-insert, lemmas.List.Kept.AllPairs-filter}
-use Rattle.std.proofs.lemmas.List.Sorted.{Contains-permutation, IsPermutation-filter_both}
-use Rattle.std.specs.declared.alloc.AllocError.{AllocError}
-use Rattle.dwp_strings.specs.Places.{AreFound, AreRelated, hash, IsFound, shared}
+use Terms.{IsBefore, IsHashed, IsIndexed, IsOrdered, IsPermutation-insert, IsPlaced, IsTable}
+use Terms.{IsZeroFree, List, None, Ok, OnErr, OnOk, Result, Some, StandsAt, [], ap, arith, cases_eq}
+use Terms.{cond-true, data_of, drop, false, filter, get_or, get_or-map, get_or-take, get_or_default}
+use Terms.{held, insert, length, length-append, length-take, lt-ltb, ltb, ltb-true, map}
+use Terms.{nat_eq_equiv, nat_list_cmp_total, offset_of, refl, split_at, string_from, strings_in, suc}
+use Terms.{sym, take, take-append-drop, take_at, terminated, tied_itself, with_string, ℕ, ⊎_elim}
+use Terms.{◌++◌, ◌+◌, ◌-◌, ◌<◌, ◌^◌, ◌∙◌, ◌∷◌, ◌≡◌, ◌≢◌, ◌≤◌}
+use Rattle.std.proofs.lemmas.List.Elements.{All-cons, All-filter, All-push, All-take, filter_passes}
+use Rattle.std.proofs.lemmas.List.Elements.{Contains-append_right, Contains-get_or}
+use Rattle.std.proofs.lemmas.List.Elements.{Contains-push_cases}
+use Rattle.dwp_strings.proofs.Named.{begins_there, begun_later, distinct_push, has_Decides}
+use Rattle.dwp_strings.proofs.Named.{known_offset, length-data_of-cons, offset_of-absent}
+use Rattle.dwp_strings.proofs.Named.{strings_in-data_of, there_later, there_once_used}
+use Rattle.dwp_strings.proofs.Named.{zero_free-strings_in}
+use Rattle.std.proofs.lemmas.List.{length-map, Elements.filter-append, Sorted.Contains-permutation}
+use Rattle.std.proofs.{lemmas.List.flat_map_more, lemmas.Map.Made.is_member-Decides}
+use Rattle.std.proofs.lemmas.List.{Concat.flat_map-append, Edits.length-insert}
+use Rattle.std.proofs.lemmas.List.{Kept.AllPairs-filter}
+use Rattle.dwp_strings.specs.{Hashed.IsFound, Places.hash, Places.place_in, Places.shared}
 use Rattle.dwp_strings.specs.declared.entries.Entries.{Entries}
-
--- a string that begins at an offset is the section's, whatever comes behind
-string_there : (bytes rest : List ℕ) (p : ℕ) → data_of (strings_in bytes) ≡ bytes
-    → (there : Contains (offsets_from 0 (strings_in bytes)) p)
-    → string_from (bytes ++ rest) p ≡ get_or (strings_in bytes) there.0 []
-string_there bytes rest p ended there =
-    let whole = map-string_from [] (strings_in bytes) rest 0 refl (zero_free-strings_in bytes) in
-    grind (arith, whole, get_or-map, there.2)
-
--- each position is within the section
-pub positions_within : (bytes positions : List ℕ) → IsIndexed bytes positions
-    → All (λ p. p ≤ length bytes) positions
-positions_within bytes positions table = λ i d within.
-    let ss = strings_in bytes in
-    let low = All-contains (λ p. p < 0 + length (data_of ss)) (offsets_from 0 ss) _
-    (offsets_from-below 0 ss) (table.begun i d within) in
-    grind (arith, low, table.ended)
+use Rattle.std.proofs.lemmas.List.Edits.{get_or-insert_above, get_or-insert_at, get_or-insert_below}
+use Rattle.std.proofs.lemmas.Map.Made.{IsDistinct-from_AllPairs, length-le_from_is_member}
+use Rattle.std.specs.declared.alloc.AllocError.{AllocError}
 
 -- no string comes before itself
 not_before_itself : (s : List ℕ) → IsBefore s s → ⊥
 not_before_itself s less = let own = tied_itself nat_list_cmp_total s in cc
 
--- the string that begins at an offset has that offset
-pub known_offset_in : (bytes s : List ℕ) (p : ℕ) → data_of (strings_in bytes) ≡ bytes
-    → AllPairs (λ s t. s ≢ t) (strings_in bytes) → Contains (offsets_from 0 (strings_in bytes)) p
-    → string_from bytes p ≡ s → Contains (strings_in bytes) s × (p ≡ offset_of (strings_in bytes) s)
-known_offset_in bytes s p ended distinct there is =
-    let ss = strings_in bytes in
-    let string = string_there bytes [] p ended there in
-    let offset = offset_of-at ss 0 there.0 [] p distinct in
-    let among = Contains-get_or ss there.0 [] in
-    grind (arith, string, append-nil bytes, offset, length-offsets_from 0 ss, among)
-
--- a string that would stand at a rank isn't at any position
-pub stands_apart : (bytes positions s : List ℕ) (r p : ℕ) → StandsAt bytes positions s r
-    → Contains positions p → string_from bytes p ≡ s → ⊥
-stands_apart bytes positions s r p stands there is =
-    let same = get_or_default positions there.0 0 p there.1 in
-    grind (arith, same, not_before_itself s, stands.before there.0, stands.behind there.0)
+-- the string that begins at a place has that offset
+pub known_offset_in : (bytes positions s : List ℕ) (p : ℕ) → IsIndexed bytes positions
+    → BeginsAt bytes p → string_from bytes p ≡ s
+    → Contains (strings_in bytes) s × (p ≡ offset_of (strings_in bytes) s)
+known_offset_in bytes positions s p table begins is =
+    rw (table.ended, is) at (known_offset (strings_in bytes) p (zero_free-strings_in bytes)
+    table.distinct (rw table.ended begins))
 
 -- no more positions than strings
 pub positions_few : (bytes positions : List ℕ) → IsIndexed bytes positions
     → length positions ≤ length (strings_in bytes)
 positions_few bytes positions table =
-    let offsets = offsets_from 0 (strings_in bytes) in
+    let ss = strings_in bytes in
+    let offsets = map (offset_of ss) ss in
+    let begun : All (Contains offsets) positions = λ i d within.
+    let p = get_or positions i d in
+    let known = known_offset_in bytes positions (string_from bytes p) p table
+    (table.begun i d within) refl in
+    let there = get_or-map (offset_of ss) ss known.0.0 (string_from bytes p) p known.0.1 in
+    (known.0.0, omega (arith, known.0.1, length-map ss (offset_of ss)), grind (arith, there, known)) in
     let apart = λ (i j d : ℕ). not_before_itself (string_from bytes (get_or positions j d)) in
     let few = length-le_from_is_member nat_eq_equiv positions offsets
     (IsDistinct-from_AllPairs Decides-eqb positions
     (λ i j d less within same. grind (arith, apart i j d, table.sorted i j d less within)))
     (λ q there. (is_member-Decides Decides-eqb offsets q).1 (All-contains (Contains offsets)
-    positions q table.begun ((is_member-Decides Decides-eqb positions q).0 there))) in
-    omega (arith, few, length-offsets_from 0 (strings_in bytes))
+    positions q begun ((is_member-Decides Decides-eqb positions q).0 there))) in
+    omega (arith, few, length-map ss (offset_of ss))
 
 -- where the elements stand once one more is inserted
 ruleset inserted = (length-insert, get_or-insert_below, get_or-insert_at, get_or-insert_above)
@@ -92,84 +70,78 @@ insert_in_order R xs r y apart fits before behind = λ i j d less within.
     let upper = apart (i - 1) (j - 1) 0 in
     grind (arith, inserted, get_or_default, apart i j 0, across, upper, before i, behind (j - 1))
 
--- strings stay where they are when bytes come behind them
-agree_longer : (bytes rest positions : List ℕ) → data_of (strings_in bytes) ≡ bytes
-    → All (λ p. Contains (offsets_from 0 (strings_in bytes)) p) positions
-    → All (λ p. string_from bytes p ≡ string_from (bytes ++ rest) p) positions
-agree_longer bytes rest positions ended begun = λ k d within.
-    let there = begun k d within in
-    rw (append-nil bytes) at (string_there bytes [] _ ended there)
-    ∙ sym (string_there bytes rest _ ended there)
-
 order_agrees : (f g : ℕ → List ℕ) (xs : List ℕ) → All (λ x. f x ≡ g x) xs
     → AllPairs (λ p q. IsBefore (f p) (f q)) xs → AllPairs (λ p q. IsBefore (g p) (g q)) xs
 order_agrees f g xs agree h = λ i j d less within. grind (arith, agree i d, agree j d, h i j d)
 
--- a string goes last
-pub strings_push : (bytes s : List ℕ) → data_of (strings_in bytes) ≡ bytes → IsZeroFree s
-    → (strings_in (bytes ++ terminated s) ≡ strings_in bytes ++ s ∷ [])
-    × (data_of (strings_in (bytes ++ terminated s)) ≡ bytes ++ terminated s)
-strings_push bytes s ended free =
-    let ss = strings_in bytes in
-    let each = All-push IsZeroFree ss s (zero_free-strings_in bytes) free in
-    grind (arith, flat_map_more terminated [] ss s, strings_in-data_of (ss ++ s ∷ []) each)
-
--- where its strings begin
-grown_offsets : (bytes s : List ℕ) → data_of (strings_in bytes) ≡ bytes → IsZeroFree s
-    → offsets_from 0 (strings_in (bytes ++ terminated s)) ≡ offsets_from 0 (strings_in bytes)
-    ++ length bytes ∷ []
-grown_offsets bytes s ended free =
-    grind (arith, strings_push bytes s ended free, offsets_from-append, ended)
-
--- a new string goes last
-pub indexed_push : (bytes positions s : List ℕ) → IsIndexed bytes positions → IsZeroFree s
-    → (Contains (strings_in bytes) s → ⊥) → IsIndexed (bytes ++ terminated s) positions
-indexed_push bytes positions s table free absent =
-    let ss = strings_in bytes in
-    let push = strings_push bytes s table.ended free in
-    let offsets = offsets_from 0 ss in
-    record {
-      ended = push.1;
-      distinct = rw push.0 (distinct_push ss s table.distinct absent);
-      begun = rw (grown_offsets bytes s table.ended free) (λ i d within.
-          Contains-append_left offsets (length bytes ∷ []) _ (table.begun i d within));
-      sorted = order_agrees (string_from bytes) (string_from (bytes ++ terminated s)) positions
-          (agree_longer bytes (terminated s) positions table.ended table.begun) table.sorted;
-    }
-
 -- a position of a string of the section goes to its rank
 pub indexed_more : (bytes positions s : List ℕ) (r p : ℕ) → IsIndexed bytes positions
-    → StandsAt bytes positions s r → Contains (offsets_from 0 (strings_in bytes)) p
-    → string_from bytes p ≡ s → IsIndexed bytes (insert positions r p)
-indexed_more bytes positions s r p table stands there is = record {
+    → StandsAt bytes positions s r → BeginsAt bytes p → string_from bytes p ≡ s
+    → IsIndexed bytes (insert positions r p)
+indexed_more bytes positions s r p table stands begins is = record {
   ended = table.ended;
   distinct = table.distinct;
-  begun = All-permutation (λ q. Contains (offsets_from 0 (strings_in bytes)) q) (p ∷ positions) _
+  begun = All-permutation (λ q. BeginsAt bytes q) (p ∷ positions) _
       (IsPermutation-insert positions r p)
-      (All-cons (λ q. Contains (offsets_from 0 (strings_in bytes)) q) p positions there
-      table.begun);
+      (All-cons (λ q. BeginsAt bytes q) p positions begins table.begun);
   sorted = insert_in_order (λ p q. IsBefore (string_from bytes p) (string_from bytes q)) positions r
       p table.sorted stands.within
       (λ k below. rw is (stands.before k below))
       (λ k above within. rw is (stands.behind k above within));
 }
 
--- a new string goes last, and its position to its rank
-pub indexed_both : (bytes positions s : List ℕ) (r : ℕ) → IsIndexed bytes positions → IsZeroFree s
-    → StandsAt bytes positions s r → (Contains (strings_in bytes) s → ⊥)
-    → IsIndexed (bytes ++ terminated s) (insert positions r (length bytes))
-indexed_both bytes positions s r table free stands absent =
-    let offsets = offsets_from 0 (strings_in bytes) in
-    let agree = agree_longer bytes (terminated s) positions table.ended table.begun in
-    indexed_more (bytes ++ terminated s) positions s r (length bytes)
-    (indexed_push bytes positions s table free absent)
-    (record {
-      within = stands.within;
-      before = λ k below. rw (agree k 0 (omega (arith, stands.within))) at (stands.before k below);
-      behind = λ k above within. rw (agree k 0 within) at (stands.behind k above within);
-    })
-    (rw (grown_offsets bytes s table.ended free) (Contains-push offsets (length bytes)))
-    (string_from-ended bytes s [] (length bytes) refl free)
+-- a string goes last
+module _ (bytes positions s : List ℕ) (table : IsIndexed bytes positions) (free : IsZeroFree s) where
+  pub strings_push : (strings_in (bytes ++ terminated s) ≡ strings_in bytes ++ s ∷ [])
+      × (data_of (strings_in (bytes ++ terminated s)) ≡ bytes ++ terminated s)
+  strings_push =
+      let ss = strings_in bytes in
+      let each = All-push IsZeroFree ss s (zero_free-strings_in bytes) free in
+      let strings = strings_in-data_of (ss ++ s ∷ []) each in
+      grind (arith, table.ended, flat_map_more terminated [] ss s, strings)
+
+  -- the others stay where they are
+  stays : (p : ℕ) → BeginsAt bytes p → BeginsAt (bytes ++ terminated s) p
+      × (string_from (bytes ++ terminated s) p ≡ string_from bytes p)
+  stays p begins =
+      let ss = strings_in bytes in
+      rw (table.ended, ← strings_push.0, strings_push.1) at (begun_later ss (ss ++ s ∷ []) p
+      (zero_free-strings_in bytes) table.distinct (take_at ss (s ∷ []) (length ss) refl)
+      (rw table.ended begins))
+
+  -- where it is new
+  module _ (absent : Contains (strings_in bytes) s → ⊥) where
+    used_new : IsPlaced (strings_in bytes) (strings_in (bytes ++ terminated s)) s (length bytes)
+    used_new =
+        let ss = strings_in bytes in
+        grind (arith, table.ended, has_Decides ss s, offset_of-absent ss s, strings_push)
+
+    pub indexed_push : IsIndexed (bytes ++ terminated s) positions
+    indexed_push = record {
+      ended = strings_push.1;
+      distinct = rw strings_push.0 (distinct_push (strings_in bytes) s table.distinct absent);
+      begun = λ i d within. (stays _ (table.begun i d within)).0;
+      sorted = order_agrees (string_from bytes) (string_from (bytes ++ terminated s)) positions
+          (λ i d within. sym (stays _ (table.begun i d within)).1) table.sorted;
+    }
+
+    -- and its position goes to its rank
+    pub indexed_both : (r : ℕ) → StandsAt bytes positions s r
+        → IsIndexed (bytes ++ terminated s) (insert positions r (length bytes))
+    indexed_both r stands =
+        let ss = strings_in bytes in
+        let there = there_once_used ss s in
+        let last = rw (there.1 ∙ sym used_new.0, ← used_new.1, strings_push.1)
+        at (begins_there (with_string ss s) s free there.0) in
+        indexed_more (bytes ++ terminated s) positions s r (length bytes) indexed_push
+        (record {
+          within = stands.within;
+          before = λ k below. rw (stays _ (table.begun k 0 (omega (arith, below, stands.within)))).1
+              (stands.before k below);
+          behind = λ k above within. rw (stays _ (table.begun k 0 within)).1
+              (stands.behind k above within);
+        })
+        last.0 last.1
 
 -- back to the first strings
 pub indexed_take : (bytes positions : List ℕ) (n m : ℕ) → IsIndexed bytes positions
@@ -188,26 +160,25 @@ indexed_take bytes positions n m table long =
     let free = All-take IsZeroFree n ss (zero_free-strings_in bytes) in
     let strings = rw kept at (strings_in-data_of front free) in
     let whole : data_of (strings_in short) ≡ short = ap data_of strings ∙ kept in
-    let parted = rw (take-append-drop n ss) at (offsets_from-append 0 front back) in
-    let begun : All (λ p. Contains (offsets_from 0 (strings_in short)) p) few = λ i d within.
+    let distinct : AllPairs (λ s t. s ≢ t) (strings_in short) = rw strings
+    (λ i j d less within. grind (arith, length-take, get_or-take, table.distinct i j d less)) in
+    let begun : All (λ p. BeginsAt short p) few = λ i d within.
     let low = ltb-true _ m (filter_passes (λ p. ltb p m) positions i d within) in
-    let there = All-filter (λ p. ltb p m) (λ p. Contains (offsets_from 0 ss) p) positions
-    table.begun i d within in
-    let end = 0 + length (data_of front) in
-    let past = All-contains (λ p. end ≤ p) (offsets_from end back) (get_or few i d)
-    (offsets_from-above end back) in
-    rw strings (⊎_elim (λ here. here) (λ far. absurd (omega (arith, low, long, past far)))
-    (Contains-append_cases (offsets_from 0 front) _ _ (rw parted at there))) in
-    let agree = rw (take-append-drop m bytes)
-    at (agree_longer short (drop m bytes) few whole begun) in (
+    let there = All-filter (λ p. ltb p m) (λ p. BeginsAt bytes p) positions table.begun i d within in
+    record {
+      within = omega (arith, low, there.within, length-take m bytes);
+      behind = λ some. grind (arith, get_or-take, there.behind, low);
+    } in
+    let first = rw (take-append-drop n ss, ← strings) at (take_at front back (length front) refl) in
+    let agree : All (λ p. string_from bytes p ≡ string_from short p) few = λ i d within.
+    rw (table.ended, whole) at (begun_later (strings_in short) ss (get_or few i d)
+    (zero_free-strings_in short) distinct first (rw whole (begun i d within))).1 in (
       strings,
       record {
         ended = whole;
-        distinct = rw strings (λ i j d less within.
-            grind (arith, length-take, get_or-take, table.distinct i j d less));
+        distinct = distinct;
         begun = begun;
-        sorted = order_agrees (string_from bytes) (string_from short) few
-            (λ i d within. sym (agree i d within))
+        sorted = order_agrees (string_from bytes) (string_from short) few agree
             (AllPairs-filter (λ p q. IsBefore (string_from bytes p) (string_from bytes q))
             (λ p. ltb p m) positions table.sorted);
       },
@@ -216,25 +187,6 @@ indexed_take bytes positions n m table long =
 pub strings_few : (ss : List (List ℕ)) → length ss ≤ length (data_of ss)
 strings_few [] = omega arith
 strings_few (s ∷ ss) = omega (arith, strings_few ss, length-data_of-cons s ss)
-
-offset_from : (n : ℕ) (bytes : List ℕ) (at : ℕ) → BeginsAt bytes at
-    → Contains (offsets_from n (strings_in bytes)) (n + at)
-offset_from n [] at begins = absurd (omega (arith, begins.within))
-offset_from n (b ∷ bytes) zero begins = (0, grind arith, grind arith)
-offset_from n (b ∷ bytes) (suc m) begins =
-    let zero_behind : get_or (b ∷ bytes) m 0 ≡ 0 = grind (arith, begins.behind) in
-    let rest : BeginsAt bytes m = record {
-      within = omega (arith, begins.within);
-      behind = λ more. grind arith;
-    } in
-    let there = offset_from (n + 1) bytes m rest in
-    by-bool _ (eqb b 0) (λ zero. (suc there.0, grind arith, grind arith))
-    (λ other. (there.0, grind arith, grind arith))
-
--- it is the offset of a string
-pub offset_there : (bytes : List ℕ) (at : ℕ) → BeginsAt bytes at
-    → Contains (offsets_from 0 (strings_in bytes)) at
-offset_there bytes at begins = grind (arith, offset_from 0 bytes at begins)
 
 -- a string that is there
 pub used_found : (ss : List (List ℕ)) (s : List ℕ) (p : ℕ) → Contains ss s → p ≡ offset_of ss s
@@ -246,32 +198,16 @@ pub used_there : (bytes positions s : List ℕ) (at : ℕ) → IsIndexed bytes p
     → BeginsAt bytes at × (string_from bytes at ≡ s)
     → IsPlaced (strings_in bytes) (strings_in bytes) s at
 used_there bytes positions s at table here =
-    let begins = offset_there bytes at here.0 in
-    let known = known_offset_in bytes s at table.ended table.distinct begins here.1 in
+    let known = known_offset_in bytes _ s at table here.0 here.1 in
     used_found (strings_in bytes) s at known.0 known.1
-
--- a new one, which went last
-pub used_new : (bytes new s : List ℕ) (n : ℕ) → data_of (strings_in bytes) ≡ bytes → IsZeroFree s
-    → new ≡ bytes ++ terminated s → n ≡ length bytes → (Contains (strings_in bytes) s → ⊥)
-    → IsPlaced (strings_in bytes) (strings_in new) s n
-used_new bytes new s n ended free is_new is_long absent =
-    let ss = strings_in bytes in
-    grind (arith, has_Decides ss s, offset_of-absent ss s, strings_push bytes s ended free)
-
--- the place that a hash has among those of entries
-abbrev pub place_in : Entries → ℕ → Option ℕ
-place_in e h = place_of e.places.slots.items e.places.size h
-
-abbrev pub IsFoundIn : Entries → ℕ → ℕ → Type 0
-IsFoundIn e h n = IsFound e.places.slots.items e.places.size e.places.is_full e.ordered h n
 
 -- there are no more strings than bytes, so that one more can be counted
 pub entries_few : (e : Entries) → IsHashed e → length e.bytes < 2 ^ 63
     → (e.count + 1 < 2 ^ 64) × (length e.ordered + 1 < 2 ^ 64)
 entries_few e table small =
-    let ended = ap length table.findable.indexed.ended in
+    let ended = ap length table.indexed.ended in
     let few : length (held e) ≤ length e.bytes = omega (arith, strings_few (held e), ended) in
-    (omega (arith, table.counted), omega (arith, positions_few _ _ table.findable.indexed))
+    (omega (arith, table.counted), omega (arith, positions_few _ _ table.indexed))
 
 module _ (e : Entries) (table : IsHashed e) where
   -- a string of the section stands where its offset says
@@ -280,52 +216,43 @@ module _ (e : Entries) (table : IsHashed e) where
   stands_there s there =
       let free = All-contains IsZeroFree (held e) s (zero_free-strings_in e.bytes) there in
       let begins = begins_there (held e) s free in
-      grind (arith, table.findable.indexed.ended, begins, has_Decides (held e) s)
+      grind (arith, table.indexed.ended, begins, has_Decides (held e) s)
 
-  -- a string begins where one is said to
-  pub begins_at_offset : (p : ℕ) → Contains (offsets_from 0 (held e)) p → BeginsAt e.bytes p
-  begins_at_offset p there =
-      let ss = held e in
-      let at = offset_of-at ss 0 there.0 [] p table.findable.indexed.distinct in
-      let stands = stands_there (get_or ss there.0 []) in
-      grind (arith, there.2, length-offsets_from 0 ss, at, stands, Contains-get_or ss there.0 [])
+  -- and is found
+  found_at : (s : List ℕ) → Contains (held e) s → IsFound e (hash s) (offset_of (held e) s)
+  found_at s there =
+      All-contains (λ t. IsFound e (hash t) (offset_of (held e) t)) (held e) s table.found there
 
 module _ (e : Entries) (table : IsHashed e) (s : List ℕ) (h : ℕ) (is_hash : h ≡ hash s) where
-  -- it is found
-  found_at : Contains (held e) s → IsFoundIn e h (offset_of (held e) s)
-  found_at there =
-      let ss = held e in
-      let at = offset_of-at ss 0 there.0 s 0 table.findable.indexed.distinct in
-      let found = table.findable.found there.0 in
-      grind (arith, get_or-map hash ss there.0 s 0, is_hash, at, found, length-map ss hash)
-
   -- a string whose hash has no place isn't there, where more get one
-  pub unplaced : e.places.is_full ≡ false → place_in e h ≡ None → Contains (held e) s → ⊥
-  unplaced gets none there = grind (arith, found_at there)
+  pub unplaced : e.places.is_full ≡ false → place_in e.places h ≡ None → Contains (held e) s → ⊥
+  unplaced gets none there = grind (arith, found_at e table s there, is_hash)
 
   -- nor one that doesn't stand at the place of its hash, where strings don't share that
-  pub misplaced : (p : ℕ) → place_in e h ≡ Some p → p ≢ shared
+  pub misplaced : (p : ℕ) → place_in e.places h ≡ Some p → p ≢ shared
       → (BeginsAt e.bytes p × (string_from e.bytes p ≡ s) → ⊥) → Contains (held e) s → ⊥
-  misplaced p has own far there = grind (arith, found_at there, stands_there e table s there, far)
+  misplaced p has own far there =
+      grind (arith, found_at e table s there, is_hash, stands_there e table s there, far)
 
   -- nor one that isn't among those in order, where it is looked for there
-  pub unordered : (r : ℕ) → IsOrdered e.places.slots.items e.places.size e.places.is_full h
-      → StandsAt e.bytes e.ordered s r → Contains (held e) s → ⊥
+  pub unordered : (r : ℕ) → IsOrdered e.places h → StandsAt e.bytes e.ordered s r
+      → Contains (held e) s → ⊥
   unordered r leads stands there =
       let here = stands_there e table s there in
-      let apart : Contains e.ordered (offset_of (held e) s) → ⊥ =
-      λ among. stands_apart e.bytes e.ordered s r _ stands among here.1 in
-      grind (arith, found_at there, leads, apart)
+      let apart : Contains e.ordered (offset_of (held e) s) → ⊥ = λ among.
+      let same = get_or_default e.ordered among.0 0 (offset_of (held e) s) among.1 in
+      let apart = not_before_itself s in
+      grind (arith, same, here.1, apart, stands.before among.0, stands.behind among.0) in
+      grind (arith, found_at e table s there, is_hash, leads, apart)
 
 -- what is found among entries is so among others
 abbrev pub Carries : Entries → Entries → Type 0
-Carries e new = (g m : ℕ) → Contains (offsets_from 0 (held e)) m → IsFoundIn e g m
-    → IsFoundIn new g m
+Carries e new = (g m : ℕ) → BeginsAt e.bytes m → IsFound e g m → IsFound new g m
 
 -- where each place that a hash has is kept, and no more are full
 pub carried_kept : (e new : Entries) → e.places.is_full ≡ false
-    → ((h n : ℕ) → place_in e h ≡ Some n → place_in new h ≡ Some n) → new.ordered ≡ e.ordered
-    → Carries e new
+    → ((h n : ℕ) → place_in e.places h ≡ Some n → place_in new.places h ≡ Some n)
+    → new.ordered ≡ e.ordered → Carries e new
 carried_kept e new gets kept same = λ g m _ found.
     rw same (grind (arith, found, kept g m, kept g shared))
 
@@ -336,70 +263,56 @@ carried_among e new same more = λ g m _ found. rw same (grind (arith, found, mo
 
 -- where the place of one hash alone is another
 module _ (e new : Entries) (h p : ℕ) (full : new.places.is_full ≡ e.places.is_full)
-    (ordered : new.ordered ≡ e.ordered) (has : place_in e h ≡ Some p)
-    (others : (g : ℕ) → g ≢ h → place_in new g ≡ place_in e g) where
+    (ordered : new.ordered ≡ e.ordered) (has : place_in e.places h ≡ Some p)
+    (others : (g : ℕ) → g ≢ h → place_in new.places g ≡ place_in e.places g) where
   -- that of strings which share it, and the one there is among those in order
-  pub carried_shared : place_in new h ≡ Some shared
-      → (Contains (offsets_from 0 (held e)) p → Contains e.ordered p) → Carries e new
+  pub carried_shared : place_in new.places h ≡ Some shared
+      → (BeginsAt e.bytes p → Contains e.ordered p) → Carries e new
   carried_shared is there = λ g m begun found. grind (arith, others g, cases_eq g h)
 
   -- the one there was forgotten
-  pub carried_over : p ≢ shared → (Contains (offsets_from 0 (held e)) p → ⊥) → Carries e new
+  pub carried_over : p ≢ shared → (BeginsAt e.bytes p → ⊥) → Carries e new
   carried_over own gone = λ g m begun found. grind (arith, others g, cases_eq g h)
-
--- each string is found where each was
-found_each : (e new : Entries) → IsHashed e → Carries e new → AreRelated (IsFoundIn new)
-    (map hash (held e)) (offsets_from 0 (held e))
-found_each e new table more = λ k less.
-    let offsets = offsets_from 0 (held e) in
-    let next = more (get_or (map hash (held e)) k 0) (get_or offsets k 0) in
-    let among = Contains-get_or offsets k 0 in
-    grind (arith, next, among, length-map, length-offsets_from, table.findable.found k)
 
 -- the strings stay, and are found in another way
 pub hashed_kept : (e new : Entries) → IsHashed e → new.bytes ≡ e.bytes
     → new.count ≡ e.count → IsIndexed e.bytes new.ordered → Carries e new → IsHashed new
 hashed_kept e new table is_new is_count indexed more = record {
-  findable = rw is_new (record { indexed = indexed; found = found_each e new table more });
+  indexed = rw is_new indexed;
+  found = rw is_new (λ i d within. more _ _ (stands_there e table (get_or (held e) i d)
+      (Contains-get_or (held e) i d within)).0 (table.found i d within));
   counted = grind (arith, is_count, table.counted, is_new);
 }
 
--- lists that are related one by one, and one more of each
-related_push : (R : ℕ → ℕ → Type 0) (xs ys : List ℕ) (x y : ℕ) → length ys ≡ length xs
-    → AreRelated R xs ys → R x y → AreRelated R (xs ++ x ∷ []) (ys ++ y ∷ [])
-related_push R xs ys x y long related last = λ k less.
-    grind (arith, common_steps, related k, cases_lt k (length xs))
-
 -- entries with a new string behind all others
-pub record IsAdded (e new : Entries) (s : List ℕ) (n : ℕ) : Type 0 where
-  pub table : IsHashed new
-  pub placed : IsPlaced (held e) (held new) s n
-  pub kept : take (length (held e)) (held new) ≡ held e
-
 pub added : (e new : Entries) (s : List ℕ) (h n : ℕ) → IsHashed e → IsZeroFree s → h ≡ hash s
     → (Contains (held e) s → ⊥) → new.bytes ≡ e.bytes ++ terminated s
     → n ≡ length e.bytes → new.count ≡ e.count + 1
-    → IsIndexed (e.bytes ++ terminated s) new.ordered → Carries e new → IsFoundIn new h n
-    → IsAdded e new s n
+    → IsIndexed (e.bytes ++ terminated s) new.ordered → Carries e new → IsFound new h n
+    → IsHashed new × IsPlaced (held e) (held new) s n
+    × (take (length (held e)) (held new) ≡ held e)
 added e new s h n table free is_hash absent is_new is_long is_count indexed more last =
     let ss = held e in
-    let ended = table.findable.indexed.ended in
     let push : held new ≡ ss ++ s ∷ [] = ap strings_in is_new
-    ∙ (strings_push e.bytes s ended free).0 in
-    let far : 0 + length (data_of ss) ≡ n = omega (arith, ap length ended, is_long) in
-    let related = related_push (IsFoundIn new) (map hash ss) (offsets_from 0 ss) h n
-    (length-offsets_from 0 ss ∙ sym (length-map ss hash)) (found_each e new table more) last in
-    record {
-      table = record {
-        findable = record {
-          indexed = rw is_new indexed;
-          found = rw (push, map-append, ← is_hash, offsets_from-append, far) related;
-        };
+    ∙ (strings_push e.bytes e.ordered s table.indexed free).0 in
+    let kept : take (length ss) (held new) ≡ ss = grind (arith, push, take_at) in
+    let placed : IsPlaced ss (held new) s n = rw (is_new, is_long)
+    (used_new e.bytes e.ordered s table.indexed free absent) in
+    let own : offset_of (held new) s ≡ n = rw placed.1 ((there_once_used ss s).1 ∙ sym placed.0) in (
+      record {
+        indexed = rw is_new indexed;
+        found = λ i d within.
+            let t = get_or (held new) i d in
+            ⊎_elim
+            (λ old. rw (there_later ss (held new) t kept ((has_Decides ss t).1 old)).1
+            (more _ _ (stands_there e table t old).0 (found_at e table t old)))
+            (λ same. rw (← same, own, ← is_hash) last)
+            (Contains-push_cases ss s t (rw (← push) (Contains-get_or (held new) i d within)));
         counted = grind (arith, is_count, table.counted, push, length-append);
-      };
-      placed = used_new e.bytes new.bytes s n ended free is_new is_long absent;
-      kept = grind (arith, push, take_at);
-    }
+      },
+      placed,
+      kept,
+    )
 
 -- what is in a list is so when one more goes in
 pub among_more : (xs : List ℕ) (r y p : ℕ) → Contains xs p → Contains (insert xs r y) p
@@ -413,8 +326,8 @@ among_one xs r y = Contains-permutation (y ∷ xs) (insert xs r y) y (IsPermutat
 -- a position of a string went to its rank, or none did
 pub inserted_or : (bytes ordered s : List ℕ) (r p : ℕ) (new : List ℕ)
     (answer : Result (Unit {0}) AllocError) → IsIndexed bytes ordered → StandsAt bytes ordered s r
-    → Contains (offsets_from 0 (strings_in bytes)) p → string_from bytes p ≡ s
-    → OnOk answer (new ≡ insert ordered r p) → OnErr answer (new ≡ ordered)
+    → BeginsAt bytes p → string_from bytes p ≡ s → OnOk answer (new ≡ insert ordered r p)
+    → OnErr answer (new ≡ ordered)
     → IsIndexed bytes new × ((q : ℕ) → Contains ordered q → Contains new q)
 inserted_or bytes ordered s r p new (Ok u) table stands there is ok err =
     rw ok (indexed_more bytes ordered s r p table stands there is, among_more ordered r p)
@@ -424,42 +337,37 @@ inserted_or bytes ordered s r p new (Err e) table _ _ _ _ err = rw err (table, �
 kept_below : (xs : List ℕ) (m y : ℕ) → y < m → Contains xs y → Contains (filter (λ x. ltb x m) xs) y
 kept_below xs m y below there =
     let low : ℕ → Bool = λ x. ltb x m in
-    let high : ℕ → Bool = λ x. not (ltb x m) in
-    let parted = Contains-permutation xs (filter low xs ++ filter high xs) y
-    (IsPermutation-filter_both low high (λ x. refl) xs) there in
-    ⊎_elim (λ kept. kept) (λ gone.
-    let above = All-contains (λ x. high x ≡ true) _ y (filter_passes high xs) gone in
-    grind (arith, above, lt-ltb y m below))
-    (Contains-append_cases (filter low xs) (filter high xs) y parted)
+    let front = take there.0 xs in
+    let back = drop (suc there.0) xs in
+    let parts : xs ≡ front ++ y ∷ back = rw there.2 at (split_at xs there.0 y there.1) in
+    rw (ap (filter low) parts, filter-append low front (y ∷ back), lt-ltb y m below)
+    (Contains-append_right (filter low front) _ y (0, omega arith, refl))
 
 -- back to the first strings
-pub findable_take : (bytes kept : List ℕ) (slots : List Slot) (size : ℕ) (is_full : Bool)
-    (ordered ordered' : List ℕ) (strings : List (List ℕ)) (n m : ℕ)
-    → IsFindable bytes slots size is_full ordered → strings_in bytes ≡ strings
-    → m ≡ length (data_of (take n strings)) → kept ≡ take m bytes
-    → ordered' ≡ filter (λ p. ltb p m) ordered
-    → (strings_in kept ≡ take n strings) × IsFindable kept slots size is_full ordered'
-findable_take bytes kept slots size is_full ordered ordered' strings n m table is_strings is_mark
-    is_kept is_ordered =
-    let ss = strings_in bytes in
-    let long : m ≡ length (data_of (take n ss)) = grind (arith, is_mark, is_strings) in
-    let new = indexed_take bytes ordered n m table.indexed long in
-    let strings' : strings_in kept ≡ take n ss = ap strings_in is_kept ∙ new.0 in
-    let found : AreFound kept slots size is_full ordered' = λ k less.
-    let first : (k < n) × (k < length (take n ss)) =
-    grind (arith, less, length-map, length-take, strings') in
-    let place = get_or (offsets_from 0 (take n ss)) k 0 in
-    let is_place : get_or (offsets_from 0 ss) k 0 ≡ place =
-    grind (arith, offsets_from-take n 0 ss, get_or-take, first.0) in
-    let low = offsets_from-below 0 (take n ss) k 0 in
-    let below : place < m = grind (arith, low, first, length-offsets_from, long) in
-    let here = table.found k (omega (arith, length-take n ss, length-map ss hash)) in
-    rw (strings', ← take-map hash n ss, get_or-take n (map hash ss) k 0 first.0)
-    (grind (arith, is_place, here, is_ordered, kept_below ordered m place below)) in (
-      strings' ∙ ap (take n) is_strings,
-      record { indexed = rw (is_kept, is_ordered) new.1; found = found },
-    )
+pub hashed_take : (e new : Entries) (n m : ℕ) → IsHashed e → n ≡ length (take n (held e))
+    → m ≡ length (data_of (take n (held e))) → new.bytes ≡ take m e.bytes → new.places ≡ e.places
+    → new.ordered ≡ filter (λ p. ltb p m) e.ordered → new.count ≡ n → IsHashed new
+hashed_take e new n m table few long is_bytes same is_ordered is_count =
+    let ss = held e in
+    let front = take n ss in
+    let now = indexed_take e.bytes e.ordered n m table.indexed long in
+    let strings : held new ≡ front = ap strings_in is_bytes ∙ now.0 in
+    let kept = rw (take-append-drop n ss) at (take_at front (drop n ss) (length front) refl) in
+    let found : All (λ s. IsFound new (hash s) (offset_of front s)) front = λ i d within.
+    let s = get_or front i d in
+    let has = (has_Decides front s).1 (Contains-get_or front i d within) in
+    let later = there_later front ss s kept has in
+    let here = (has_Decides ss s).0 later.0 in
+    let free = All-contains IsZeroFree ss s (zero_free-strings_in e.bytes) here in
+    let begins = (begins_there front s free has).0 in
+    let below : offset_of ss s < m = omega (arith, begins.within, later.1, long) in
+    rw (same, is_ordered, ← later.1)
+    (grind (arith, found_at e table s here, kept_below e.ordered m (offset_of ss s) below)) in
+    record {
+      indexed = rw (is_bytes, is_ordered) now.1;
+      found = rw strings found;
+      counted = is_count ∙ few ∙ ap length (sym strings);
+    }
 
-pub findable_table : (bytes : List ℕ) (slots : List Slot) (size : ℕ) (is_full : Bool)
-    (ordered : List ℕ) → IsFindable bytes slots size is_full ordered → IsTable (strings_in bytes)
-findable_table bytes slots size is_full ordered table = search (zero_free-strings_in)
+pub hashed_table : (e : Entries) → IsHashed e → IsTable (held e)
+hashed_table e table = search (zero_free-strings_in)

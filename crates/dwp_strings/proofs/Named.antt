@@ -3,15 +3,17 @@
 use Rattle.dwp_strings.proofs.Terms
 use Terms.{All, All-head, All-tail, AllPairs, BeginsAt, Bool, Contains, Decides, Decides-by_or}
 use Terms.{IsTable, IsZeroFree, List, None, Ok, Option, Some, [], ap, append_assoc, arith}
-use Terms.{before_first, by-bool, bytes_eq, bytes_eq-Decides, cond_both, data_of, drop, drop-drop}
-use Terms.{drop_at, eqb, eqb-false, eqb-true, fails_before_first, false, get_or, get_or-append-add}
-use Terms.{get_or-take, get_or_default, length, length-append, length-drop, length-take, list_any}
-use Terms.{list_any-append, map, nat_tests, offset_of, offsets_from, onto_first, position_or_len}
-use Terms.{position_or_len_is, refl, string_from, strings_in, suc, take, take-append-drop, take_at}
-use Terms.{terminated, true, with_string, zero, ℕ, ◌++◌, ◌+◌, ◌-◌, ◌<◌, ◌∙◌, ◌∷◌, ◌≡◌, ◌≢◌, ◌≤◌}
+use Terms.{before_first, by-bool, bytes_eq, bytes_eq-Decides, cases_lt, cond_both, data_of, drop}
+use Terms.{drop-drop, drop_at, eqb, eqb-false, eqb-true, fails_before_first, false, get_or}
+use Terms.{get_or-append-add, get_or-take, get_or_default, length, length-append, length-drop}
+use Terms.{length-take, list_any, list_any-append, nat_tests, offset_of, onto_first}
+use Terms.{position_or_len, position_or_len_is, refl, string_from, strings_in, suc, sym, take}
+use Terms.{take-append-drop, take_at, terminated, true, with_string, ℕ, ◌++◌, ◌+◌, ◌-◌, ◌<◌, ◌∙◌}
+use Terms.{◌∷◌, ◌≡◌, ◌≢◌, ◌≤◌}
 use Rattle.std.proofs.lemmas.List.Elements.{Contains-append_left, Contains-push, Decides-contains}
 use Rattle.std.proofs.lemmas.List.Elements.{All-cons, All-nil, All-push}
 use Rattle.std.proofs.{Common.take_all, lemmas.List.get_or_append_left, lemmas.List.get_or_at}
+use Rattle.std.proofs.Math.Seq.{drop-append-add}
 use Rattle.std.{proofs.lemmas.List.Quantifiers.all_pairs_push, specs.Option.is_some}
 use Rattle.dwp_bytes.specs.StringOffsets.{string_at}
 use Rattle.memchr.specs.Find.{is_byte, IsFirstByte}
@@ -69,31 +71,6 @@ pub length-data_of-cons : (s : List ℕ) (ss : List (List ℕ)) → length (data
 length-data_of-cons s ss =
     omega (arith, ap length (data_of-cons s ss), length-append s (0 ∷ data_of ss))
 
--- the strings of a part of a section, from where they begin
-pub map-string_from : (front : List ℕ) (ss : List (List ℕ)) (rest : List ℕ) (n : ℕ)
-    → length front ≡ n → All IsZeroFree ss → map (string_from (front ++ (data_of ss ++ rest)))
-    (offsets_from n ss) ≡ ss
-map-string_from front [] rest n long free = refl
-map-string_from front (s ∷ ss) rest n long free =
-    let behind = data_of ss ++ rest in
-    let first = string_from-ended front s behind n long (All-head IsZeroFree s ss free) in
-    let others = map-string_from (front ++ terminated s) ss rest (n + length s + 1) in
-    grind (arith, append_assoc, length-append, first, others, All-tail IsZeroFree s ss free)
-
-pub length-offsets_from : (n : ℕ) (ss : List (List ℕ)) → length (offsets_from n ss) ≡ length ss
-length-offsets_from n [] = refl
-length-offsets_from n (s ∷ ss) = ap suc (length-offsets_from (n + length s + 1) ss)
-
--- of distinct strings, each has the offset where it begins
-pub offset_of-at : (ss : List (List ℕ)) (n i : ℕ) (d : List ℕ) (e : ℕ) → AllPairs (λ s t. s ≢ t) ss
-    → i < length ss → n + offset_of ss (get_or ss i d) ≡ get_or (offsets_from n ss) i e
-offset_of-at [] n i d e apart within = absurd (omega arith)
-offset_of-at (t ∷ ss) n zero d e apart within = grind (arith, bytes_eq-Decides t t)
-offset_of-at (t ∷ ss) n (suc i) d e apart within =
-    let rest = offset_of-at ss (n + length t + 1) i d e
-    (λ j k f less below. apart (suc j) (suc k) f (omega arith) (omega arith)) in
-    grind (arith, rest, bytes_eq-Decides t (get_or ss i d), apart 0 (suc i) d)
-
 -- whether a string is there
 pub has_Decides : (ss : List (List ℕ)) (s : List ℕ)
     → Decides (list_any (λ t. bytes_eq t s) ss) (Contains ss s)
@@ -110,30 +87,6 @@ pub offset_of-absent : (ss : List (List ℕ)) (s : List ℕ) → list_any (λ t.
     → offset_of ss s ≡ length (data_of ss)
 offset_of-absent [] s none = refl
 offset_of-absent (t ∷ ss) s none = grind (arith, offset_of-absent ss s, length-data_of-cons t ss)
-
-pub offsets_from-append : (n : ℕ) (ss ts : List (List ℕ)) → offsets_from n (ss ++ ts) ≡ offsets_from
-    n ss ++ offsets_from (n + length (data_of ss)) ts
-offsets_from-append n [] ts = let e : n ≡ n + 0 = omega arith in ap (λ m. offsets_from m ts) e
-offsets_from-append n (s ∷ ss) ts =
-    grind (arith, offsets_from-append (n + length s + 1) ss ts, length-data_of-cons s ss)
-
-pub offsets_from-take : (n at : ℕ) (ss : List (List ℕ)) → offsets_from at (take n ss) ≡
-    take n (offsets_from at ss)
-offsets_from-take zero at ss = refl
-offsets_from-take (suc n) at [] = refl
-offsets_from-take (suc n) at (s ∷ ss) = grind (arith, offsets_from-take n (at + length s + 1) ss)
-
--- each begins before the end of the part, and none before its start
-pub offsets_from-below : (n : ℕ) (ss : List (List ℕ)) → All (λ p. p < n + length (data_of ss))
-    (offsets_from n ss)
-offsets_from-below n (s ∷ ss) = λ i d within.
-    grind (arith, length-data_of-cons s ss, offsets_from-below (n + length s + 1) ss (i - 1) d)
-offsets_from-below n [] = All-nil _
-
-pub offsets_from-above : (n : ℕ) (ss : List (List ℕ)) → All (λ p. n ≤ p) (offsets_from n ss)
-offsets_from-above n [] = All-nil _
-offsets_from-above n (s ∷ ss) =
-    λ i d within. grind (arith, offsets_from-above (n + length s + 1) ss (i - 1) d)
 
 -- no string has its offset past the section's end
 pub offset_within : (ss : List (List ℕ)) (s : List ℕ) → offset_of ss s ≤ length (data_of ss)
@@ -215,6 +168,67 @@ begins_there ss s free h =
       grind (arith, there.1, before_first-ended s there.0 free),
     )
 
+-- what is read has no zero
+pub read_free : (section : List ℕ) (at : ℕ) → IsZeroFree (string_from section at)
+read_free section at = λ k d below same.
+    let tail = drop at section in
+    let first = position_or_len (λ b. eqb b 0) tail in
+    grind (arith, length-take, get_or-take, fails_before_first (λ b. eqb b 0) tail k d)
+
+-- what begins behind a string and its end begins so in the rest
+begun_behind : (t rest : List ℕ) (p : ℕ) → IsZeroFree t → BeginsAt (terminated t ++ rest) p → p ≢ 0
+    → (q : ℕ) × (p ≡ length t + 1 + q) × BeginsAt rest q
+    × (string_from (terminated t ++ rest) p ≡ string_from rest q)
+begun_behind t rest p free begins some =
+    let q = p - (length t + 1) in
+    let long = length-append t (0 ∷ []) in
+    let zero : get_or (t ++ 0 ∷ rest) (p - 1) 0 ≡ 0 =
+    rw append_assoc at (begins.behind (omega (arith, some))) in
+    let low = get_or_append_left t (0 ∷ rest) 0 (p - 1) in
+    let past : length t < p =
+    grind (arith, low, zero, free (p - 1) 0, cases_lt (p - 1) (length t)) in
+    let is : p ≡ length t + 1 + q = omega (arith, past) in
+    let behind = get_or-append-add (terminated t) rest (q - 1) 0 in (
+      q,
+      is,
+      record {
+        within = omega (arith, begins.within, length-append (terminated t) rest, long);
+        behind = λ more. grind (arith, behind, begins.behind, is, long);
+      },
+      grind (arith, drop-append-add (terminated t) rest q, is, long),
+    )
+
+-- a string that begins at a place is one of these, and has that offset
+pub known_offset : (ss : List (List ℕ)) (p : ℕ) → All IsZeroFree ss → AllPairs (λ s t. s ≢ t) ss
+    → BeginsAt (data_of ss) p → Contains ss (string_from (data_of ss) p)
+    × (p ≡ offset_of ss (string_from (data_of ss) p))
+known_offset [] p free apart begins = absurd (omega (arith, begins.within))
+known_offset (t ∷ ss) p free apart begins = by-bool _ (eqb p 0)
+    (λ first. let here = rw (← data_of-cons t ss)
+    at (string_from-ended [] t (data_of ss) 0 refl (All-head IsZeroFree t ss free)) in
+    rw (eqb-true p 0 first, here)
+    ((0, omega arith, refl), grind (arith, bytes_eq-Decides t t)))
+    (λ later. let next = begun_behind t (data_of ss) p (All-head IsZeroFree t ss free) begins
+    (eqb-false p 0 later) in
+    let rest = known_offset ss next.0 (All-tail IsZeroFree t ss free)
+    (λ i j d less within. apart (suc i) (suc j) d (omega arith) (omega arith)) next.2 in
+    let s = string_from (data_of ss) next.0 in
+    let other = apart 0 (suc rest.0.0) s (omega arith) (omega (arith, rest.0.1)) in
+    rw next.3 (
+      (suc rest.0.0, omega (arith, rest.0.1), rest.0.2),
+      grind (arith, next.1, rest.1, rest.0.2, bytes_eq-Decides t s, other),
+    ))
+
+-- and is so in a list that begins with these
+pub begun_later : (ss final : List (List ℕ)) (p : ℕ) → All IsZeroFree ss
+    → AllPairs (λ s t. s ≢ t) ss → take (length ss) final ≡ ss → BeginsAt (data_of ss) p
+    → BeginsAt (data_of final) p × (string_from (data_of final) p ≡ string_from (data_of ss) p)
+begun_later ss final p free apart kept begins =
+    let s = string_from (data_of ss) p in
+    let known = known_offset ss p free apart begins in
+    let there = there_later ss final s kept ((has_Decides ss s).1 known.0) in
+    rw (there.1 ∙ sym known.1) at (begins_there final s (read_free (data_of ss) p) there.0)
+
 -- a table that begins with these strings has its strings at their offsets
 pub read_later : (ss final : List (List ℕ)) (s : List ℕ) → take (length ss) final ≡ ss
     → IsZeroFree s → has ss s ≡ true → string_at (data_of final) (offset_of ss s) ≡ Ok s
@@ -229,10 +243,3 @@ read_later ss final s kept free h =
 pub string_was : (bytes s : List ℕ) (at : ℕ) → string_at bytes at ≡ Ok s → string_from bytes at ≡ s
 unfolding string_at
 string_was bytes s at is = grind arith
-
--- what is read has no zero
-pub read_free : (section : List ℕ) (at : ℕ) → IsZeroFree (string_from section at)
-read_free section at = λ k d below same.
-    let tail = drop at section in
-    let first = position_or_len (λ b. eqb b 0) tail in
-    grind (arith, length-take, get_or-take, fails_before_first (λ b. eqb b 0) tail k d)

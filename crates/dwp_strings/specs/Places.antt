@@ -1,10 +1,9 @@
 -- Places of strings by their hashes. A slot keeps a hash, which tells where its search begins.
-use Rattle.std.specs.Prelude.{◌≡◌, ◌≢◌, ◌≤◌, ℕ, zero, suc, ◌+◌, ◌-◌, ◌*◌, ◌/◌, ◌%◌, ◌^◌, ◌<◌, ◌==◌}
-use Rattle.std.specs.Prelude.{◌⊎◌, if◌then◌else◌, Bool, true, List, Option, None, Some, length, map}
-use Rattle.std.specs.Prelude.{slice_index, slice_index_or, Contains, nat_le, bit_xor}
-use Rattle.std.specs.Hash.FoldHasher.{initial, write, finish, mix, folded_multiply, read_u64}
-use Rattle.dwp_strings.specs.declared.places.Slot.{Slot}
-use Rattle.dwp_strings.specs.Strings.{strings_in, offsets_from}
+use Rattle.std.specs.Prelude.{if◌then◌else◌, ◌%◌, ◌*◌, ◌+◌, ◌-◌, ◌/◌, ◌<◌, ◌==◌, ◌^◌, ◌≡◌, ◌≢◌, ◌≤◌}
+use Rattle.std.specs.Prelude.{length, List, nat_le, None, Option, Some, suc, true, zero, ℕ, ◌⊎◌}
+use Rattle.std.specs.Prelude.{bit_xor, slice_index_or}
+use Rattle.std.specs.Hash.FoldHasher.{finish, folded_multiply, initial, mix, read_u64, write}
+use Rattle.dwp_strings.specs.{declared.places.HashedPlaces.HashedPlaces, declared.places.Slot.Slot}
 
 -- a state after a block of sixteen bytes: as std's, but that nothing changes the second word, which
 -- isn't 0 in a string
@@ -71,22 +70,17 @@ pub record IsSlotOf (slots : List Slot) (size h number : ℕ) : Type 0 where
   pub passed : (j : ℕ) → home size h ≤ j → j < number
       → ((slice_index_or slots j free).behind ≢ 0) × ((slice_index_or slots j free).hash ≢ h)
 
+-- the place that a hash has in these slots
+abbrev pub place_in : HashedPlaces → ℕ → Option ℕ
+place_in places h = place_of places.slots.items places.size h
+
+-- a slot is the next for a hash, if it is one of these
+abbrev pub IsNextIn : HashedPlaces → ℕ → ℕ → Type 0
+IsNextIn places h number =
+    number < length places.slots.items → IsNext places.slots.items places.size h number
+
 -- strings of a hash are looked for in their order: they share it, or it has no place where no more
 -- get one
-abbrev pub IsOrdered : List Slot → ℕ → Bool → ℕ → Type 0
-IsOrdered slots size is_full h =
-    (place_of slots size h ≡ Some shared) ⊎ ((is_full ≡ true) × (place_of slots size h ≡ None))
-
--- a string of a hash at a place is found: the hash has the place, or that is among those in order
-abbrev pub IsFound : List Slot → ℕ → Bool → List ℕ → ℕ → ℕ → Type 0
-IsFound slots size is_full ordered h n = ((place_of slots size h ≡ Some n) × (n < shared))
-    ⊎ (Contains ordered n × IsOrdered slots size is_full h)
-
--- numbers of two lists are related one by one
-abbrev pub AreRelated : (ℕ → ℕ → Type 0) → List ℕ → List ℕ → Type 0
-AreRelated R xs ys = (k : ℕ) → k < length xs → R (slice_index xs k) (slice_index ys k)
-
--- each string of a section is found
-abbrev pub AreFound : List ℕ → List Slot → ℕ → Bool → List ℕ → Type 0
-AreFound bytes slots size is_full ordered = AreRelated (IsFound slots size is_full ordered)
-    (map hash (strings_in bytes)) (offsets_from 0 (strings_in bytes))
+abbrev pub IsOrdered : HashedPlaces → ℕ → Type 0
+IsOrdered places h =
+    (place_in places h ≡ Some shared) ⊎ ((places.is_full ≡ true) × (place_in places h ≡ None))

@@ -1,12 +1,9 @@
 -- The strings of a package, as `.debug_str.dwo` holds them: each is ended by a zero byte (DWARF 5,
 -- 7.26).
-use Rattle.std.specs.Prelude.{◌≡◌, ◌≢◌, ℕ, ◌+◌, ◌-◌, ◌^◌, ◌<◌, ◌≤◌, if◌then◌else◌, ◌==◌, List, []}
-use Rattle.std.specs.Prelude.{◌∷◌, ◌++◌, length, slice_index, All, AllPairs, Contains}
-use Rattle.std.specs.List.{flat_map, list_any, onto_first}
-use Rattle.std.specs.Str.{bytes_eq}
-use Rattle.std.specs.Ordering.{nat_cmp}
-use Rattle.std.specs.Cmp.Lexicographic.{slice_cmp}
-use Rattle.std.specs.declared.cmp.Ordering.TheVariants.{Less}
+use Rattle.std.specs.Prelude.{[], if◌then◌else◌, ◌++◌, ◌+◌, ◌-◌, ◌<◌, ◌==◌, ◌^◌, ◌∷◌, ◌≡◌, ◌≢◌, ◌≤◌}
+use Rattle.std.specs.Prelude.{All, AllPairs, length, List, slice_index, ℕ}
+use Rattle.std.specs.{Cmp.Lexicographic.slice_cmp, declared.cmp.Ordering.TheVariants.Less}
+use Rattle.std.specs.{List.flat_map, List.list_any, List.onto_first, Ordering.nat_cmp, Str.bytes_eq}
 use Rattle.dwp_bytes.specs.StringOffsets.{string_from}
 
 -- a string with the zero byte that ends it
@@ -55,11 +52,6 @@ abbrev pub strings_in : List ℕ → List (List ℕ)
 strings_in [] = []
 strings_in (b ∷ bs) = if b == 0 then [] ∷ strings_in bs else onto_first b (strings_in bs)
 
--- where strings begin that stand one after another from a place on
-abbrev pub offsets_from : ℕ → List (List ℕ) → List ℕ
-offsets_from at [] = []
-offsets_from at (s ∷ ss) = at ∷ offsets_from (at + length s + 1) ss
-
 -- a string comes before another: a string that begins another comes first
 abbrev pub IsBefore : List ℕ → List ℕ → Type 0
 IsBefore s t = slice_cmp nat_cmp s t ≡ Less
@@ -69,7 +61,7 @@ IsBefore s t = slice_cmp nat_cmp s t ≡ Less
 pub record IsIndexed (bytes positions : List ℕ) : Type 0 where
   pub ended : data_of (strings_in bytes) ≡ bytes
   pub distinct : AllPairs (λ s t. s ≢ t) (strings_in bytes)
-  pub begun : All (λ p. Contains (offsets_from 0 (strings_in bytes)) p) positions
+  pub begun : All (λ p. BeginsAt bytes p) positions
   pub sorted : AllPairs (λ p q. IsBefore (string_from bytes p) (string_from bytes q)) positions
 
 -- a string isn't among those that begin at the positions, and would stand at that rank

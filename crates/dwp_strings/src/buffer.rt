@@ -78,6 +78,7 @@ fn put_ended(room: &mut [u8], string: &[u8])
 }
 
 /// Copies so many bytes of a place, and gives them.
+#[tactic(auto, using(crate::proofs::CopyLemmas::stored))]
 #[inline(always)]
 fn copy_lanes<const N: usize>(room: &mut [u8], bytes: &[u8], at: usize) -> Simd<u8, N>
     requires within { at + N ≤ length bytes.now }
@@ -229,9 +230,7 @@ impl Buffer {
     pub fn truncate(&mut self, len: usize)
         ensures { self.new ≡ take len self.old }
     {
-        if len < self.used {
-            self.used = len;
-        }
+        self.used = self.used.min(len);
     }
 
     /// The bytes, as they are owned.

@@ -5,7 +5,7 @@ ghost use Rattle.std.specs.Prelude.{IfSome, IsNone, Contains, slice_index, None,
 ghost use Rattle.dwp_bytes.specs.StringOffsets.{string_from};
 ghost use Rattle.dwp_strings.specs.Strings.{IsZeroFree, BeginsAt, IsPlaced};
 ghost use Rattle.dwp_strings.specs.Hashed.{held, IsHashed};
-ghost use Rattle.dwp_strings.specs.Places.{hash as hash_of, place_of, shared, IsNext, IsOrdered};
+ghost use Rattle.dwp_strings.specs.Places.{hash as hash_of, place_in, shared, IsNextIn, IsOrdered};
 
 use crate::buffer::Buffer;
 use crate::places::{HashedPlaces, behind};
@@ -56,15 +56,13 @@ impl Entries {
         requires open { self.old.places.is_full ≡ false }
         requires zero_free { IsZeroFree string.now }
         requires hashed { hash ≡ hash_of string.now }
-        requires none { place_of self.old.places.slots.items self.old.places.size hash ≡ None }
-        requires next { next < length self.old.places.slots.items
-            → IsNext self.old.places.slots.items self.old.places.size hash next }
+        requires none { place_in self.old.places hash ≡ None }
+        requires next { IsNextIn self.old.places hash next }
         ensures table { IsHashed self.new }
         ensures placed { IfOk result (λ some. IfSome some (IsPlaced (held self.old) (held self.new)
             string.now)) }
         ensures full { IfOk result (λ some. IsNone some → (held self.new ≡ held self.old)
-            × IsOrdered self.new.places.slots.items self.new.places.size self.new.places.is_full
-            hash) }
+            × IsOrdered self.new.places hash) }
         ensures kept { take (length (held self.old)) (held self.new) ≡ held self.old }
         ensures err { OnErr result (held self.new ≡ held self.old) }
     {
@@ -90,14 +88,13 @@ impl Entries {
         requires table { IsHashed self.old }
         requires zero_free { IsZeroFree string.now }
         requires hashed { hash ≡ hash_of string.now }
-        requires has { place_of self.old.places.slots.items self.old.places.size hash
-            ≡ Some place }
+        requires has { place_in self.old.places hash ≡ Some place }
         requires own { place ≢ shared }
         ensures table { IsHashed self.new }
         ensures placed { IfOk result (λ some. IfSome some (IsPlaced (held self.old) (held self.new)
             string.now)) }
         ensures none { IfOk result (λ some. IsNone some → (held self.new ≡ held self.old)
-            × (place_of self.new.places.slots.items self.new.places.size hash ≡ Some place)) }
+            × (place_in self.new.places hash ≡ Some place)) }
         ensures kept { take (length (held self.old)) (held self.new) ≡ held self.old }
         ensures err { OnErr result (held self.new ≡ held self.old) }
     {
@@ -123,9 +120,8 @@ impl Entries {
         requires long { 32 ≤ length rest.now }
         requires ended { slice_index rest.now end ≡ 0 }
         requires hashed { hash ≡ hash_of (take end rest.now) }
-        requires none { place_of self.old.places.slots.items self.old.places.size hash ≡ None }
-        requires next { next < length self.old.places.slots.items
-            → IsNext self.old.places.slots.items self.old.places.size hash next }
+        requires none { place_in self.old.places hash ≡ None }
+        requires next { IsNextIn self.old.places hash next }
         ensures table { IsHashed self.new }
         ensures placed { IfSome result (IsPlaced (held self.old) (held self.new)
             (string_from rest.now 0)) }
@@ -165,7 +161,7 @@ impl Entries {
         let Ok(string) = string_at(bytes, place as u64) else {
             return Err(AllocError);
         };
-        match search(bytes, &self.ordered, string).place {
+        match search(bytes, &self.ordered, string).0 {
             Ok(_) => Ok(()),
             Err(rank) => self.ordered.insert(rank, place as u64),
         }
@@ -174,12 +170,10 @@ impl Entries {
     /// Lets strings share a hash that has a place: the one that begins there is kept by its order.
     pub fn share(&mut self, hash: u32, place: usize) -> Result<(), AllocError>
         requires table { IsHashed self.old }
-        requires has { place_of self.old.places.slots.items self.old.places.size hash
-            ≡ Some place }
+        requires has { place_in self.old.places hash ≡ Some place }
         ensures table { IsHashed self.new }
         ensures same { held self.new ≡ held self.old }
-        ensures shared { OnOk result (IsOrdered self.new.places.slots.items self.new.places.size
-            self.new.places.is_full hash) }
+        ensures shared { OnOk result (IsOrdered self.new.places hash) }
     {
         self.keep_ordered(place)?;
         self.places.give(hash, u32::MAX);
@@ -191,14 +185,13 @@ impl Entries {
         requires table { IsHashed self.old }
         requires zero_free { IsZeroFree string.now }
         requires hashed { hash ≡ hash_of string.now }
-        requires ordered { IsOrdered self.old.places.slots.items self.old.places.size
-            self.old.places.is_full hash }
+        requires ordered { IsOrdered self.old.places hash }
         ensures table { IsHashed self.new }
         ensures placed { IfOk result (IsPlaced (held self.old) (held self.new) string.now) }
         ensures kept { take (length (held self.old)) (held self.new) ≡ held self.old }
         ensures err { OnErr result (held self.new ≡ held self.old) }
     {
-        let rank = match search(self.bytes.as_slice(), &self.ordered, string).place {
+        let rank = match search(self.bytes.as_slice(), &self.ordered, string).0 {
             Ok(place) => return Ok(place),
             Err(rank) => rank,
         };

@@ -85,6 +85,7 @@ fn long_hash(bytes: &[u8]) -> u64
 }
 
 /// The whole hash of a string.
+#[tactic(auto, unfolding(crate::specs::Places::wide))]
 #[inline(always)]
 fn wide_hash(string: &[u8]) -> u64
     ensures { result ≡ wide string.now }

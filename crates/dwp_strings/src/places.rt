@@ -2,7 +2,8 @@
 
 ghost use Rattle.std.specs.Prelude.{◌≡◌, ◌≢◌, ◌<◌, ◌+◌, ◌-◌, ◌^◌, ℕ, length, Some, None, IfSome};
 ghost use Rattle.std.specs.Prelude.{IsTrue, OnErr, IfOk, IfErr, true, false, slice_index_or};
-ghost use Rattle.dwp_strings.specs.Places.{free, place_of, shared, IsNext, IsSlotOf};
+ghost use Rattle.dwp_strings.specs.Places.{free, place_in, place_of, shared};
+ghost use Rattle.dwp_strings.specs.Places.{IsNext, IsNextIn, IsSlotOf};
 
 use std::alloc::Global;
 
@@ -38,6 +39,7 @@ pub(crate) fn behind(place: usize) -> Option<u32>
 }
 
 /// The slot of a hash, or the one that is next for it, past all if none is.
+#[tactic(auto, using(crate::proofs::PlacesLemmas::passed_more))]
 #[inline(always)]
 fn find(slots: &[Slot], size: u32, hash: u32) -> Result<usize, usize>
     ensures found { IfOk result (IsSlotOf slots.now size hash) }
@@ -112,14 +114,6 @@ fn put_again(slots: &mut [Slot], size: u32, others: &[Slot]) -> Option<usize>
     Some(used)
 }
 
-/// At how many slots hashes are to begin, where they begin at so many now.
-fn more_than(size: u32) -> u32 {
-    SIZES
-        .into_iter()
-        .find(|next| size < *next)
-        .unwrap_or(size.saturating_mul(2))
-}
-
 /// How many slots are used at most, where hashes begin at so many: five of eight.
 fn most(size: u32) -> usize {
     size as usize / 8 * 5
@@ -157,12 +151,10 @@ impl HashedPlaces {
     /// The place that a hash has, or the slot that is next for it.
     #[inline(always)]
     pub fn seek(&self, hash: u32) -> Result<usize, usize>
-        ensures found { IfOk result (λ place.
-            place_of self.now.slots.items self.now.size hash ≡ Some place) }
+        ensures found { IfOk result (λ place. place_in self.now hash ≡ Some place) }
         ensures fits { IfOk result (λ place. place < 2 ^ 32) }
-        ensures none { OnErr result (place_of self.now.slots.items self.now.size hash ≡ None) }
-        ensures next { IfErr result (λ number. number < length self.now.slots.items
-            → IsNext self.now.slots.items self.now.size hash number) }
+        ensures none { OnErr result (place_in self.now hash ≡ None) }
+        ensures next { IfErr result (IsNextIn self.now hash) }
     {
         let number = find(&self.slots, self.size, hash)?;
         Ok(self.slots[number].behind as usize - 1)
@@ -172,12 +164,14 @@ impl HashedPlaces {
     fn grown(&self, slot: Slot) -> Option<HashedPlaces>
         requires some { slot.behind ≢ 0 }
         ensures entered { IfSome result (λ new. (n : ℕ) → n + 1 ≡ slot.behind
-            → place_of new.slots.items new.size slot.hash ≡ Some n) }
-        ensures kept { IfSome result (λ new. (h n : ℕ)
-            → place_of self.now.slots.items self.now.size h ≡ Some n
-            → place_of new.slots.items new.size h ≡ Some n) }
+            → place_in new slot.hash ≡ Some n) }
+        ensures kept { IfSome result (λ new. (h n : ℕ) → place_in self.now h ≡ Some n
+            → place_in new h ≡ Some n) }
     {
-        let size = more_than(self.size);
+        let size = SIZES
+            .into_iter()
+            .find(|next| self.size < *next)
+            .unwrap_or(self.size.saturating_mul(2));
         let count = (size as usize).saturating_add(PROBES);
         let mut slots = Vec::from_elem(self.alloc, FREE, count).ok()?;
         let used = put_again(&mut slots, size, &self.slots)?;
@@ -198,9 +192,8 @@ impl HashedPlaces {
     fn enter_in_more(&mut self, slot: Slot) -> bool
         requires some { slot.behind ≢ 0 }
         ensures entered { IsTrue result → (n : ℕ) → n + 1 ≡ slot.behind
-            → place_of self.new.slots.items self.new.size slot.hash ≡ Some n }
-        ensures kept { (h n : ℕ) → place_of self.old.slots.items self.old.size h ≡ Some n
-            → place_of self.new.slots.items self.new.size h ≡ Some n }
+            → place_in self.new slot.hash ≡ Some n }
+        ensures kept { (h n : ℕ) → place_in self.old h ≡ Some n → place_in self.new h ≡ Some n }
         ensures slots { result ≡ false → self.new.slots.items ≡ self.old.slots.items }
         ensures size { result ≡ false → self.new.size ≡ self.old.size }
         ensures full { result ≡ false → self.new.is_full ≡ true }
@@ -220,16 +213,12 @@ impl HashedPlaces {
     /// slots; false where that can't be, and then no more are entered.
     pub fn enter(&mut self, hash: u32, next: usize, place: usize) -> bool
         requires open { self.old.is_full ≡ false }
-        requires none { place_of self.old.slots.items self.old.size hash ≡ None }
-        requires next { next < length self.old.slots.items
-            → IsNext self.old.slots.items self.old.size hash next }
-        ensures entered { IsTrue result
-            → place_of self.new.slots.items self.new.size hash ≡ Some place }
+        requires none { place_in self.old hash ≡ None }
+        requires next { IsNextIn self.old hash next }
+        ensures entered { IsTrue result → place_in self.new hash ≡ Some place }
         ensures fits { IsTrue result → place < shared }
-        ensures kept { (h n : ℕ) → place_of self.old.slots.items self.old.size h ≡ Some n
-            → place_of self.new.slots.items self.new.size h ≡ Some n }
-        ensures none { result ≡ false
-            → place_of self.new.slots.items self.new.size hash ≡ None }
+        ensures kept { (h n : ℕ) → place_in self.old h ≡ Some n → place_in self.new h ≡ Some n }
+        ensures none { result ≡ false → place_in self.new hash ≡ None }
         ensures full { result ≡ false → self.new.is_full ≡ true }
     {
         let Some(behind) = behind(place) else {
@@ -250,10 +239,9 @@ impl HashedPlaces {
     /// Gives a hash that has a place another one, which is one less than `behind`.
     pub fn give(&mut self, hash: u32, behind: u32)
         requires some { behind ≢ 0 }
-        ensures given { (n : ℕ) → place_of self.old.slots.items self.old.size hash ≡ Some n
-            → place_of self.new.slots.items self.new.size hash ≡ Some (behind - 1) }
-        ensures others { (h : ℕ) → h ≢ hash → place_of self.new.slots.items self.new.size h
-            ≡ place_of self.old.slots.items self.old.size h }
+        ensures given { (n : ℕ) → place_in self.old hash ≡ Some n
+            → place_in self.new hash ≡ Some (behind - 1) }
+        ensures others { (h : ℕ) → h ≢ hash → place_in self.new h ≡ place_in self.old h }
         ensures full { self.new.is_full ≡ self.old.is_full }
     {
         if let Ok(number) = find(&self.slots, self.size, hash) {

@@ -144,16 +144,6 @@ fn room_at(
     Ok(if rank < starts[at + 1] { at } else { at + 1 })
 }
 
-/// Keeps the numbers of a chunk that are below a limit.
-fn keep(chunks: &mut Vec<Vec<u64>>, at: usize, limit: u64)
-    requires { at < vec_len chunks.old }
-    ensures { pieces chunks.new.items ≡ slice_set (pieces chunks.old.items) at
-        (filter (λ p. nat_lt p limit) (slice_index_or (pieces chunks.old.items) at [])) }
-{
-    let chunk = &mut chunks[at];
-    chunk.retain(|p| *p < limit);
-}
-
 /// Keeps the numbers below a limit, and gives how many they are.
 #[tactic(auto, using(crate::proofs::ChunkLemmas::counts))]
 fn keep_all(chunks: &mut Vec<Vec<u64>>, starts: &mut [usize], limit: u64) -> usize
@@ -166,9 +156,10 @@ fn keep_all(chunks: &mut Vec<Vec<u64>>, starts: &mut [usize], limit: u64) -> usi
 {
     let mut total = 0;
     for at in 0..starts.len() {
-        keep(chunks, at, limit);
         starts[at] = total;
-        total += chunks[at].len();
+        let chunk = &mut chunks[at];
+        chunk.retain(|p| *p < limit);
+        total += chunk.len();
     }
     total
 }
@@ -195,6 +186,7 @@ impl Positions {
     }
 
     /// The number of a rank, and its chunk. The chunk `near` is tried first.
+    #[tactic(auto, using(crate::proofs::ChunkLemmas::counts, crate::proofs::ChunkLemmas::first_start, crate::proofs::ChunkLemmas::some_piece))]
     pub fn get_near(&self, rank: usize, near: usize) -> (u64, usize)
         requires { rank < length self.now }
         ensures { result.0 ≡ slice_index self.now rank }
@@ -221,6 +213,7 @@ impl Positions {
     }
 
     /// Keeps the numbers below a limit, in their order.
+    #[tactic(auto, using(crate::proofs::ChunkLemmas::counts, crate::proofs::ChunkLemmas::concat_filter))]
     pub fn keep_below(&mut self, limit: u64)
         ensures { self.new ≡ filter (λ p. nat_lt p limit) self.old }
     {

@@ -45,9 +45,7 @@ pub struct StringTable {
 /// The place behind a string, where four bytes hold it.
 #[inline(always)]
 fn behind(place: usize, length: usize) -> u32 {
-    let place = (place % 0x1_0000_0000) as u32;
-    let length = (length % 0x1_0000_0000) as u32;
-    place.wrapping_add(length).wrapping_add(1)
+    (place.wrapping_add(length).wrapping_add(1) % 0x1_0000_0000) as u32
 }
 
 impl Model for StringTable {
@@ -89,6 +87,7 @@ impl StringTable {
     }
 
     /// The content of `.debug_str.dwo`: each string and a zero byte.
+    #[tactic(auto, using(crate::proofs::HashedLemmas::hashed_table))]
     pub fn data(&self) -> &[u8]
         ensures whole { result.now ≡ data_of self.now }
         ensures table { IsTable self.now }
@@ -97,6 +96,7 @@ impl StringTable {
     }
 
     /// The offset of a string, where the table has it, and how many strings were compared.
+    #[tactic(auto, using(crate::proofs::HashedLemmas::positions_few))]
     pub fn find_counted(&self, string: &[u8]) -> (Option<usize>, u32)
         ensures found { IsSome result.0 ↔ Contains self.now string.now }
         ensures offset { IfSome result.0 (λ offset. offset ≡ offset_of self.now string.now) }
@@ -115,9 +115,9 @@ impl StringTable {
         };
         if place == SHARED {
             let found = search(self.entries.bytes.as_slice(), &self.entries.ordered, string);
-            return match found.place {
-                Ok(place) => (Some(place), found.compared),
-                Err(_) => (None, found.compared),
+            return match found.0 {
+                Ok(place) => (Some(place), found.1),
+                Err(_) => (None, found.1),
             };
         }
         if stands_at(self.entries.bytes.as_slice(), place, string) {
@@ -224,6 +224,7 @@ impl StringTable {
     }
 
     /// The content of `.debug_str.dwo`.
+    #[tactic(auto, using(crate::proofs::HashedLemmas::hashed_table))]
     pub fn finish(self) -> Vec<u8>
         ensures whole { result.items ≡ data_of self }
         ensures table { IsTable self }

@@ -17,7 +17,7 @@ use Rattle.dwp_bytes.specs.declared.encoding.Format.TheVariants.{Dwarf32, Dwarf6
 use Rattle.dwp_strings.proofs.Named.{has, has_Decides, read_free, read_later, string_was, used}
 use Rattle.dwp_strings.specs.Strings.{IsTable, offset_of}
 use Rattle.thorin_errors.specs.Answers.{as_error}
-use Rattle.thorin_strings.specs.Rewritten.{NamesOneString, NamesTheSame}
+use Rattle.thorin_strings.specs.Rewritten.{NamesTheSame}
 use Rattle.thorin_strings.proofs.RemapLemmas.{kept_more}
 
 -- a number that fits is written in so many bytes, and read from them
@@ -80,26 +80,6 @@ module _ (order : Endianness) (encoding : Encoding) (section bytes : List ℕ) w
     pub there : (has strings string ≡ true) × (offset_of strings string ≡ offset)
     pub fits : offset ≤ offset_limit encoding.format
 
-  entry_names : (index : ℕ) (strings : List (List ℕ)) (entry : ℕ × List (List ℕ)) → IsTable strings
-      → remapped_entry order encoding section bytes index strings ≡ Ok entry → IsTable entry.1
-      × (take (length strings) entry.1 ≡ strings) × EntryNames index entry.1 entry.0
-  unfolding remapped_entry fitting_offset
-  entry_names index strings entry table h =
-      let named = bind-was (named_at order encoding section bytes index) _ entry h in
-      let fit = bind-was (fitting_offset encoding.format (offset_of strings named.0)) _ _ named.2 in
-      let fits = guard-ok (ltb (offset_limit encoding.format) _) _ _ fit.0 fit.1 in
-      let next = used strings named.0 table (named_free index named.0 named.1) in
-      rw (← same-ok _ _ fit.2) (
-        next.table,
-        next.kept,
-        record {
-          string = named.0;
-          old = named.1;
-          there = (next.there, next.offset ∙ fits.1);
-          fits = omega (arith, ltb-false _ _ fits.0, fits.1);
-        },
-      )
-
   -- so many first entries
   pub record EntriesKeep (n : ℕ) (before : List (List ℕ)) (offsets : List ℕ)
       (after : List (List ℕ)) : Type 0 where
@@ -111,23 +91,31 @@ module _ (order : Endianness) (encoding : Encoding) (section bytes : List ℕ) w
   pub entries_keep : (n : ℕ) (before : List (List ℕ)) (entries : List ℕ × List (List ℕ))
       → IsTable before → remapped_entries order encoding section bytes n before ≡ Ok entries
       → EntriesKeep n before entries.0 entries.1
-  unfolding remapped_entries
+  unfolding remapped_entries remapped_entry fitting_offset
   entries_keep zero before entries table h = grind (arith, take_all)
   entries_keep (suc n) before entries table h =
       let first = bind-was (remapped_entries order encoding section bytes n before) _ entries h in
       let entry = bind-was (remapped_entry order encoding section bytes n first.0.1) _
       entries first.2 in
       let all = entries_keep n before first.0 table first.1 in
-      let one = entry_names n first.0.1 entry.0 all.table entry.1 in
-      rw (← same-ok _ _ entry.2) (record {
-        table = one.0;
-        kept = kept_more before first.0.1 entry.0.1 all.kept one.1;
-        long = omega (arith, length-append first.0.0 (entry.0.0 ∷ []), all.long);
+      let named = bind-was (named_at order encoding section bytes n) _ entry.0 entry.1 in
+      let fit = bind-was (fitting_offset encoding.format (offset_of first.0.1 named.0)) _ _ named.2 in
+      let fits = guard-ok (ltb (offset_limit encoding.format) _) _ _ fit.0 fit.1 in
+      let next = used first.0.1 named.0 all.table (named_free n named.0 named.1) in
+      rw (← same-ok _ _ entry.2, ← same-ok _ _ fit.2) (record {
+        table = next.table;
+        kept = kept_more before first.0.1 _ all.kept next.kept;
+        long = omega (arith, length-append first.0.0 (fit.0 ∷ []), all.long);
         each = λ i less. ⊎_elim
-            (λ last. rw (get_or_push first.0.0 entry.0.0 0 i (all.long ∙ sym last), last) one.2)
+            (λ last. rw (get_or_push first.0.0 fit.0 0 i (all.long ∙ sym last), last) (record {
+              string = named.0;
+              old = named.1;
+              there = (next.there, next.offset ∙ fits.1);
+              fits = omega (arith, ltb-false _ _ fits.0, fits.1);
+            }))
             (λ other. let old = all.each i (omega arith) in
-            let there = there_later first.0.1 entry.0.1 old.string one.1 old.there.0 in
-            let same = get_or_append_left first.0.0 (entry.0.0 ∷ []) 0 i
+            let there = there_later first.0.1 _ old.string next.kept old.there.0 in
+            let same = get_or_append_left first.0.0 (fit.0 ∷ []) 0 i
             (omega (arith, all.long)) in
             rw same (record {
               string = old.string;
@@ -137,53 +125,42 @@ module _ (order : Endianness) (encoding : Encoding) (section bytes : List ℕ) w
             })) (cases_eq i n);
       })
 
-  -- a header and so many entries
-  module _ (header offsets : List ℕ) (n : ℕ) (front : length header ≡ header_size encoding)
-      (many : length offsets ≡ n) where
-    range_long : length (header ++ entry_bytes order encoding.format offsets)
-        ≡ header_size encoding + n * offset_size encoding.format
-    range_long = grind (arith, entries_long, length-append)
-
-    one_named : (strings : List (List ℕ)) (i : ℕ) → i < n
-        → EntryNames i strings (get_or offsets i 0) → NamesOneString order encoding section bytes
-        (header ++ entry_bytes order encoding.format offsets) strings i
-    unfolding named_at offset_at
-    one_named strings i less entry =
-        let width = offset_size encoding.format in
-        let tail = entry_bytes order encoding.format offsets in
-        let read = entry_read order encoding.format offsets i (omega (arith, many)) entry.fits in
-        let past = drop_at header tail (header_size encoding) front in
-        record {
-          string = entry.string;
-          there = (has_Decides strings entry.string).0 entry.there.0;
-          old = entry.old;
-          new = λ final table kept. (let free = named_free i entry.string entry.old in
-              let found = read_later strings final entry.string kept free entry.there.0 in
-              let room = row_fits i width n width less in
-              grind (arith, range_long, drop-drop, read, found));
-        }
-
   pub range_named : (size : ℕ) (before : List (List ℕ)) (range : List ℕ × List (List ℕ))
       → IsTable before → remapped order encoding section bytes size before ≡ Ok range
       → NamesTheSame order encoding section bytes size before range.0 range.1
-  unfolding remapped
+  unfolding remapped named_at offset_at
   range_named size before range table h = by-bool _ (eqb size 0)
       (λ empty. grind (arith, take_all, eqb-true size 0 empty))
       (λ some. by-choice _ (ltb size (header_size encoding)) _ _ _ (rw some at h) (λ e. absurd cc)
       (λ whole. let n = entry_count encoding size in
-      let header = bind-was (header_of order encoding (n * offset_size encoding.format)) _ range
-      whole in
+      let width = offset_size encoding.format in
+      let header = bind-was (header_of order encoding (n * width)) _ range whole in
       let entries = bind-was (remapped_entries order encoding section bytes n before) _ range
       header.2 in
       let keep = entries_keep n before entries.0 table entries.1 in
-      let front = header_long order encoding (n * offset_size encoding.format) header.0 header.1 in
-      let long = range_long header.0 entries.0.0 n front keep.long in
+      let front = header_long order encoding (n * width) header.0 header.1 in
+      let tail = entry_bytes order encoding.format entries.0.0 in
+      let long : length (header.0 ++ tail) ≡ header_size encoding + n * width =
+      grind (arith, entries_long, length-append, front, keep.long) in
       rw (← same-ok _ _ entries.2) (record {
         table = keep.table;
         kept = keep.kept;
         count = grind (arith, long);
         none = λ is_zero. absurd (eqb-false size 0 some is_zero);
         long = λ _. long;
-        named = λ i less. one_named header.0 entries.0.0 n front keep.long entries.0.1 i less
-            (keep.each i less);
+        named = λ i less.
+            let entry = keep.each i less in
+            let read = entry_read order encoding.format entries.0.0 i (omega (arith, less, keep.long))
+            entry.fits in
+            let past = drop_at header.0 tail (header_size encoding) front in
+            record {
+              string = entry.string;
+              there = (has_Decides entries.0.1 entry.string).0 entry.there.0;
+              old = entry.old;
+              new = λ final table kept.
+                  (let free = named_free i entry.string entry.old in
+                  let found = read_later entries.0.1 final entry.string kept free entry.there.0 in
+                  let room = row_fits i width n width less in
+                  grind (arith, long, past, drop-drop, read, found));
+            };
       })))

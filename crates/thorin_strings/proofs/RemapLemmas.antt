@@ -76,17 +76,11 @@ in_range Dwarf32 index front size = grind (arith, nat_tests)
 in_range Dwarf64 index front size = grind (arith, nat_tests)
 
 -- the offset that was read of an entry
-module _ (order : Endianness) (encoding : Encoding) (bytes : List ℕ) (index : ℕ) where
-  pub entry_was : (named : ℕ) → entry_in order encoding bytes index ≡ Some named
-      → entry_at order encoding bytes index ≡ Ok named
-  unfolding entry_in offset_at
-  entry_was named is =
-      grind (arith, in_range encoding.format index (header_size encoding) (length bytes))
-
-  no_entry : entry_in order encoding bytes index ≡ None
-      → entry_at order encoding bytes index ≡ Err (OffsetAtIndex UnexpectedEof index)
-  unfolding entry_in offset_at
-  no_entry is = grind (arith, in_range encoding.format index (header_size encoding) (length bytes))
+pub entry_was : (order : Endianness) (encoding : Encoding) (bytes : List ℕ) (index named : ℕ)
+    → entry_in order encoding bytes index ≡ Some named → entry_at order encoding bytes index ≡ Ok named
+unfolding entry_in offset_at
+entry_was order encoding bytes index named is =
+    grind (arith, in_range encoding.format index (header_size encoding) (length bytes))
 
 -- a string that was read and used, and is to fit the format
 module _ (format : Format) (section : List ℕ) (named place : ℕ) (old new : List (List ℕ))
@@ -109,18 +103,12 @@ module _ (order : Endianness) (encoding : Encoding) (section bytes : List ℕ) (
   unfolding named_at remapped_entry fitting_read
   entry_is named old entry = rw entry refl
 
-  pub entry_read : (named place : ℕ) (old new : List (List ℕ))
-      → entry_at order encoding bytes index ≡ Ok named
-      → offset_read section named old ≡ Ok (place, new) → place ≤ offset_limit encoding.format
-      → remapped_entry order encoding section bytes index old ≡ Ok (place, new)
-  entry_read named place old new entry read fits =
-      entry_is named old entry ∙ read_fitting encoding.format section named place old new read fits
-
   pub entry_absent : (old : List (List ℕ)) → entry_in order encoding bytes index ≡ None
       → remapped_entry order encoding section bytes index old
       ≡ Err (OffsetAtIndex UnexpectedEof index)
-  unfolding named_at remapped_entry
-  entry_absent old none = rw (no_entry order encoding bytes index none) refl
+  unfolding entry_in offset_at named_at remapped_entry
+  entry_absent old none =
+      grind (arith, in_range encoding.format index (header_size encoding) (length bytes))
 
 -- so many entries are rewritten behind other bytes, from the first strings to those that there are
 abbrev pub AreRewritten : Endianness → Encoding → (section bytes : List ℕ) → ℕ → List ℕ

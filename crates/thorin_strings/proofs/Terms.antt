@@ -9,7 +9,7 @@ pub use Rattle.std.proofs.Common.{append-nil, append_assoc, length-append, lengt
 pub use Rattle.std.proofs.Common.{arith, codes, get_or, length, List, rules, take-take, take_all}
 pub use Rattle.std.proofs.Common.{ap, drop, eqb, Err, None, Ok, refl, Some, suc, sym, take, zero}
 pub use Rattle.std.proofs.lemmas.Bool.{cases_eq, eq-eqb, eqb-false}
-pub use Rattle.std.proofs.{lemmas.Grind.elements, lemmas.List.Folds.list_any_at}
+pub use Rattle.std.proofs.lemmas.List.Folds.{list_any_at}
 pub use Rattle.std.proofs.lemmas.List.{flat_map_more, take_rest, with_items_is}
 pub use Rattle.std.{proofs.lemmas.Result.err_from_is_err_and, specs.Vec.with_items}
 pub use Rattle.dwp_base.{proofs.Steps.bind-was, specs.declared.endian.Endianness.Endianness}

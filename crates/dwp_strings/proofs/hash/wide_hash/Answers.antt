@@ -1,4 +1,4 @@
-use Rattle.dwp_strings.proofs.Terms.{arith, refl, rules, wide, ◌∙◌}
+use Rattle.dwp_strings.proofs.Terms.{arith, refl, ◌∙◌}
 use Rattle.dwp_strings.proofs.HashLemmas.{mixed_first, mixed_more, mixed_all}
 use Rattle.dwp_strings.proofs.hash.wide_hash.Goals as goal
 
@@ -14,7 +14,3 @@ returns-then-len-gt8 c =
     let bytes = c.args.string.now in
     c.mixed_last-then-len-gt8.ensures ∙ mixed_all bytes _ 0 _ (omega arith) refl (omega arith)
     (omega arith) (omega arith) (mixed_first bytes _ refl)
-
-pub returns : goal.returns
-unfolding wide
-returns c = search rules

@@ -1,12 +1,8 @@
-use Rattle.dwp_strings.proofs.Terms.{arith, rules}
-use Rattle.dwp_strings.proofs.PlacesLemmas.{free_past, none_of, passed_more}
+use Rattle.dwp_strings.proofs.{PlacesLemmas.free_past, PlacesLemmas.none_of, Terms.arith}
 use Rattle.dwp_strings.proofs.places.find.Goals as goal
 
 pub loop-number-init : goal.loop-number-init
 loop-number-init c = λ j low less. grind arith
-
-pub loop-number-preserved : goal.loop-number-preserved
-loop-number-preserved c = search (rules, passed_more)
 
 pub returns-then-slot-eq0-clause-none : goal.returns-then-slot-eq0-clause-none
 returns-then-slot-eq0-clause-none c = none_of _ _ c.loop-number.number c.args.size (grind arith)

@@ -1,21 +1,23 @@
-use Rattle.dwp_strings.proofs.Terms.{ap, arith, length, length-set, nat_lt, pieces, ◌+◌, ◌<◌}
+use Rattle.std.proofs.lemmas.Fn.{filter_same}
+use Rattle.dwp_strings.proofs.Terms.{List, arith, filter, get_or-set_at, length, nat_lt, pieces}
+use Rattle.dwp_strings.proofs.Terms.{rules, ℕ, ◌+◌, ◌<◌, ◌≡◌}
 use Rattle.dwp_strings.proofs.ChunkLemmas.{chunked_all, counts, kept_all, kept_more, kept_within}
-use Rattle.dwp_strings.proofs.ChunkLemmas.{length-pieces, piece_read, short_filter}
+use Rattle.dwp_strings.proofs.ChunkLemmas.{length-pieces, piece_changed, pieces-set, short_filter}
 use Rattle.dwp_strings.proofs.positions.keep_all.Goals as goal
-
-pub keep-requires : goal.keep-requires
-keep-requires c = grind (arith, length-pieces, c.loop-at.invariant.long)
-
-pub index-requires : goal.index-requires
-index-requires c = grind (arith, counts, length-set, c.loop-at.invariant.long, c.keep.ensures)
 
 pub loop-at-preserved : goal.loop-at-preserved
 loop-at-preserved c =
-    let there : c.loop-at.at < length c.keep.new.chunks.items =
-    grind (arith, length-pieces, length-set, c.loop-at.invariant.long, c.keep.ensures) in
-    let piece = piece_read _ _ c.index.result.now there c.index.ensures in
-    kept_more _ _ _ _ _ _ c.loop-at.invariant _ _ (omega arith) c.keep.ensures
-    (omega (arith, ap length piece, c.index.result.now.ok.0))
+    let chunks = c.loop-at.chunks in
+    let keep : List ℕ → List ℕ = filter (λ p. nat_lt p c.args.limit) in
+    let there : c.loop-at.at < length chunks.items =
+    grind (arith, length-pieces, c.loop-at.invariant.long, chunks.ok.0) in
+    let kept : c.retain.new.self.items ≡ keep c.index_mut-chunk.result.now.items =
+    filter_same _ (λ p. nat_lt p c.args.limit) _ (λ x b f' called. search rules) _ _
+    c.retain.ensures.filtered in
+    let changed = piece_changed chunks.items c.loop-at.at c.index_mut-chunk.result.now there
+    c.index_mut-chunk.ensures.value c.retain.new.self keep kept in
+    kept_more _ _ _ _ _ _ c.loop-at.invariant _ _ (omega arith) changed
+    (grind (arith, pieces-set, counts, get_or-set_at, there, c.retain.new.self.ok.0))
 
 pub overflow_add-total : goal.overflow_add-total
 overflow_add-total c =

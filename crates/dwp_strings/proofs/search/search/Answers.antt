@@ -1,6 +1,6 @@
 use Rattle.dwp_strings.proofs.Terms.{arith, exact_bytes, sym, ◌∙◌}
 use Rattle.dwp_strings.proofs.CompareLemmas.{before_more, behind_more, halved_more}
-use Rattle.dwp_strings.proofs.HashedLemmas.{known_offset_in, positions_within}
+use Rattle.dwp_strings.proofs.HashedLemmas.{known_offset_in}
 use Rattle.dwp_strings.proofs.search.search.Goals as goal
 
 pub overflow_add-compared : goal.overflow_add-compared
@@ -25,11 +25,10 @@ loop-low-preserved c = record {
 }
 
 pub compare_at-requires-clause-within : goal.compare_at-requires-clause-within
-compare_at-requires-clause-within c = rw c.get_near-position.ensures
-    (positions_within _ _ c.requires.table _ 0 (omega arith))
+compare_at-requires-clause-within c =
+    grind (arith, c.requires.table.begun, c.get_near-position.ensures)
 
 pub returns-in-Equal-clause-found : goal.returns-in-Equal-clause-found
-returns-in-Equal-clause-found c =
-    known_offset_in _ c.args.string.now _ c.requires.table.ended c.requires.table.distinct
+returns-in-Equal-clause-found c = known_offset_in _ _ c.args.string.now _ c.requires.table
     (rw c.get_near-position.ensures (c.requires.table.begun _ 0 (omega arith)))
     (exact_bytes _ _ (sym c.compare_at.ensures ∙ c.in-Equal.is))

@@ -7,10 +7,6 @@ returns-then-rest-string c =
     let own = tied_itself nat_list_cmp_total c.args.string.now in
     grind (arith, c.compare_at.ensures, exact_bytes, Equal-is c.compare_at.result, own)
 
-pub returns-then-rest-string-eq0 : goal.returns-then-rest-string-eq0
-returns-then-rest-string-eq0 c =
-    grind (arith, alike_at c.args.bytes.now c.args.at c.args.string.now)
-
 pub returns-else-rest-string-eq0 : goal.returns-else-rest-string-eq0
 returns-else-rest-string-eq0 c =
     grind (arith, alike_at c.args.bytes.now c.args.at c.args.string.now)

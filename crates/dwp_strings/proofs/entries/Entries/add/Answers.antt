@@ -12,7 +12,7 @@ returns c =
     let absent = unplaced e table s c.args.hash c.requires.hashed c.requires.open c.requires.none in
     let done = added e new s c.args.hash _ table c.requires.zero_free c.requires.hashed absent
     c.in_ok-append.ensures.ok c.len-place.ensures.value refl
-    (indexed_push e.bytes e.ordered s table.findable.indexed c.requires.zero_free absent)
+    (indexed_push e.bytes e.ordered s table.indexed c.requires.zero_free absent)
     (carried_kept e new c.requires.open c.enter.ensures.kept refl)
     (inl (c.if-not-enter.ensures.entered refl, c.if-not-enter.ensures.fits refl)) in
     search rules

@@ -18,8 +18,8 @@ returns c =
     let done = added e new s c.args.hash _ table free c.requires.hashed absent
     (grind (arith, ended, c.if-not-append_guessed.ensures.appended refl))
     c.len-place.ensures.value refl
-    (indexed_push e.bytes e.ordered s table.findable.indexed free absent)
+    (indexed_push e.bytes e.ordered s table.indexed free absent)
     (carried_kept e new c.if-self.false c.enter.ensures.kept refl)
     (inl (c.if-not-enter.ensures.entered refl, c.if-not-enter.ensures.fits refl)) in
-    let placed = rw (← ended_front c.args.rest.now c.args.end first) at done.placed in
+    let placed = rw (← ended_front c.args.rest.now c.args.end first) at done.1 in
     search rules

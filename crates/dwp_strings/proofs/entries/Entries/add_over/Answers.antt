@@ -1,6 +1,5 @@
 use Rattle.dwp_strings.proofs.Terms.{BeginsAt, arith, false≢true, inl, refl, rules, sym, ◌+◌, ◌∙◌}
-use Rattle.dwp_strings.proofs.HashedLemmas.{added, begins_at_offset, carried_over, indexed_push}
-use Rattle.dwp_strings.proofs.HashedLemmas.{misplaced}
+use Rattle.dwp_strings.proofs.HashedLemmas.{added, carried_over, indexed_push, misplaced}
 use Rattle.dwp_strings.proofs.entries.Entries.add_over.Goals as goal
 
 pub returns : goal.returns
@@ -16,8 +15,8 @@ returns c =
     c.requires.own (λ here. gone here.0) in
     let done = added e new s c.args.hash _ table c.requires.zero_free c.requires.hashed absent
     c.in_ok-append.ensures.ok c.len-last.ensures.value refl
-    (indexed_push e.bytes e.ordered s table.findable.indexed c.requires.zero_free absent)
+    (indexed_push e.bytes e.ordered s table.indexed c.requires.zero_free absent)
     (carried_over e new c.args.hash c.args.place c.give.ensures.full refl c.requires.has
-    c.give.ensures.others c.requires.own (λ begun. gone (begins_at_offset e table _ begun)))
+    c.give.ensures.others c.requires.own gone)
     (inl (grind (arith, c.give.ensures.given _ c.requires.has), c.in-Some.ensures.fits)) in
     search rules

@@ -1,18 +1,15 @@
 use Rattle.dwp_strings.proofs.Terms.{refl, sym, ◌∙◌}
-use Rattle.dwp_strings.proofs.HashedLemmas.{carried_among, known_offset_in, offset_there}
-use Rattle.dwp_strings.proofs.{HashedLemmas.hashed_kept, HashedLemmas.inserted_or, Named.string_was}
+use Rattle.dwp_strings.proofs.HashedLemmas.{carried_among, hashed_kept, inserted_or}
+use Rattle.dwp_strings.proofs.{HashedLemmas.known_offset_in, Named.string_was}
 use Rattle.dwp_strings.proofs.entries.Entries.keep_ordered.Goals as goal
 
-pub returns-in-Ok-place-clause-there : goal.returns-in-Ok-place-clause-there
-returns-in-Ok-place-clause-there c = λ begins.
+pub returns-in-Ok-0₀-clause-there : goal.returns-in-Ok-0₀-clause-there
+returns-in-Ok-0₀-clause-there c = λ begins.
     let e = c.args.self.now in
-    let table = c.requires.table.findable.indexed in
-    let s = c.in-Ok.string.now in
-    let found = rw (c.in-Ok-place.is, c.as_slice-bytes.ensures.value) at c.search.ensures.found in
-    let among = rw c.in-Ok-place.is at c.search.ensures.there in
+    let found = rw (c.in-Ok-0₀.is, c.as_slice-bytes.ensures.value) at c.search.ensures.found in
+    let among = rw c.in-Ok-0₀.is at c.search.ensures.there in
     let is = rw c.as_slice-bytes.ensures.value at (string_was _ _ _ c.in-Ok.ensures.meaning) in
-    let there = offset_there e.bytes c.args.place begins in
-    let known = known_offset_in e.bytes s c.args.place table.ended table.distinct there is in
+    let known = known_offset_in e.bytes _ _ c.args.place c.requires.table.indexed begins is in
     rw (found.1 ∙ sym known.1) at among
 
 pub returns-in-Err-clause-table : goal.returns-in-Err-clause-table
@@ -25,7 +22,6 @@ returns-in-Err-clause-table c =
     let begins = rw c.as_slice-bytes.ensures.value at (c.begins_at.ensures.0
     c.if-not-begins_at.false) in
     let now = inserted_or e.bytes e.ordered s c.in-Err.rank c.args.place _ c.insert.result
-    table.findable.indexed stands (offset_there e.bytes c.args.place begins) is
-    c.insert.ensures.ok c.insert.ensures.err in
+    table.indexed stands begins is c.insert.ensures.ok c.insert.ensures.err in
     let new = record e { ordered = c.insert.new.self } in
     hashed_kept e new table refl refl now.0 (carried_among e new refl now.1)

@@ -21,8 +21,8 @@ returns c =
     grind (arith, c.insert.ensures.ok) in
     let done = added e new s c.args.hash _ table c.requires.zero_free c.requires.hashed absent
     c.in_ok-append.ensures.ok c.len-place.ensures.value refl
-    (rw (inserted, long) (indexed_both e.bytes e.ordered s c.in-Err.rank
-    table.findable.indexed c.requires.zero_free stands absent))
+    (rw (inserted, long) (indexed_both e.bytes e.ordered s table.indexed c.requires.zero_free absent
+    c.in-Err.rank stands))
     (carried_among e new refl (λ p there. rw inserted (among_more e.ordered _ _ p there)))
     (inr (rw inserted (among_one e.ordered _ c.len-place.result), c.requires.ordered)) in
     search rules

@@ -1,13 +1,8 @@
 use Rattle.dwp_strings.proofs.Terms.{arith, concat, get_or, get_or_read, length, ◌-◌, ◌<◌, ◌∙◌, ◌≡◌}
-use Rattle.dwp_strings.proofs.ChunkLemmas.{first_start, length-starts_from, piece_read, some_piece}
-use Rattle.dwp_strings.proofs.{ChunkLemmas.counts, ChunkLemmas.placed, Terms.pieces, Terms.sym}
+use Rattle.dwp_strings.proofs.ChunkLemmas.{counts, piece_read, placed}
+use Rattle.dwp_strings.proofs.Terms.{pieces, sym}
 use Rattle.dwp_strings.proofs.positions.Positions.get_near.Goals.{After-index}
 use Rattle.dwp_strings.proofs.positions.Positions.get_near.Goals as goal
-
-pub chunk_of-at-requires : goal.chunk_of-at-requires
-chunk_of-at-requires c =
-    let some = some_piece (pieces c.self.inside.chunks.items) in
-    grind (arith, some, length-starts_from, first_start, c.self.view_is, c.self.invariant.begun)
 
 -- what the rank finds
 found : (c : goal.After-index) → (c.args.rank - c.index.result.now < length

@@ -1,8 +1,7 @@
 use Rattle.dwp_strings.proofs.Terms.{All-contains, Contains, IsZeroFree, arith, false, false≢true}
 use Rattle.dwp_strings.proofs.Terms.{held, offset_of, refl, sym, true, ◌↔◌, ◌∙◌, ◌≡◌}
-use Rattle.dwp_strings.proofs.HashedLemmas.{known_offset_in, misplaced, offset_there}
-use Rattle.dwp_strings.proofs.HashedLemmas.{positions_few, unordered, unplaced}
-use Rattle.dwp_strings.proofs.Named.{zero_free-strings_in, zero_within}
+use Rattle.dwp_strings.proofs.HashedLemmas.{known_offset_in, misplaced, unordered, unplaced}
+use Rattle.dwp_strings.proofs.{Named.zero_free-strings_in, Named.zero_within}
 use Rattle.dwp_strings.proofs.table.StringTable.find_counted.Goals as goal
 
 is_absent : {P : Type 0} → (P → ⊥) → (false ≡ true) ↔ P
@@ -17,18 +16,10 @@ pub returns-in-Err-2-clause-found : goal.returns-in-Err-2-clause-found
 returns-in-Err-2-clause-found c = rw (← c.self.view_is) (is_absent (unplaced _ c.self.invariant
     c.args.string.now c.hash.result c.hash.ensures c.if-self.false c.in-Err-2.ensures.none))
 
-pub returns-in-Ok-place-clause-count : goal.returns-in-Ok-place-clause-count
-returns-in-Ok-place-clause-count c = λ k few.
-    grind (arith, c.self.view_is, positions_few, c.search-found.ensures.count k)
-
-pub returns-in-Err-place-clause-count : goal.returns-in-Err-place-clause-count
-returns-in-Err-place-clause-count c = λ k few.
-    grind (arith, c.self.view_is, positions_few, c.search-found.ensures.count k)
-
-pub returns-in-Err-place-clause-found : goal.returns-in-Err-place-clause-found
-returns-in-Err-place-clause-found c =
+pub returns-in-Err-0₀-clause-found : goal.returns-in-Err-0₀-clause-found
+returns-in-Err-0₀-clause-found c =
     let absent = c.search-found.ensures.absent in
-    let stands = rw (c.in-Err-place.is, c.as_slice.ensures.value) at absent in
+    let stands = rw (c.in-Err-0₀.is, c.as_slice.ensures.value) at absent in
     rw (← c.self.view_is) (is_absent (unordered _ c.self.invariant c.args.string.now c.hash.result
     c.hash.ensures _ (grind (arith, c.match-seek.branch)) stands))
 
@@ -37,8 +28,7 @@ known : (c : goal.Then-stands_at) → Contains (held c.self.inside.entries) c.ar
     × (c.match-seek.place ≡ offset_of (held c.self.inside.entries) c.args.string.now)
 known c =
     let here = rw c.as_slice-2.ensures.value at (c.stands_at.ensures.0 c.if-stands_at.true) in
-    let table = c.self.invariant.findable.indexed in
-    known_offset_in _ _ _ table.ended table.distinct (offset_there _ _ here.0) here.1
+    known_offset_in _ _ _ _ c.self.invariant.indexed here.0 here.1
 
 pub returns-then-stands_at-clause-found : goal.returns-then-stands_at-clause-found
 returns-then-stands_at-clause-found c = rw (← c.self.view_is) (λ _. (known c).0, λ _. refl)

@@ -6,12 +6,12 @@ use Rattle.dwp_strings.proofs.table.StringTable.place.Goals as goal
 
 pub returns-then-stands_at-clause-placed : goal.returns-then-stands_at-clause-placed
 returns-then-stands_at-clause-placed c =
-    rw (← c.self.view_is) (used_there _ _ _ _ c.self.invariant.findable.indexed
+    rw (← c.self.view_is) (used_there _ _ _ _ c.self.invariant.indexed
     (rw c.as_slice.ensures.value at (c.stands_at.ensures.0 c.if-stands_at.true)))
 
 pub returns-then-stands_at-2-clause-placed : goal.returns-then-stands_at-2-clause-placed
 returns-then-stands_at-2-clause-placed c =
-    rw (← c.self.view_is) (used_there _ _ _ _ c.self.invariant.findable.indexed
+    rw (← c.self.view_is) (used_there _ _ _ _ c.self.invariant.indexed
     (rw c.as_slice-in-Ok-2.ensures.value at (c.stands_at-in-Ok-2.ensures.0 c.if-stands_at-2.true)))
 
 pub place_ordered-requires-clause-table : goal.place_ordered-requires-clause-table

@@ -1,13 +1,12 @@
-use Rattle.dwp_strings.proofs.{HashedLemmas.findable_take, Terms.arith}
+use Rattle.dwp_strings.proofs.{HashedLemmas.hashed_take, HashedLemmas.indexed_take, Terms.arith}
+use Rattle.dwp_strings.proofs.Terms.{refl}
 use Rattle.dwp_strings.proofs.table.StringTable.truncate.Goals as goal
 
 pub invariant_of-self : goal.invariant_of-self
-invariant_of-self c =
-    let new = findable_take _ _ _ _ _ _ _ c.args.self.now c.args.mark.strings c.args.mark.bytes
-    c.self.invariant.findable c.self.view_is (grind arith) c.truncate.ensures
-    c.keep_below.ensures in
-    record { findable = new.1; counted = grind (arith, new.0) }
+invariant_of-self c = hashed_take _ _ c.args.mark.strings c.args.mark.bytes c.self.invariant
+    (grind (arith, c.self.view_is)) (grind (arith, c.self.view_is)) c.truncate.ensures refl
+    c.keep_below.ensures refl
 
 pub returns : goal.returns
-returns c = (findable_take _ _ _ _ _ _ _ _ _ _ c.self.invariant.findable c.self.view_is
-    (grind arith) c.truncate.ensures c.keep_below.ensures).0
+returns c = rw (c.truncate.ensures, ← c.self.view_is) (indexed_take _ _ c.args.mark.strings
+    c.args.mark.bytes c.self.invariant.indexed (grind (arith, c.self.view_is))).0

@@ -1,24 +1,16 @@
 use Rattle.thorin_strings.proofs.Terms.{arith, offset_within, refl}
 use Rattle.thorin_strings.proofs.RemapLemmas.{ended_read, read_used}
-use Rattle.thorin_strings.proofs.table.PackageStringTable.placed.Goals.{else-is_near+in_ok-end-2}
-use Rattle.thorin_strings.proofs.table.PackageStringTable.placed.Goals.{then-is_near+in_ok-end}
 use Rattle.thorin_strings.proofs.table.PackageStringTable.placed.Goals as goal
 
 pub place-requires : goal.place-requires
 place-requires c =
     (ended_read c.args.debug_str.now _ c.args.named c.if-is_near.end (omega arith) refl
-    (elim c.if-is_near.branch [
-      | then-is_near+in_ok-end w ↦ rw w.end-is w.in_ok-end.ensures.some
-      | else-is_near+in_ok-end-2 w ↦ rw w.end-is w.in_ok-end-2.ensures.some
-    ])).1
+    (grind (arith, c.if-is_near.branch))).1
 
 pub returns-clause-meaning : goal.returns-clause-meaning
 returns-clause-meaning c =
     let read = ended_read c.args.debug_str.now _ c.args.named c.if-is_near.end (omega arith) refl
-    (elim c.if-is_near.branch [
-      | then-is_near+in_ok-end w ↦ rw w.end-is w.in_ok-end.ensures.some
-      | else-is_near+in_ok-end-2 w ↦ rw w.end-is w.in_ok-end-2.ensures.some
-    ]) in
+    (grind (arith, c.if-is_near.branch)) in
     rw (← c.self.view_is) (read_used _ _ _ _ _ _ read.0 c.in-Ok.ensures.placed)
 
 pub returns-clause-fits : goal.returns-clause-fits
