@@ -17,18 +17,7 @@ use Rattle.dwp_units.proofs.Readings.{reads_byte, reads_uleb, some_reads, test_r
 use Rattle.dwp_units.proofs.Readings.{goes, Reads, size, Takes}
 use Rattle.dwp_units.specs.AbbreviationCodes.{code_at}
 use Rattle.dwp_dwarf.specs.Grammar.{DeclarationsLie, IsBehindOthers}
-use Rattle.std.{proofs.Common.slice_index, specs.List.AllByRecursion}
-
--- a byte below 128 is a number
-pub one_byte : (i new : Input) (b : ℕ) → byte_at i ≡ Ok (b, new) → slice_index i.bytes 0 < 128
-    → uleb_at i ≡ Ok (b, new)
-unfolding uleb_at leb_at byte_at
-one_byte i new b is low = grind arith
-
--- and where none is left there is no number
-pub no_byte : (i : Input) (e : ReadError) → byte_at i ≡ Err e → uleb_at i ≡ Err e
-unfolding uleb_at leb_at
-no_byte i e is = rw is refl
+use Rattle.std.specs.List.{AllByRecursion}
 
 reads_constant : (form : ℕ) → Reads 0 (Unit {0}) (constant_at form)
 unfolding constant_at

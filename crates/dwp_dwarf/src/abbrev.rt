@@ -52,7 +52,7 @@ pub(crate) fn from_offset<R: Reader>(section: R, offset: u64) -> Result<R, ReadE
 
 /// A number of variable length. Most have one byte, which is looked at first.
 #[inline(always)]
-#[tactic(auto, using(crate::proofs::Tables::one_byte))]
+#[tactic(auto, unfolding(dwp_bytes::specs::Leb::uleb_at, dwp_bytes::specs::Leb::leb_at, dwp_bytes::specs::Input::byte_at))]
 fn read_number<R: Reader>(reader: &mut R) -> Result<u64, ReadError>
     ensures { Reads (λ x. x) result (R.input reader.old) (R.input reader.new) uleb_at }
 {
