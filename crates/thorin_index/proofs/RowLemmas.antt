@@ -25,9 +25,8 @@ abbrev pub AreNumbered : List IndexEntry → List Row → Type 0
 AreNumbered shared rows = All (λ (row : Row). row.shared < length shared) rows
 
 -- rows as they were, where more is shared
-pub kept_rows : (shared more : List IndexEntry) (rows : List Row)
-    → take (length shared) more ≡ shared → AreNumbered shared rows
-    → map (row_of more) rows ≡ map (row_of shared) rows
+pub kept_rows : (shared more : List IndexEntry) (rows : List Row) → take (length shared) more
+    ≡ shared → AreNumbered shared rows → map (row_of more) rows ≡ map (row_of shared) rows
 kept_rows shared more [] h numbered = refl
 kept_rows shared more (row ∷ rows) h numbered =
     let here : get_or more row.shared blank ≡ get_or shared row.shared blank =
@@ -37,12 +36,10 @@ kept_rows shared more (row ∷ rows) h numbered =
 
 -- rows with one more, which has its number of what they share now
 pub numbered_pushed : (shared more : List IndexEntry) (rows : List Row) (row : Row)
-    (rest : IndexEntry) → take (length shared) more ≡ shared
-    → slice_get more row.shared ≡ Some rest → AreNumbered shared rows
-    → AreNumbered more (rows ++ row ∷ [])
-numbered_pushed shared more rows row rest kept there numbered =
-    All-push (λ (r : Row). r.shared < length more) rows row
-    (λ k d less. omega (arith, at_least shared more kept, numbered k d less))
+    (rest : IndexEntry) → take (length shared) more ≡ shared → slice_get more row.shared ≡ Some rest
+    → AreNumbered shared rows → AreNumbered more (rows ++ row ∷ [])
+numbered_pushed shared more rows row rest kept there numbered = All-push (λ (r : Row). r.shared <
+    length more) rows row (λ k d less. omega (arith, at_least shared more kept, numbered k d less))
     (slice_get_within more row.shared rest there)
 
 pub pushed : (shared more : List IndexEntry) (rows : List Row) (row : Row) (rest entry : IndexEntry)
@@ -122,10 +119,9 @@ index_is order (entry ∷ entries) encoding held bytes some e table has text =
     record { rows = held; table = table; slots = has; text = rw e at text }
 
 -- what was placed stays at its place, and the last row stands in the slot that was looked at last
-pub looked_more : (ids old new looked : List ℕ) (x l : ℕ)
-    → ((y r j : ℕ) → 0 < r → IsPlacedAfter old y r j → IsPlacedAfter new y r j)
-    → (0 < l) × IsPlacedAfter new x (length ids + 1) (l - 1) → l ≤ length ids + 1
-    → IsLooked ids old looked → IsLooked (ids ++ x ∷ []) new (looked ++ l ∷ [])
+pub looked_more : (ids old new looked : List ℕ) (x l : ℕ) → ((y r j : ℕ) → 0 < r → IsPlacedAfter
+    old y r j → IsPlacedAfter new y r j) → (0 < l) × IsPlacedAfter new x (length ids + 1) (l - 1)
+    → l ≤ length ids + 1 → IsLooked ids old looked → IsLooked (ids ++ x ∷ []) new (looked ++ l ∷ [])
 looked_more ids old new looked x l stays last few looks = record {
   length_is = omega (arith, looks.length_is, length_push looked l, length_push ids x);
   each = λ r within. elim (cases_lt r (length ids)) [
@@ -163,6 +159,5 @@ one_piece f xs i d start old new lt so_far added =
 pub one_mapped : {A B : Type 0} (f : B → List ℕ) (g : A → B) (xs : List A) (i : ℕ) (d : A)
     (start old new : List ℕ) → i < length xs → old ≡ start ++ flat_map f (map g (take i xs))
     → new ≡ old ++ f (g (get_or xs i d)) → new ≡ start ++ flat_map f (map g (take (i + 1) xs))
-one_mapped f g xs i d start old new lt so_far added =
-    added ∙ rw (so_far, map_more g xs i d lt)
-    (flat_map_more f start (map g (take i xs)) (g (get_or xs i d)))
+one_mapped f g xs i d start old new lt so_far added = added ∙ rw
+    (so_far, map_more g xs i d lt) (flat_map_more f start (map g (take i xs)) (g (get_or xs i d)))

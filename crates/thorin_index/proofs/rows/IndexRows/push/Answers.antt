@@ -3,10 +3,9 @@ use Rattle.thorin_index.proofs.RowLemmas.{kept_rows, numbered_pushed, on_err, pu
 use Rattle.thorin_index.proofs.rows.IndexRows.push.Goals as goal
 
 pub returns-in_err-shared-clause-err : goal.returns-in_err-shared-clause-err
-returns-in_err-shared-clause-err c =
-    on_err c.from_residual.result (kept_rows c.self.inside.shared.items
-    c.share.new.entries.items c.self.inside.rows.items c.share.ensures.kept c.self.invariant
-    ∙ c.self.view_is)
+returns-in_err-shared-clause-err c = on_err c.from_residual.result
+    (kept_rows c.self.inside.shared.items c.share.new.entries.items
+    c.self.inside.rows.items c.share.ensures.kept c.self.invariant ∙ c.self.view_is)
 
 pub returns-in_err-push-clause-err : goal.returns-in_err-push-clause-err
 returns-in_err-push-clause-err c =
@@ -15,10 +14,9 @@ returns-in_err-push-clause-err c =
     c.share.ensures.kept c.self.invariant ∙ c.self.view_is))
 
 pub invariant_of-self-2 : goal.invariant_of-self-2
-invariant_of-self-2 c =
-    rw c.in_ok-push.ensures.items (numbered_pushed c.self.inside.shared.items
-    c.share.new.entries.items c.self.inside.rows.items _ _ c.share.ensures.kept
-    c.in_ok-shared.ensures.there c.self.invariant)
+invariant_of-self-2 c = rw c.in_ok-push.ensures.items
+    (numbered_pushed c.self.inside.shared.items c.share.new.entries.items
+    c.self.inside.rows.items _ _ c.share.ensures.kept c.in_ok-shared.ensures.there c.self.invariant)
 
 pub returns-clause-pushed : goal.returns-clause-pushed
 returns-clause-pushed c =
