@@ -6,8 +6,8 @@ use Terms.{IsPlacedAfter, List, Ok, OnErr, Result, SectionKind, Some, [], ap, ar
 use Terms.{blank, contribution_kinds, contribution_to, entry_by, entry_ids, flat_map, flat_map_more}
 use Terms.{get_or, get_or-take, get_or_append_left, get_or_default, get_or_push, identifier_of}
 use Terms.{index_version_of, inl, inr, length, length-map, length-take, length_push, map, map_more}
-use Terms.{map_push, refl, row_of, slice_get, suc, sym, take, take_more, used_sections, with_own, ℕ}
-use Terms.{◌++◌, ◌+◌, ◌-◌, ◌<◌, ◌∙◌, ◌∷◌, ◌≡◌, ◌≤◌}
+use Terms.{map_push, refl, row_of, slice_get, suc, sym, take, take-map, take_all, take_more}
+use Terms.{used_sections, with_own, ℕ, ◌++◌, ◌+◌, ◌-◌, ◌<◌, ◌∙◌, ◌∷◌, ◌≡◌, ◌≤◌}
 use Rattle.std.proofs.{lemmas.Bool.cases_lt, lemmas.Bool.Decides.nat_tests}
 use Rattle.std.proofs.lemmas.Option.{get_or_from_slice_get, slice_get_within}
 use Rattle.dwp_table.specs.{declared.object.DwarfObject.DwarfObject, Table.HasSlots}
@@ -161,3 +161,8 @@ pub one_mapped : {A B : Type 0} (f : B → List ℕ) (g : A → B) (xs : List A)
     → new ≡ old ++ f (g (get_or xs i d)) → new ≡ start ++ flat_map f (map g (take (i + 1) xs))
 one_mapped f g xs i d start old new lt so_far added = added ∙ rw
     (so_far, map_more g xs i d lt) (flat_map_more f start (map g (take i xs)) (g (get_or xs i d)))
+
+-- what is known of rows that are held, and of bytes that a loop adds
+pub ruleset rows_held = (kept_rows, numbered_pushed, pushed, row_ids, take-map)
+
+pub ruleset pieces = (map_more, take_all, take_more)
