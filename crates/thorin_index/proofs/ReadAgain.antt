@@ -4,12 +4,12 @@ use Rattle.thorin_index.proofs.Terms
 use Terms.{All, AreDistinct, Big, Bool, Contribution, Encoding, Endianness, IndexEntry, IsHashTable}
 use Terms.{IsIndexText, List, Little, None, Ok, Option, SectionKind, Some, [], ap, arith, by-bool}
 use Terms.{column_numbers, column_of, cond, contribution_kinds, contribution_to, drop, drop_at}
-use Terms.{entry_ids, eq-eqb, eqb, eqb-true, every, false, filter, filter_passes, flat_map, get_or}
+use Terms.{entry_ids, eq-eqb, eqb, eqb-true, false, filter, filter_passes, flat_map, get_or}
 use Terms.{get_or-map, get_or_default, identifier_of, index_version_of, is_some, is_used, leb}
-use Terms.{length, length-append, length-map, ltb, ltb-true, map, map-id, mul-suc, number}
-use Terms.{number_bytes, numbers_bytes, offset_or_0, option_and_then, refl, row_numbers, rows_bytes}
-use Terms.{signature_of, signatures_bytes, size_or_0, slice_get, subst, suc, sym, true, unwrap_or}
-use Terms.{used_sections, zero, ℕ, ◌&&◌, ◌*◌, ◌++◌, ◌+◌, ◌-◌, ◌<◌, ◌^◌, ◌∙◌, ◌∷◌, ◌≡◌, ◌≤◌}
+use Terms.{length, length-append, length-map, ltb, map, map-id, mul-suc, number, number_bytes}
+use Terms.{numbers_bytes, offset_or_0, option_and_then, refl, row_numbers, rows_bytes, signature_of}
+use Terms.{signatures_bytes, size_or_0, slice_get, subst, suc, sym, true, unwrap_or, used_sections}
+use Terms.{ℕ, ◌&&◌, ◌*◌, ◌++◌, ◌+◌, ◌-◌, ◌<◌, ◌^◌, ◌∙◌, ◌∷◌, ◌≡◌, ◌≤◌}
 use Rattle.std.proofs.lemmas.Nat.{from_be_bytes-to_be_bytes_4, from_be_bytes-to_be_bytes_8}
 use Rattle.std.proofs.lemmas.Nat.{from_le_bytes-to_le_bytes_4, from_le_bytes-to_le_bytes_8}
 use Rattle.dwp_index.specs.IndexBytes.{columns_at, index_of, is_slot_count, new_column, number_rows}
@@ -26,7 +26,7 @@ use Rattle.std.specs.List.{list_any, position_from, range_with_len}
 use Rattle.dwp_base.specs.{declared.section.SectionKind.TheVariants.Info, Sections.rank_of}
 use Rattle.dwp_index.proofs.{Columns.kind_of_number, NumberLists.is_some-position}
 use Rattle.dwp_index.specs.Index.{column_place, contribution, Index, range_in, Ranges, row_in}
-use Rattle.dwp_table.specs.Columns.{gnu_column, kind_of_column, standard_column}
+use Rattle.dwp_table.specs.Columns.{kind_of_column}
 use Rattle.thorin_index.specs.{EntryTests.tests_under, IndexText.version_bytes, ReadBack.index_with}
 use Rattle.thorin_index.specs.{IndexText.index_bytes, ReadRows.HasEntries, ReadRows.non_empty}
 
@@ -106,19 +106,12 @@ put_row order columns f = record {
 
 -- the numbers of columns fit their four bytes
 number_small : (version : ℕ) (kind : SectionKind) → number_of version kind < 2 ^ 32
-number_small version kind = by-bool _ (eqb version 5) (λ five. rw five
-    (ltb-true _ _ (every (λ k. ltb (unwrap_or (standard_column k) 0) (2 ^ 32)) refl kind))) (λ two.
-    rw two (ltb-true _ _ (every (λ k. ltb (unwrap_or (gnu_column k) 0) (2 ^ 32)) refl kind)))
+number_small version kind = grind arith
 
 -- a section that has a column is the one that its number names
 kind_again : (version : ℕ) (kind : SectionKind) → has_number version kind ≡ true
     → kind_of_column version (number_of version kind) ≡ Some kind
-kind_again version kind = go (column_of version kind) refl
-  where
-    go : (column : Option ℕ) → column_of version kind ≡ column → is_some column ≡ true
-        → kind_of_column version (unwrap_or column 0) ≡ Some kind
-    go None is has = absurd cc
-    go (Some n) is has = kind_of_number version n kind is
+kind_again version kind has = grind (arith, kind_of_number version)
 
 pub one_kind : (version : ℕ) (kind other : SectionKind) → has_number version kind ≡ true
     → has_number version other ≡ true → number_of version other ≡ number_of version kind
@@ -139,10 +132,8 @@ module _ (order : Endianness) (version : ℕ) (p : SectionKind → Bool)
       → rank_of kind ≡ rank → AreNew rank before
       → AreNew (rank + 1) (before ++ number_of version kind ∷ [])
   new_after rank before kind has at new other its behind =
-      let differs : eqb (number_of version kind) (number_of version other) ≡ false =
-      false_from_ne_true _ (λ same. let one = one_kind version other kind its has
-      (eqb-true _ _ same) in omega (arith, ap rank_of one)) in list_any-append _ before
-      (number_of version kind ∷ []) ∙ rw (new other its (omega arith), differs) refl
+      let more = list_any-append (λ c. eqb c (number_of version other)) before in
+      grind (arith, more, one_kind version kind other has its, new other its)
 
   abbrev AreRead : List ℕ → List SectionKind → List ℕ → Type 0
   AreRead before kinds rest = columns_at order version before (length kinds)
@@ -242,8 +233,7 @@ module _ (columns units slots : ℕ) (rest : List ℕ) where
 -- ---- the whole
 signature_fits : (ids : List ℕ) → ((r : ℕ) → get_or ids r 0 < 2 ^ 64) → (row : ℕ)
     → signature_of ids row < 2 ^ 64
-signature_fits ids h zero = omega arith
-signature_fits ids h (suc r) = h r
+signature_fits ids h row = grind (arith, h)
 
 pub index_is_read : (order : Endianness) (encoding : Encoding) (entries : List IndexEntry)
     (bytes : List ℕ) → tests_under encoding entries ≡ Ok tt
@@ -304,12 +294,10 @@ index_is_read order encoding entries bytes tests small_ids text =
 -- ---- a contribution
 range_of_numbers : (range : Option Contribution)
     → contribution (offset_or_0 range) (size_or_0 range) ≡ non_empty range
-range_of_numbers None = refl
-range_of_numbers (Some range) = refl
+range_of_numbers range = grind arith
 
 no_range : (range : Option Contribution) → is_some range ≡ false → non_empty range ≡ None
-no_range None is = refl
-no_range (Some range) is = absurd cc
+no_range range is = grind arith
 
 -- what stands at the position that was found passes
 found_at : (p : ℕ → Bool) (xs : List ℕ) (i : ℕ) → position_from p 0 xs ≡ Some i

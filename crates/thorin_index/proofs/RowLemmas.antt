@@ -2,17 +2,17 @@
 -- its hash table, and bytes that a loop adds.
 use Rattle.thorin_index.proofs.Terms
 use Terms.{All, All-push, Encoding, Endianness, Err, ErrorValue, IndexEntry, IsHashTable, IsLooked}
-use Terms.{IsPlacedAfter, List, Ok, OnErr, Result, SectionKind, Some, [], ap, arith, below_more}
-use Terms.{blank, contribution_kinds, contribution_to, entry_by, entry_ids, flat_map, flat_map_more}
+use Terms.{IsPlacedAfter, List, SectionKind, Some, [], ap, arith, below_more, blank}
+use Terms.{contribution_kinds, contribution_to, entry_by, entry_ids, flat_map, flat_map_more}
 use Terms.{get_or, get_or-take, get_or_append_left, get_or_default, get_or_push, identifier_of}
 use Terms.{index_version_of, inl, inr, length, length-map, length-take, length_push, map, map_more}
 use Terms.{map_push, refl, row_of, slice_get, suc, sym, take, take-map, take_all, take_more}
 use Terms.{used_sections, with_own, ℕ, ◌++◌, ◌+◌, ◌-◌, ◌<◌, ◌∙◌, ◌∷◌, ◌≡◌, ◌≤◌}
 use Rattle.std.proofs.{lemmas.Bool.cases_lt, lemmas.Bool.Decides.nat_tests}
 use Rattle.std.proofs.lemmas.Option.{get_or_from_slice_get, slice_get_within}
-use Rattle.dwp_table.specs.{declared.object.DwarfObject.DwarfObject, Table.HasSlots}
+use Rattle.dwp_table.specs.Table.{HasSlots}
 use Rattle.thorin_index.specs.EntryTests.{count_test, index_tests, tests_under}
-use Rattle.thorin_index.specs.{declared.rows.Own.Own, IndexText.index_bytes, IndexText.IsIndexOf}
+use Rattle.thorin_index.specs.{IndexText.index_bytes, IndexText.IsIndexOf}
 use Rattle.thorin_index.{proofs.Each.by_contribution, specs.declared.rows.Row.Row}
 
 -- a list that begins with another isn't shorter
@@ -51,20 +51,11 @@ pushed shared more rows row rest entry kept there whole numbered =
     let last = get_or_from_slice_get more row.shared rest blank there in
     map_push (row_of more) rows row ∙ rw (same, last, whole) refl
 
--- what holds whatever came holds of an error
-pub on_err : {T E P : Type 0} (r : Result T E) → P → OnErr r P
-on_err (Ok x) p = tt
-on_err (Err e) p = p
-
-own_id : (id : DwarfObject) (own : Own) (entry : IndexEntry) → (with_own id own entry).id ≡ id
-own_id id own entry = grind arith
-
 -- the identifiers of rows are those of their entries
 pub row_ids : (shared : List IndexEntry) (rows : List Row)
     → map (λ (row : Row). identifier_of row.id) rows ≡ entry_ids (map (row_of shared) rows)
 row_ids shared [] = refl
-row_ids shared (row ∷ rows) =
-    rw (own_id row.id row.own (get_or shared row.shared blank), row_ids shared rows) refl
+row_ids shared (row ∷ rows) = grind (arith, row_ids shared rows)
 
 -- ---- entries that are the same
 
@@ -154,13 +145,6 @@ pub one_piece : {A : Type 0} (f : A → List ℕ) (xs : List A) (i : ℕ) (d : A
     → new ≡ old ++ f (get_or xs i d) → new ≡ start ++ flat_map f (take (i + 1) xs)
 one_piece f xs i d start old new lt so_far added =
     added ∙ rw (so_far, take_more xs i d lt) (flat_map_more f start (take i xs) (get_or xs i d))
-
--- the same of what is made of each element
-pub one_mapped : {A B : Type 0} (f : B → List ℕ) (g : A → B) (xs : List A) (i : ℕ) (d : A)
-    (start old new : List ℕ) → i < length xs → old ≡ start ++ flat_map f (map g (take i xs))
-    → new ≡ old ++ f (g (get_or xs i d)) → new ≡ start ++ flat_map f (map g (take (i + 1) xs))
-one_mapped f g xs i d start old new lt so_far added = added ∙ rw
-    (so_far, map_more g xs i d lt) (flat_map_more f start (map g (take i xs)) (g (get_or xs i d)))
 
 -- what is known of rows that are held, and of bytes that a loop adds
 pub ruleset rows_held = (kept_rows, numbered_pushed, pushed, row_ids, take-map)

@@ -1,15 +1,7 @@
-use Rattle.thorin_index.proofs.Terms.{arith, blank, contribution_to, get_or, measure_of}
-use Rattle.thorin_index.proofs.Terms.{number_bytes, numbers_bytes, row_numbers, take_all}
-use Rattle.thorin_index.proofs.RowLemmas.{one_mapped, one_piece}
+use Rattle.thorin_index.proofs.Terms.{arith, blank, measure_of, numbers_bytes, row_numbers}
+use Rattle.thorin_index.proofs.Terms.{take_all}
+use Rattle.thorin_index.proofs.RowLemmas.{one_piece}
 use Rattle.thorin_index.proofs.index_writer.put_rows.Goals as goal
-
-pub loop-kind-preserved : goal.loop-kind-preserved
-loop-kind-preserved c =
-    let entry = get_or c.args.rows.now c.loop-position.position blank in one_mapped
-    (number_bytes c.args.order 4) (λ kind. measure_of c.args.measure (contribution_to kind entry))
-    c.args.columns.now c.loop-kind.kind-index _ _ _ _ c.loop-kind-test.true c.loop-kind.invariant
-    (rw (c.bytes_of_u32.ensures, c.of-number.ensures, c.contribution.ensures)
-    at c.in_ok-extend_from_slice.ensures.items)
 
 pub loop-position-preserved : goal.loop-position-preserved
 loop-position-preserved c = one_piece (λ entry. numbers_bytes c.args.order
