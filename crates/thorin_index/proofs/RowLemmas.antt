@@ -3,17 +3,18 @@
 use Rattle.thorin_index.proofs.Terms
 use Terms.{All, All-push, Encoding, Endianness, Err, ErrorValue, IndexEntry, IsHashTable, IsLooked}
 use Terms.{IsPlacedAfter, List, SectionKind, Some, [], ap, arith, below_more, blank}
-use Terms.{contribution_kinds, contribution_to, entry_by, entry_ids, flat_map, flat_map_more}
-use Terms.{get_or, get_or-take, get_or_append_left, get_or_default, get_or_push, identifier_of}
-use Terms.{index_version_of, inl, inr, length, length-map, length-take, length_push, map, map_more}
-use Terms.{map_push, refl, row_of, slice_get, suc, sym, take, take-map, take_all, take_more}
-use Terms.{used_sections, with_own, ℕ, ◌++◌, ◌+◌, ◌-◌, ◌<◌, ◌∙◌, ◌∷◌, ◌≡◌, ◌≤◌}
+use Terms.{contribution_kinds, contribution_to, drop_all, entry_by, entry_ids, flat_map}
+use Terms.{flat_map_more, get_or, get_or-take, get_or_append_left, get_or_default, get_or_push}
+use Terms.{identifier_of, index_version_of, inl, inr, length, length-map, length-take, length_push}
+use Terms.{map, map_more, map_push, refl, row_of, slice_get, suc, sym, take, take-map, take_all}
+use Terms.{take_more, used_sections, with_own, ℕ, ◌++◌, ◌+◌, ◌-◌, ◌<◌, ◌∙◌, ◌∷◌, ◌≡◌, ◌≤◌}
 use Rattle.std.proofs.{lemmas.Bool.cases_lt, lemmas.Bool.Decides.nat_tests}
-use Rattle.std.proofs.lemmas.Option.{get_or_from_slice_get, slice_get_within}
+use Rattle.std.proofs.lemmas.Option.{get_or_from_slice_get, slice_get-get_or, slice_get_read}
+use Rattle.std.proofs.lemmas.Option.{slice_get_within}
 use Rattle.dwp_table.specs.Table.{HasSlots}
 use Rattle.thorin_index.specs.EntryTests.{count_test, index_tests, tests_under}
-use Rattle.thorin_index.specs.{IndexText.index_bytes, IndexText.IsIndexOf}
-use Rattle.thorin_index.{proofs.Each.by_contribution, specs.declared.rows.Row.Row}
+use Rattle.thorin_index.specs.{declared.rows.Row.Row, IndexText.index_bytes, IndexText.IsIndexOf}
+use Rattle.thorin_index.proofs.Each.{by_contribution, next_passes}
 
 -- a list that begins with another isn't shorter
 pub at_least : {A : Type 0} (front all : List A) → take (length front) all ≡ front
@@ -147,6 +148,7 @@ one_piece f xs i d start old new lt so_far added =
     added ∙ rw (so_far, take_more xs i d lt) (flat_map_more f start (take i xs) (get_or xs i d))
 
 -- what is known of rows that are held, and of bytes that a loop adds
-pub ruleset rows_held = (kept_rows, numbered_pushed, pushed, row_ids, take-map)
+pub ruleset rows_held = (kept_rows, numbered_pushed, pushed, row_ids, take-map, slice_get-get_or,
+    slice_get_read, get_or_push, length_push)
 
-pub ruleset pieces = (map_more, take_all, take_more)
+pub ruleset pieces = (map_more, take_all, take_more, next_passes, drop_all)
