@@ -148,7 +148,8 @@ one_piece f xs i d start old new lt so_far added =
     added ∙ rw (so_far, take_more xs i d lt) (flat_map_more f start (take i xs) (get_or xs i d))
 
 -- what is known of rows that are held, and of bytes that a loop adds
-pub ruleset rows_held = (kept_rows, numbered_pushed, pushed, row_ids, take-map, slice_get-get_or,
-    slice_get_read, get_or_push, length_push)
+pub ruleset last_held = (slice_get-get_or, slice_get_read, get_or_push, length_push)
+
+pub ruleset rows_held = (kept_rows, numbered_pushed, pushed, row_ids, take-map, last_held)
 
 pub ruleset pieces = (map_more, take_all, take_more, next_passes, drop_all)
