@@ -3,7 +3,7 @@
 use Rattle.thorin_index.proofs.Terms
 use Terms.{All, All-push, Encoding, Endianness, Err, ErrorValue, IndexEntry, IsHashTable, IsLooked}
 use Terms.{IsPlacedAfter, List, SectionKind, Some, [], ap, arith, below_more, blank}
-use Terms.{contribution_kinds, contribution_to, drop_all, entry_by, entry_ids, flat_map}
+use Terms.{contribution_kinds, contribution_to, get_or-map, drop_all, entry_by, entry_ids, flat_map}
 use Terms.{flat_map_more, get_or, get_or-take, get_or_append_left, get_or_default, get_or_push}
 use Terms.{identifier_of, index_version_of, inl, inr, length, length-map, length-take, length_push}
 use Terms.{map, map_more, map_push, refl, row_of, slice_get, suc, sym, take, take-map, take_all}
@@ -14,7 +14,7 @@ use Rattle.std.proofs.lemmas.Option.{slice_get_within}
 use Rattle.dwp_table.specs.Table.{HasSlots}
 use Rattle.thorin_index.specs.EntryTests.{count_test, index_tests, tests_under}
 use Rattle.thorin_index.specs.{declared.rows.Row.Row, IndexText.index_bytes, IndexText.IsIndexOf}
-use Rattle.thorin_index.proofs.Each.{by_contribution, next_passes}
+use Rattle.thorin_index.proofs.Each.{by_contribution, next_fails, next_passes}
 
 -- a list that begins with another isn't shorter
 pub at_least : {A : Type 0} (front all : List A) → take (length front) all ≡ front
@@ -148,8 +148,10 @@ one_piece f xs i d start old new lt so_far added =
     added ∙ rw (so_far, take_more xs i d lt) (flat_map_more f start (take i xs) (get_or xs i d))
 
 -- what is known of rows that are held, and of bytes that a loop adds
-pub ruleset last_held = (slice_get-get_or, slice_get_read, get_or_push, length_push)
+pub ruleset last_held = (slice_get-get_or, slice_get_read, get_or_push, length_push, one_more)
 
 pub ruleset rows_held = (kept_rows, numbered_pushed, pushed, row_ids, take-map, last_held)
 
-pub ruleset pieces = (map_more, take_all, take_more, next_passes, drop_all)
+pub ruleset tests = (next_passes, next_fails, tests_of_some, not_refused)
+
+pub ruleset pieces = (map_more, take_all, take_more, drop_all, get_or-map, tests)

@@ -22,14 +22,6 @@ loop-kind-preserved c =
     contribution_kinds c.loop-kind.kind-index _ c.loop-kind-test.true
     (rw c.contribution.ensures at c.in_ok-test.ensures)) ∙ c.loop-kind.invariant
 
-pub loop-position-preserved : goal.loop-position-preserved
-loop-position-preserved c =
-    let passes = sym (rw (drop_all c.loop-kind.kind-index contribution_kinds (omega arith))
-    at c.loop-kind.invariant) in sym (next_passes
-    (contributions_test (test_of c.args.self)) c.args.rows.now c.loop-position.position blank
-    (omega (arith, c.loop-position-test.true, c.len-position-end.ensures)) passes)
-    ∙ c.loop-position.invariant
-
 pub returns-clause-passed : goal.returns-clause-passed
 returns-clause-passed c =
     let left : drop c.loop-position.position c.args.rows.now ≡ [] =
