@@ -1,11 +1,11 @@
 -- A new version has what the older one has but for one key, and older versions stay.
 use Rattle.dwp_dwarf.proofs.Terms
-use Terms.{◌%◌, ◌++◌, ◌-◌, ◌<◌, [], ap, append_assoc, arith, cond, eqb, length, length-append, List}
+use Terms.{◌++◌, ◌-◌, ◌<◌, [], ap, append_assoc, arith, cond, eqb, length, length-append, List}
 use Terms.{lt-ltb, ne_eqb, Node, None, Option, refl, slice_get, Some, suc, sym, zero, ℕ, ◌∙◌, ◌∷◌}
 use Terms.{◌≡◌, ◌≢◌, ◌≤◌}
 use Rattle.std.proofs.lemmas.Option.{slice_get_within}
-use Rattle.dwp_dwarf.specs.Versions.{node_of, held, side_of, with_side, half, older, copy_by}
-use Rattle.dwp_dwarf.specs.Versions.{copy_of, value_below, value_by, Grows}
+use Rattle.dwp_dwarf.specs.Versions.{node_of, held, side_of, with_side, half, older, copy_of}
+use Rattle.dwp_dwarf.specs.Versions.{value_below, value_by, Grows}
 
 pub grows_then : {a b c : List Node} → Grows a b → Grows b c → Grows a c
 grows_then {a} p q = record {
@@ -62,19 +62,9 @@ value_stays {old = old} (suc n) {version = version} key g p = rw (node_stays ver
 
 -- ---- the same by a copy of the node
 
-copy_side : (version key : ℕ) (node : Node) → side_of (copy_by version (Some node)) key ≡
-    older version (side_of node key)
-copy_side version key node = grind arith
-
-none_side : (version key : ℕ) → side_of (copy_by version None) key ≡ 0
-none_side version key = grind arith
-
 copy_within : (nodes : List Node) (version key : ℕ)
     → side_of (copy_of nodes version) key ≤ length nodes
-copy_within nodes zero key = grind (arith, none_side 0 key)
-copy_within nodes (suc i) key =
-    let within = slice_get_within nodes i in
-    grind (arith, none_side (suc i) key, within, copy_side (suc i) key, older_within (suc i))
+copy_within nodes version key = grind (arith, slice_get_within nodes, older_within version)
 
 -- what a node has whose sides are older
 abbrev node_has : ℕ → List Node → Node → ℕ → Option ℕ
@@ -86,7 +76,7 @@ by_copy : (levels : ℕ) (nodes : List Node) (version key : ℕ) → levels ≢ 
 by_copy levels nodes version key some =
     let one = one_level levels nodes version key some in
     let none = none_below (levels - 1) nodes 0 (half key) in
-    grind (arith, one, none_side version key, copy_side version key, none)
+    grind (arith, one, none)
 
 -- a node that was added
 pub added_has : (levels : ℕ) (nodes : List Node) (added key : ℕ) (b : Node) → levels ≢ 0
@@ -123,21 +113,6 @@ others_here levels old new version added key value copy some here is g above now
     (omega (arith, fits, above)) (λ e. absurd (apart (e ∙ sym here)))
     (λ _. value_stays (levels - 1) (half other) g fits)
 
--- two keys of one side are one where they are alike behind it
-halves_apart : (key other : ℕ) → key ≢ 0 → other ≢ 0 → key % 2 ≡ other % 2
-    → half other ≡ half key → other ≡ key
-halves_apart key other p q sides same = omega arith
-
-side_alike : (node : Node) (k j : ℕ) → k % 2 ≡ j % 2 → side_of node k ≡ side_of node j
-side_alike node k j e = ap (λ (m : ℕ). cond (eqb m 0) node.even node.odd) e
-
-value_with : (node : Node) (key low : ℕ) → (with_side node key low).value ≡ node.value
-value_with node key low = grind arith
-
-side_with : (node : Node) (key low other : ℕ) → side_of (with_side node key low) other
-    ≡ cond (eqb (other % 2) (key % 2)) low (side_of node other)
-side_with node key low other = grind arith
-
 module _ {old mid new : List Node} (levels version added low key : ℕ) (copy : Node)
     (some : levels ≢ 0) (there : key ≢ 0) (copied : copy ≡ copy_of old version)
     (before : Grows old mid) (behind : Grows mid new) (fits : low ≤ length mid)
@@ -147,7 +122,7 @@ module _ {old mid new : List Node} (levels version added low key : ℕ) (copy : 
   value_beside has =
       let here = added_has levels new added key (with_side copy key low) some now in
       let stays = value_stays (levels - 1) (half key) behind fits in
-      grind (arith, side_with copy key low key, here, stays)
+      grind (arith, here, stays)
 
   pub others_beside : ((k : ℕ) → k ≢ half key → value_below (levels - 1) mid low k
       ≡ value_below (levels - 1) old (side_of copy key) k) → (other : ℕ)
@@ -156,11 +131,7 @@ module _ {old mid new : List Node} (levels version added low key : ℕ) (copy : 
       let fits_copy = rw (← copied) at (copy_within old version other) in
       let by =
       others_by levels old new version added other (with_side copy key low) copy some copied now in
-      let value = value_with copy key low in
       let up = value_stays (levels - 1) (half other) behind fits in
       let stays = value_stays (levels - 1) (half other) (grows_then before behind) fits_copy in
-      let halves = halves_apart key other there in
-      let side = side_with copy key low other in
-      let alike = side_alike copy other key in
       let long = grows_length before in
-      grind (arith, long, fits_copy, side, by, value, up, stays, same (half other), halves, alike)
+      grind (arith, long, fits_copy, by, up, stays, same (half other))

@@ -17,18 +17,7 @@ use Rattle.dwp_units.proofs.Readings.{reads_byte, reads_uleb, some_reads, test_r
 use Rattle.dwp_units.proofs.Readings.{goes, Reads, size, Takes}
 use Rattle.dwp_units.specs.AbbreviationCodes.{code_at}
 use Rattle.dwp_dwarf.specs.Grammar.{DeclarationsLie, IsBehindOthers}
-use Rattle.std.{proofs.Common.slice_index, specs.List.AllByRecursion}
-
--- a byte below 128 is a number
-pub one_byte : (i new : Input) (b : ℕ) → byte_at i ≡ Ok (b, new) → slice_index i.bytes 0 < 128
-    → uleb_at i ≡ Ok (b, new)
-unfolding uleb_at leb_at byte_at
-one_byte i new b is low = grind arith
-
--- and where none is left there is no number
-pub no_byte : (i : Input) (e : ReadError) → byte_at i ≡ Err e → uleb_at i ≡ Err e
-unfolding uleb_at leb_at
-no_byte i e is = rw is refl
+use Rattle.std.specs.List.{AllByRecursion}
 
 reads_constant : (form : ℕ) → Reads 0 (Unit {0}) (constant_at form)
 unfolding constant_at
@@ -107,15 +96,11 @@ pairs_are (suc n) i = then_gives (was (specification_at i))
     (λ first is. test_gives (is_last first.0) (λ last. value_gives (rw (is, last) refl)) (λ other.
     then_gives (pairs_are n first.1) (λ rest same. value_gives (rw (is, other, same) refl))))
 
-pub list_pairs : (i : Input)
-    → Gives (List Specification × Input) (specifications_at i) (λ p. pairs_in i ≡ p.0)
-unfolding specifications_at pairs_in
-list_pairs i = pairs_are (size i) i
-
 -- a list that was passed over has the pairs that can be read there
 pub passed_list : (i j : Input) → past_specifications i ≡ Ok j
     → specifications_at i ≡ Ok (pairs_in i, j)
-passed_list i j e = grind (arith, (list_pairs i).gives)
+unfolding specifications_at pairs_in
+passed_list i j e = grind (arith, (pairs_are (size i) i).gives)
 
 -- ---- a declaration
 
@@ -185,24 +170,6 @@ next_takes i x e = (next_gives i).gives (Some x) e
 pub next_shorter : (i : Input) (x : Next) → next_at i ≡ Ok (Some x)
     → length x.1.bytes < length i.bytes
 next_shorter i x e = omega (arith, goes_length (next_takes i x e).goes)
-
--- a code and a declaration behind it
-pub next_is : (i : Input) {j k : Input} {code : ℕ} {d : Declaration} → code_at i ≡ Ok (code, j)
-    → code ≢ 0 → declaration_at j ≡ Ok (d, k) → next_at i ≡ Ok (Some ((code, d), k))
-unfolding next_at
-next_is i coded some read = rw (coded, ne_eqb _ 0 some, read) refl
-
--- a declaration with the pairs that can be read behind its byte on children
-abbrev with_pairs : ℕ → Bool × Input → Declaration
-with_pairs tag children =
-    record { tag = tag; children = children.0; specifications = pairs_in children.1 }
-
--- a declaration that is known to stand there has its tag, its byte on children and those pairs
-pub known_is : (i : Input) (code tag : ℕ × Input) (children : Bool × Input)
-    (x : (ℕ × Declaration) × Input) → code_at i ≡ Ok code → tag_at code.1 ≡ Ok tag
-    → children_at tag.1 ≡ Ok children → next_at i ≡ Ok (Some x) → x.0.1 ≡ with_pairs tag.0 children
-unfolding next_at declaration_at
-known_is i code tag children x h t c e = grind (arith, (list_pairs children.1).gives)
 
 -- ---- a look-up
 

@@ -2,18 +2,19 @@
 -- before it.
 use Rattle.dwp_dwarf.proofs.Terms
 use Terms.{◌++◌, ◌-◌, ◌>>=◌, [], ap, arith, attribute_at, attributes, byte_at, cond, DebugAttribute}
-use Terms.{DebugEntry, Declaration, declaration, Encoding, entry, eqb, eqb-true, Err, Fixed, front}
-use Terms.{Goes, IfSome, Input, layout_of, leb_at, List, map, named_form_at, None, Ok, ok_or}
-use Terms.{Option, past_value, ReadError, refl, Result, Some, Specification, suc, sym, uleb_at}
-use Terms.{UnexpectedEof, Unit, UnknownCode, UnknownForm, value_at, zero, ℕ, ◌∙◌, ◌∷◌, ◌≡◌, ◌≢◌}
+use Terms.{DebugEntry, Declaration, declaration, Encoding, eqb, eqb-true, Err, Fixed, front, Goes}
+use Terms.{IfSome, Input, layout_of, leb_at, List, map, named_form_at, None, Ok, ok_or, Option}
+use Terms.{past_value, ReadError, refl, Result, Some, Specification, suc, uleb_at, Unit}
+use Terms.{UnknownCode, UnknownForm, value_at, zero, ℕ, ◌∙◌, ◌∷◌, ◌≡◌, ◌≢◌}
 use Rattle.dwp_units.proofs.Readings.{error_gives, number_goes, test_gives, then_gives, value_gives}
 use Rattle.dwp_units.proofs.Readings.{goes_some, goes_then, reads_sleb, reads_uleb, size, skip_goes}
 use Rattle.dwp_units.proofs.Readings.{Answer, by_step, Gives, goes, goes_none, shorter, Steps, was}
-use Rattle.dwp_units.proofs.Readings.{bind_alike, goes_after, more_gives, reads_byte, then_split}
+use Rattle.dwp_units.proofs.Readings.{bind_alike, bind-bind, bind-cond, goes_after, more_gives}
+use Rattle.dwp_units.proofs.Readings.{reads_byte, then_split}
 use Rattle.dwp_bytes.specs.Input.{after, found_at}
-use Rattle.dwp_dwarf.specs.Entries.{entry_at, root_at, root_of_code}
+use Rattle.dwp_dwarf.specs.Entries.{entry_at, root_at}
 use Rattle.dwp_units.specs.AbbreviationCodes.{root_code_at}
-use Rattle.dwp_dwarf.specs.Values.{LiesFirst, RootValuesLie, ValuesLie}
+use Rattle.dwp_dwarf.specs.Values.{LiesFirst, LiesInUnit, RootValuesLie, ValuesLie}
 use Rattle.dwp_dwarf.proofs.Tables.{code_goes}
 use Rattle.dwp_units.proofs.Units.{listed_ok, Onward, unit_takes}
 use Rattle.dwp_dwarf.specs.{declared.value.BlockLength.BlockLength, declared.value.Layout.Layout}
@@ -27,15 +28,11 @@ use Rattle.dwp_dwarf.specs.Forms.{block_length_at, named_within, text_at}
 abbrev after_name : (ℕ × Input → Answer ℕ) → ℕ × Input → Answer ℕ
 after_name others named = cond (eqb named.0 0x21) (Err UnknownForm) (others named)
 
-no_name : (i : Input) → size i ≡ 0 → uleb_at i ≡ Err UnexpectedEof
-unfolding uleb_at leb_at byte_at
-no_name i e = rw e refl
-
 named_steps : Steps (λ (s : ℕ × Input). size s.1) (λ n s. named_within n s.0 s.1) (λ others s.
     cond (eqb s.0 0x16) (uleb_at s.1 >>= after_name others) (Ok s))
-unfolding named_within
+unfolding named_within uleb_at leb_at byte_at
 named_steps = record {
-  none = λ others s e. rw (no_name s.1 e) refl;
+  none = λ others s e. rw e refl;
   next = λ n s. refl;
   alike = λ f g s same. ap (λ r. cond (eqb s.0 0x16) r (Ok s))
       (bind_alike (uleb_at s.1) (after_name f) (after_name g) (λ x e. ap
@@ -64,11 +61,6 @@ named_gives (suc n) form i = test_gives (eqb form 0x16) (λ indirect. then_gives
     (λ x p. test_gives (eqb x.0 0x21) (λ _. error_gives) (λ _. more_gives (named_gives n x.0 x.1)
     (λ y q. (goes_some (goes_then p q.0), λ own. absurd (own (eqb-true _ _ indirect)))))))
     (λ _. value_gives (own_form form i))
-
-pub named_form_gives : (form : ℕ) (i : Input)
-    → Gives (ℕ × Input) (named_form_at form i) (NamesForm form i)
-unfolding named_form_at
-named_form_gives form i = named_gives (size i) form i
 
 -- ---- a value
 
@@ -108,8 +100,8 @@ value_is encoding form i = then_gives (was (ok_or (layout_of encoding form) Unkn
 -- an attribute that was read lies first
 pub attribute_lies : (encoding : Encoding) (s : Specification) (i : Input) → Gives
     (DebugAttribute × Input) (attribute_at encoding s i) (λ p. LiesFirst s i p.0 p.1)
-unfolding attribute_at
-attribute_lies encoding s i = then_gives (named_form_gives s.form i) (λ form names. then_gives
+unfolding attribute_at named_form_at
+attribute_lies encoding s i = then_gives (named_gives (size i) s.form i) (λ form names. then_gives
     (value_is encoding form.0 form.1) (λ value is.
     let both = goes_then names.0 is.0 in
     value_gives (record {
@@ -137,55 +129,31 @@ values_lie encoding (a ∷ more) (s ∷ ss) i others e =
 
 -- ---- the root entry
 
-record IsRoot (u : Unit) (table : Input) (e : DebugEntry) : Type 0 where
-  code : ℕ × Input
-  declared : Declaration
-  goes : Goes 0 u.entries code.1
-  is : declaration code.0 table ≡ Ok (Some declared)
-  made : e ≡ entry u.encoding declared code.1
-
-root_code_goes : (i : Input) → Gives (Option (ℕ × Input)) (root_code_at i)
-    (λ o. IfSome o (λ x. Goes 0 i x.1))
-unfolding root_code_at
-root_code_goes i = then_gives (code_goes i) (λ code p. test_gives (eqb code.0 0)
-    (λ _. value_gives tt) (λ _. value_gives p))
-
 found_some : (o : Option Declaration) → Gives Declaration (ok_or o UnknownCode) (λ d. o ≡ Some d)
 found_some None = error_gives
 found_some (Some d) = value_gives refl
 
-root_of_code_is : (u : Unit) (table : Input) (o : Option (ℕ × Input))
-    → IfSome o (λ x. Goes 0 u.entries x.1)
-    → Gives (Option DebugEntry) (root_of_code u.encoding table o) (λ r. IfSome r (IsRoot u table))
-unfolding entry_at
-root_of_code_is u table None p = value_gives tt
-root_of_code_is u table (Some code) p = then_gives (then_gives (was (declaration code.0 table))
-    (λ found is. then_gives (found_some found) (λ d some. value_gives {P = IsRoot u table} (record {
-      code = code;
+-- one that was read has its first attributes in its unit
+root_lies : (u : Unit) (table : Input) → Goes 0 u.whole u.entries → Gives (Option DebugEntry)
+    (root_at u table) (λ o. IfSome o (λ e. (read : List DebugAttribute)
+    (others : List (Result DebugAttribute ReadError)) → e.attributes ≡ map Ok read ++ others
+    → LiesInUnit table u e read))
+unfolding root_at root_code_at entry_at
+root_lies u table inside = simp (bind-bind, bind-cond) (then_gives (code_goes u.entries)
+    (λ code p. test_gives (eqb code.0 0) (λ _. value_gives tt) (λ _. then_gives
+    (was (declaration code.0 table)) (λ found is. then_gives (found_some found) (λ d some.
+    let start = goes_then inside p in
+    value_gives (λ read others list. record {
+      code = code.0;
       declared = d;
-      goes = p;
-      is = is ∙ ap (λ (o : Option Declaration). Ok o) some;
-      made = refl;
-    })))) (λ e root. value_gives root)
-
-root_is : (u : Unit) (table : Input)
-    → Gives (Option DebugEntry) (root_at u table) (λ r. IfSome r (IsRoot u table))
-unfolding root_at
-root_is u table = then_gives (root_code_goes u.entries) (root_of_code_is u table)
-
-pub root_values_lie : RootValuesLie
-root_values_lie section i rest table u e read others unit root list =
-    let r = (root_is u table).gives (Some e) root in
-    let start = goes_then ((unit_takes section i).gives (u, rest) unit).inside r.goes in
-    let all : attributes u.encoding r.declared.specifications r.code.1 ≡ map Ok read ++ others =
-    ap (λ (x : DebugEntry). x.attributes) (sym r.made) ∙ list in
-    record {
-      code = r.code.0;
-      declared = r.declared;
       start = start.taken;
       fits = start.enough;
-      is = r.is;
-      tag = ap (λ (x : DebugEntry). x.tag) r.made;
-      lie = rw start.is at (values_lie u.encoding read r.declared.specifications
-          r.code.1 others all);
-    }
+      is = is ∙ ap (λ (o : Option Declaration). Ok o) some;
+      tag = refl;
+      lie = rw start.is at (values_lie u.encoding read d.specifications code.1 others list);
+    }))))))
+
+pub root_values_lie : RootValuesLie
+root_values_lie section i rest table u e read others unit root =
+    let inside = ((unit_takes section i).gives (u, rest) unit).inside in
+    (root_lies u table inside).gives (Some e) root read others

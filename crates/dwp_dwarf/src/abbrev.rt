@@ -52,7 +52,7 @@ pub(crate) fn from_offset<R: Reader>(section: R, offset: u64) -> Result<R, ReadE
 
 /// A number of variable length. Most have one byte, which is looked at first.
 #[inline(always)]
-#[tactic(auto, using(crate::proofs::Tables::one_byte))]
+#[tactic(auto, unfolding(dwp_bytes::specs::Leb::uleb_at, dwp_bytes::specs::Leb::leb_at, dwp_bytes::specs::Input::byte_at))]
 fn read_number<R: Reader>(reader: &mut R) -> Result<u64, ReadError>
     ensures { Reads (λ x. x) result (R.input reader.old) (R.input reader.new) uleb_at }
 {
@@ -143,6 +143,7 @@ fn read_declaration<R: Reader>(reader: &mut R) -> Result<Abbreviation<R>, ReadEr
 
 /// The declaration that stands there with its code, where one is known to: its list isn't gone
 /// over.
+#[tactic(auto, using(crate::proofs::Tables::passed_list), unfolding(crate::specs::Abbreviations::declaration_at, crate::specs::Grammar::next_at))]
 pub(crate) fn known_declaration<R: Reader>(mut at: R) -> Result<Abbreviation<R>, ReadError>
     ensures { IfOk result (λ found. (x : (ℕ × Declaration) × Input)
         → next_at (R.input at) ≡ Ok (Some x) → x.0.1 ≡ declaration_of R.input found) }
@@ -173,23 +174,20 @@ pub(crate) fn next_declaration<R: Reader>(
 }
 
 /// The first declaration of a code in what is left of a table, which is read no further.
-#[tactic(auto, using(crate::proofs::Tables::look_up), unfolding(crate::specs::Grammar::next_at))]
+#[tactic(auto, using(crate::proofs::Tables::look_up))]
 pub(crate) fn find_declaration<R: Reader>(
     rest: &mut R,
     code: u64,
 ) -> Result<Option<Abbreviation<R>>, ReadError>
     ensures { Answers (found_of R.input) result (declaration code (R.input rest.old)) }
 {
-    loop {
-        let found = read_code(rest)?;
-        if found == 0 {
-            return Ok(None);
-        }
-        let abbreviation = read_declaration(rest)?;
+    while let Some((found, abbreviation, behind)) = next_declaration(*rest)? {
+        *rest = behind;
         if found == code {
             return Ok(Some(abbreviation));
         }
     }
+    Ok(None)
 }
 
 impl AttributeSpecification {

@@ -10,7 +10,7 @@ use Rattle.std.proofs.lemmas.Bool.{le-ltb, lt-ltb, ne_eqb, false≢true}
 use Rattle.std.proofs.lemmas.Bool.Decides.{nat_tests}
 use Rattle.std.proofs.lemmas.List.{drop-drop, length-drop}
 use Rattle.std.specs.{List.find, Option.option_and_then, Option.option_or}
-use Rattle.std.specs.Prelude.{Err, is_none, is_some, None, not, Ok, Option, Result, Some, unwrap_or}
+use Rattle.std.specs.Prelude.{Err, is_none, is_some, None, Ok, Option, Result, Some, unwrap_or}
 use Rattle.dwp_base.specs.declared.by_kind.ByKind.{ByKind}
 use Rattle.dwp_bytes.specs.declared.error.ReadError.TheVariants.{RepeatedColumn, UnknownColumn}
 use Rattle.dwp_index.specs.Places.{IsPlace, place_held}
@@ -95,13 +95,6 @@ pub says_some : (count held n : ℕ) (o : Option ℕ) → IsPlace count held o �
     → (n ≡ NO_COLUMN → ⊥) → (o ≡ Some n) × (n < count)
 says_some count held n None is e other = absurd (other (e ∙ is))
 says_some count held n (Some i) is e other = (ap Some (sym (e ∙ is.0)), omega (arith, is.0, is.1))
-
--- it tells whether there is one
-pub says_whether : (count held n : ℕ) (o : Option ℕ) → IsPlace count held o → n ≡ held
-    → not (eqb n NO_COLUMN) ≡ is_some o
-says_whether count held n None is e = rw (e, is) refl
-says_whether count held n (Some i) is e =
-    rw (ne_eqb n NO_COLUMN (λ none. omega (arith, is.0, is.2))) refl
 
 -- ---- one more column
 -- the place in a list with one number more

@@ -1,6 +1,7 @@
 -- Numbers one after the other.
 use Rattle.std.proofs.Common.{Bool, List, [], add-one, ap, arith, drop, drop-drop, get_or, is_some}
-use Rattle.std.proofs.Common.{length, refl, suc, zero, ℕ, ◌*◌, ◌++◌, ◌+◌, ◌<◌, ◌∷◌, ◌≡◌}
+use Rattle.std.proofs.Common.{length, length-drop, refl, suc, zero, ℕ, ◌*◌, ◌++◌, ◌+◌, ◌<◌, ◌∷◌}
+use Rattle.std.proofs.Common.{◌≡◌}
 use Rattle.dwp_index.proofs.Terms.{Endianness, list_any, number, number_rows, numbers}
 use Rattle.dwp_index.proofs.Terms.{position_from}
 
@@ -37,6 +38,9 @@ get_or-number_rows order columns (suc n) bytes (suc r) d h =
     let next : 4 * columns * suc r ≡ 4 * columns + 4 * columns * r = omega arith in
     rw (next, ← drop-drop (4 * columns * r) (4 * columns) bytes)
     (get_or-number_rows order columns n (drop (4 * columns) bytes) r d (omega arith))
+
+-- what is known of the numbers of an index's fields
+pub ruleset read_numbers = (length-numbers, length-number_rows, get_or-numbers, length-drop)
 
 -- one more number
 pub numbers_more : (order : Endianness) (width n : ℕ) (bytes : List ℕ) → numbers order width (n + 1)

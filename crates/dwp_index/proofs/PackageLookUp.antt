@@ -1,9 +1,9 @@
 -- What looking a unit up in a package gives; it is found by its row.
-use Rattle.std.proofs.Common.{Bool, List, None, Ok, Option, Some, [], ap, arith, false, find}
-use Rattle.std.proofs.Common.{le-leb, length, not, refl, slice_range, sym, ℕ, ◌+◌, ◌∷◌, ◌≡◌, ◌≤◌}
+use Rattle.std.proofs.Common.{List, None, Ok, Option, Some, [], ap, arith, false, le-leb, length}
+use Rattle.std.proofs.Common.{not, refl, slice_range, sym, ℕ, ◌+◌, ◌≡◌, ◌≤◌}
 use Rattle.dwp_index.proofs.Terms.{DwarfObject, Encoding, Index, Package, Ranges, SectionKind}
-use Rattle.dwp_index.proofs.Terms.{contribution_kinds, encoding_in, found_row, identifier_of}
-use Rattle.dwp_index.proofs.Terms.{index_for, look_count, range_in, row_in, ◌>>=◌}
+use Rattle.dwp_index.proofs.Terms.{encoding_in, found_row, identifier_of, index_for, look_count}
+use Rattle.dwp_index.proofs.Terms.{range_in, row_in, ◌>>=◌}
 use Rattle.dwp_base.specs.declared.section.Contribution.{Contribution}
 use Rattle.dwp_index.specs.Contents.{Sections, content}
 use Rattle.dwp_index.specs.Finding.{GivesWithin, HasIndex, IsNotNamed, IsUnitOf, LiesInside}
@@ -21,16 +21,12 @@ not_outside : (bytes : List ℕ) (range : Option Contribution) → ((c : Contrib
 not_outside bytes None h = refl
 not_outside bytes (Some c) h = ap not (le-leb (c.offset.0 + c.size) (length bytes) (h c refl))
 
-find-no : {X : Type 0} (p : X → Bool) (xs : List X) → ((x : X) → p x ≡ false) → find p xs ≡ None
-find-no p [] h = refl
-find-no p (x ∷ xs) h = let no = h x in rw no (find-no p xs h)
-
 none_outside : (contents : Sections) (row : Ranges) → LiesInside contents row
     → first_outside contents row ≡ None
 unfolding first_outside
-none_outside contents row inside = find-no (λ kind. is_outside (content contents kind)
-    (range_in row kind)) contribution_kinds (λ kind. not_outside (content contents kind)
-    (range_in row kind) (inside kind))
+none_outside contents row inside =
+    let no : (kind : SectionKind) → is_outside (content contents kind) (range_in row kind) ≡ false =
+    λ kind. not_outside (content contents kind) (range_in row kind) (inside kind) in simp no
 
 -- ---- the look-up
 at_row : (pack : Package) (object : DwarfObject) (index : Index) (number count : ℕ) (row : Ranges)
@@ -113,3 +109,5 @@ pub by_row : (pack : Package) (object : DwarfObject)
     → found_counted pack object ≡ found_by_row pack object
 unfolding found_counted row_counted
 by_row pack object = indexed pack object (index_for pack object)
+
+pub ruleset laws = (by_row, row_bytes-absent, row_bytes-part)

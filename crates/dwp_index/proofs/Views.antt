@@ -1,11 +1,10 @@
--- What the fields of an index and of a row hold, and where a look-up ends.
+-- What the fields of an index hold, and where a look-up ends.
 use Rattle.std.proofs.Common.{Bool, List, None, Option, Some, arith, cond, eq-eqb, false, find}
-use Rattle.std.proofs.Common.{get_or, inl, inr, length, ne_eqb, option_and_then, refl, suc, true, ℕ}
-use Rattle.std.proofs.Common.{◌+◌, ◌-◌, ◌<◌, ◌∙◌, ◌≡◌, ◌≤◌, ◌⊎◌}
+use Rattle.std.proofs.Common.{get_or, inl, inr, length, ne_eqb, refl, suc, true, ℕ, ◌+◌, ◌-◌, ◌<◌}
+use Rattle.std.proofs.Common.{◌∙◌, ◌≡◌, ◌≤◌, ◌⊎◌}
 use Rattle.std.proofs.lemmas.Bool.{or_right}
-use Rattle.dwp_index.proofs.Terms.{Index, Ranges, SectionKind, column_place, contribution}
-use Rattle.dwp_index.proofs.Terms.{first_end, found_row, index_in, is_end, look_count, place}
-use Rattle.dwp_index.proofs.Terms.{range_in, range_with_len, row_of}
+use Rattle.dwp_index.proofs.Terms.{Index, first_end, found_row, index_in, is_end, look_count, place}
+use Rattle.dwp_index.proofs.Terms.{range_with_len, row_of}
 use Rattle.dwp_index.specs.declared.unit_index.UnitIndex.TheInside.{Inside}
 use Rattle.dwp_index.proofs.NumberLists.{length-number_rows, length-numbers}
 
@@ -15,13 +14,6 @@ slots-length u v e = rw (← e) (length-numbers u.order 4 u.slot_count u.rows.no
 
 pub units-length : (u : Inside) (v : Index) → index_in u ≡ v → length v.offsets ≡ u.unit_count
 units-length u v e = rw (← e) (length-number_rows u.order u.column_count u.unit_count u.offsets.now)
-
--- a row's range, by the place of the section's column
-pub range-by : (row : Ranges) (kind : SectionKind) (place : Option ℕ)
-    → column_place row.version row.columns kind ≡ place → range_in row kind
-    ≡ option_and_then (λ i. contribution (get_or row.offsets i 0) (get_or row.sizes i 0)) place
-unfolding range_in
-range-by row kind place e = rw e refl
 
 -- ---- where a look-up ends
 

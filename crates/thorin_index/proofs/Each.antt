@@ -22,13 +22,10 @@ has_number version kind = is_some (column_of version kind)
 -- what holds of each section that a unit may have a contribution to, and of the others, holds of
 -- every one
 pub by_contribution : (P : SectionKind → Type 0) → All P contribution_kinds → P Str
-    → P CuIndex → P TuIndex
-    → (kind : SectionKind) → P kind
-by_contribution P ranges str cu_index tu_index =
-    kinds.each P (held contribution_kinds ranges)
+    → P CuIndex → P TuIndex → (kind : SectionKind) → P kind
+by_contribution P ranges str cu_index tu_index = kinds.each P (held contribution_kinds ranges)
   where
-    held : (ks : List SectionKind) → All P ks
-        → HoldsAll P (ks ++ Str ∷ CuIndex ∷ TuIndex ∷ [])
+    held : (ks : List SectionKind) → All P ks → HoldsAll P (ks ++ Str ∷ CuIndex ∷ TuIndex ∷ [])
     held [] all = (str, (cu_index, (tu_index, tt)))
     held (k ∷ ks) all = (all 0 k (omega arith), held ks (λ i d less. all (suc i) d (omega arith)))
 
@@ -44,8 +41,7 @@ each_passed test (x ∷ xs) e (suc k) d h =
 pub next_passes : {X : Type 0} (test : X → Result (Unit {0}) ErrorValue) (xs : List X) (i : ℕ)
     (d : X) → i < length xs → test (get_or xs i d) ≡ Ok tt
     → each test (drop i xs) ≡ each test (drop (i + 1) xs)
-next_passes test xs i d within passes =
-    at_drop_more (each test) xs i d within ∙ rw passes refl
+next_passes test xs i d within passes = at_drop_more (each test) xs i d within ∙ rw passes refl
 
 pub next_fails : {X : Type 0} (test : X → Result (Unit {0}) ErrorValue) (xs : List X) (i : ℕ)
     (d : X) (error : ErrorValue) → i < length xs → each test (drop i xs) ≡ each test xs
@@ -60,19 +56,16 @@ passed false error e = absurd cc
 
 -- a test that passed all contributions of an entry passed the one to each section
 kind_test : (test : SectionKind → Option Contribution → Result (Unit {0}) ErrorValue)
-    (entry : IndexEntry) → contributions_test test entry ≡ Ok tt
-    → ((kind : SectionKind) → test kind None ≡ Ok tt) → (kind : SectionKind)
-    → test kind (contribution_to kind entry) ≡ Ok tt
-kind_test test entry e none =
-    by_contribution (λ kind. test kind (contribution_to kind entry) ≡ Ok tt)
-    (each_passed (λ kind. test kind (contribution_to kind entry)) contribution_kinds e) (none Str)
-    (none CuIndex) (none TuIndex)
+    (entry : IndexEntry) → contributions_test test entry ≡ Ok tt → ((kind : SectionKind) → test
+    kind None ≡ Ok tt) → (kind : SectionKind) → test kind (contribution_to kind entry) ≡ Ok tt
+kind_test test entry e none = by_contribution (λ kind. test kind (contribution_to kind entry)
+    ≡ Ok tt) (each_passed (λ kind. test kind (contribution_to kind entry)) contribution_kinds e)
+    (none Str) (none CuIndex) (none TuIndex)
 
 -- a test that passed all contributions of entries gives a bound on each of their numbers
 pub rows_fit : (measure : Option Contribution → ℕ) (what : List ℕ) (entries : List IndexEntry)
     → measure None ≡ 0 → All (λ entry. contributions_test (λ _ range.
-    number_test what (measure range)) entry
-    ≡ Ok tt) entries → All (FitsRow measure) entries
+    number_test what (measure range)) entry ≡ Ok tt) entries → All (FitsRow measure) entries
 rows_fit measure what entries none tests k d within kind =
     ltb-true _ (2 ^ 32) (passed _ _ (kind_test (λ _ range. number_test what (measure range))
     (get_or entries k d) (tests k d within) (λ _. ap (number_test what) none) kind))
@@ -97,8 +90,7 @@ used_known version entries known kind used =
     known any.0 any.1 any.2 kind (rw any.3 any.4)
 
 pub have_passed : (encoding : Encoding) (entries : List IndexEntry)
-    → tests_under encoding entries ≡ Ok tt
-    → HavePassed (index_version_of encoding.version) entries
+    → tests_under encoding entries ≡ Ok tt → HavePassed (index_version_of encoding.version) entries
 unfolding tests_under
 have_passed encoding entries tests =
     let version = index_version_of encoding.version in

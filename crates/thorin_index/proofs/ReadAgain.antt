@@ -4,12 +4,12 @@ use Rattle.thorin_index.proofs.Terms
 use Terms.{All, AreDistinct, Big, Bool, Contribution, Encoding, Endianness, IndexEntry, IsHashTable}
 use Terms.{IsIndexText, List, Little, None, Ok, Option, SectionKind, Some, [], ap, arith, by-bool}
 use Terms.{column_numbers, column_of, cond, contribution_kinds, contribution_to, drop, drop_at}
-use Terms.{entry_ids, eq-eqb, eqb, eqb-true, every, false, filter, filter_passes, flat_map, get_or}
+use Terms.{entry_ids, eq-eqb, eqb, eqb-true, false, filter, filter_passes, flat_map, get_or}
 use Terms.{get_or-map, get_or_default, identifier_of, index_version_of, is_some, is_used, leb}
-use Terms.{length, length-append, length-map, ltb, ltb-true, map, map-id, mul-suc, number}
-use Terms.{number_bytes, numbers_bytes, offset_or_0, option_and_then, refl, row_numbers, rows_bytes}
-use Terms.{signature_of, signatures_bytes, size_or_0, slice_get, subst, suc, sym, true, unwrap_or}
-use Terms.{used_sections, zero, ℕ, ◌&&◌, ◌*◌, ◌++◌, ◌+◌, ◌-◌, ◌<◌, ◌^◌, ◌∙◌, ◌∷◌, ◌≡◌, ◌≤◌}
+use Terms.{length, length-append, length-map, ltb, map, map-id, mul-suc, number, number_bytes}
+use Terms.{numbers_bytes, offset_or_0, option_and_then, refl, row_numbers, rows_bytes, signature_of}
+use Terms.{signatures_bytes, size_or_0, slice_get, subst, suc, sym, true, unwrap_or, used_sections}
+use Terms.{ℕ, ◌&&◌, ◌*◌, ◌++◌, ◌+◌, ◌-◌, ◌<◌, ◌^◌, ◌∙◌, ◌∷◌, ◌≡◌, ◌≤◌}
 use Rattle.std.proofs.lemmas.Nat.{from_be_bytes-to_be_bytes_4, from_be_bytes-to_be_bytes_8}
 use Rattle.std.proofs.lemmas.Nat.{from_le_bytes-to_le_bytes_4, from_le_bytes-to_le_bytes_8}
 use Rattle.dwp_index.specs.IndexBytes.{columns_at, index_of, is_slot_count, new_column, number_rows}
@@ -26,7 +26,7 @@ use Rattle.std.specs.List.{list_any, position_from, range_with_len}
 use Rattle.dwp_base.specs.{declared.section.SectionKind.TheVariants.Info, Sections.rank_of}
 use Rattle.dwp_index.proofs.{Columns.kind_of_number, NumberLists.is_some-position}
 use Rattle.dwp_index.specs.Index.{column_place, contribution, Index, range_in, Ranges, row_in}
-use Rattle.dwp_table.specs.Columns.{gnu_column, kind_of_column, standard_column}
+use Rattle.dwp_table.specs.Columns.{kind_of_column}
 use Rattle.thorin_index.specs.{EntryTests.tests_under, IndexText.version_bytes, ReadBack.index_with}
 use Rattle.thorin_index.specs.{IndexText.index_bytes, ReadRows.HasEntries, ReadRows.non_empty}
 
@@ -79,15 +79,13 @@ module _ {X Y : Type 0} {put : X → List ℕ} {read : List ℕ → Y} {is : X �
   after_put xs rest = after_front _ (flat_map put xs) rest (length_put xs)
 
   -- where each is read in front of the others
-  pub put_again : (reads : ℕ → List ℕ → List Y) → ((bytes : List ℕ) → reads 0 bytes ≡ [])
-      → ((n : ℕ) (bytes : List ℕ) → reads (suc n) bytes ≡ read bytes ∷ reads n (drop width bytes))
-      → (xs : List X) (rest : List ℕ) → All Fits xs
-      → reads (length xs) (flat_map put xs ++ rest) ≡ map is xs
+  pub put_again : (reads : ℕ → List ℕ → List Y) → ((bytes : List ℕ) → reads 0 bytes ≡ []) → ((n : ℕ)
+      (bytes : List ℕ) → reads (suc n) bytes ≡ read bytes ∷ reads n (drop width bytes)) → (xs : List
+      X) (rest : List ℕ) → All Fits xs → reads (length xs) (flat_map put xs ++ rest) ≡ map is xs
   put_again reads none more [] rest fits = none rest
   put_again reads none more (x ∷ xs) rest fits =
       let later = flat_map put xs ++ rest in
-      more (length xs) ((put x ++ flat_map put xs) ++ rest)
-      ∙ rw (
+      more (length xs) ((put x ++ flat_map put xs) ++ rest) ∙ rw (
         append_assoc,
         one.again x later (fits 0 x (omega arith)),
         drop_at (put x) later width (one.len x),
@@ -95,10 +93,9 @@ module _ {X Y : Type 0} {put : X → List ℕ} {read : List ℕ → Y} {is : X �
       ) refl
 
 -- a row of numbers for each item
-pub put_row : {X K : Type 0} (order : Endianness) (columns : List K) (f : X → K → ℕ)
-    → IsPut (λ x. flat_map (number_bytes order 4) (map (f x) columns))
-    (numbers order 4 (length columns)) (λ x. map (f x) columns)
-    (λ x. (k : K) → f x k < 2 ^ 32) (4 * length columns)
+pub put_row : {X K : Type 0} (order : Endianness) (columns : List K) (f : X → K → ℕ) → IsPut
+    (λ x. flat_map (number_bytes order 4) (map (f x) columns)) (numbers order 4 (length columns))
+    (λ x. map (f x) columns) (λ x. (k : K) → f x k < 2 ^ 32) (4 * length columns)
 put_row order columns f = record {
   len = λ x. rw flat_map-map (length_put (put_4 order (f x)) columns);
   again = λ x rest fits. rw flat_map-map (put_again (put_4 order (f x)) (numbers order 4)
@@ -109,29 +106,19 @@ put_row order columns f = record {
 
 -- the numbers of columns fit their four bytes
 number_small : (version : ℕ) (kind : SectionKind) → number_of version kind < 2 ^ 32
-number_small version kind = by-bool _ (eqb version 5)
-    (λ five. rw five
-    (ltb-true _ _ (every (λ k. ltb (unwrap_or (standard_column k) 0) (2 ^ 32)) refl kind)))
-    (λ two. rw two
-    (ltb-true _ _ (every (λ k. ltb (unwrap_or (gnu_column k) 0) (2 ^ 32)) refl kind)))
+number_small version kind = grind arith
 
 -- a section that has a column is the one that its number names
 kind_again : (version : ℕ) (kind : SectionKind) → has_number version kind ≡ true
     → kind_of_column version (number_of version kind) ≡ Some kind
-kind_again version kind = go (column_of version kind) refl
-  where
-    go : (column : Option ℕ) → column_of version kind ≡ column → is_some column ≡ true
-        → kind_of_column version (unwrap_or column 0) ≡ Some kind
-    go None is has = absurd cc
-    go (Some n) is has = kind_of_number version n kind is
+kind_again version kind has = grind (arith, kind_of_number version)
 
 pub one_kind : (version : ℕ) (kind other : SectionKind) → has_number version kind ≡ true
     → has_number version other ≡ true → number_of version other ≡ number_of version kind
     → other ≡ kind
 one_kind version kind other mine its same =
     let e : Some other ≡ Some kind = sym (kind_again version other its)
-    ∙ ap (kind_of_column version) same ∙ kind_again version kind mine in
-    cc
+    ∙ ap (kind_of_column version) same ∙ kind_again version kind mine in cc
 
 -- ---- columns of sections in the order of their ranks
 module _ (order : Endianness) (version : ℕ) (p : SectionKind → Bool)
@@ -145,11 +132,8 @@ module _ (order : Endianness) (version : ℕ) (p : SectionKind → Bool)
       → rank_of kind ≡ rank → AreNew rank before
       → AreNew (rank + 1) (before ++ number_of version kind ∷ [])
   new_after rank before kind has at new other its behind =
-      let differs : eqb (number_of version kind) (number_of version other) ≡ false =
-      false_from_ne_true _ (λ same. let one = one_kind version other kind its has
-      (eqb-true _ _ same) in omega (arith, ap rank_of one)) in
-      list_any-append _ before (number_of version kind ∷ [])
-      ∙ rw (new other its (omega arith), differs) refl
+      let more = list_any-append (λ c. eqb c (number_of version other)) before in
+      grind (arith, more, one_kind version kind other has its, new other its)
 
   abbrev AreRead : List ℕ → List SectionKind → List ℕ → Type 0
   AreRead before kinds rest = columns_at order version before (length kinds)
@@ -164,15 +148,13 @@ module _ (order : Endianness) (version : ℕ) (p : SectionKind → Bool)
   one_read rank before kind kinds rest has at new later =
       let n = number_of version kind in
       let tail : List ℕ = flat_map (number_bytes order 4) (map (number_of version) kinds) ++ rest in
-      let one = put_4 order (number_of version) in
-      rw (
+      let one = put_4 order (number_of version) in rw (
         append_assoc,
         after_front 4 (number_bytes order 4 n) tail (one.len kind),
         one.again kind tail (number_small version kind),
         kind_again version kind has,
         new kind has (omega arith),
-      )
-      (later ∙ ap (λ (l : List ℕ). Ok (l, rest)) (append_assoc before (n ∷ []) _))
+      ) (later ∙ ap (λ (l : List ℕ). Ok (l, rest)) (append_assoc before (n ∷ []) _))
 
   pub columns_read : (kinds : List SectionKind) (rank : ℕ)
       → map rank_of kinds ≡ range_with_len rank (length kinds) → (before rest : List ℕ)
@@ -189,9 +171,8 @@ module _ (order : Endianness) (version : ℕ) (p : SectionKind → Bool)
       others : map rank_of kinds ≡ range_with_len (rank + 1) (length kinds)
       others = cc
 
-      by : (b : Bool) → p k ≡ b
-          → ((before rest : List ℕ) → AreNew (rank + 1) before
-          → AreRead before (filter p kinds) rest)
+      by : (b : Bool) → p k ≡ b → ((before rest : List ℕ)
+          → AreNew (rank + 1) before → AreRead before (filter p kinds) rest)
           → AreRead before (cond b (k ∷ filter p kinds) (filter p kinds)) rest
       by true passes later = one_read rank before k (filter p kinds) rest (known k passes) at new
           (later _ rest (new_after rank before k (known k passes) at new))
@@ -252,15 +233,13 @@ module _ (columns units slots : ℕ) (rest : List ℕ) where
 -- ---- the whole
 signature_fits : (ids : List ℕ) → ((r : ℕ) → get_or ids r 0 < 2 ^ 64) → (row : ℕ)
     → signature_of ids row < 2 ^ 64
-signature_fits ids h zero = omega arith
-signature_fits ids h (suc r) = h r
+signature_fits ids h row = grind (arith, h)
 
 pub index_is_read : (order : Endianness) (encoding : Encoding) (entries : List IndexEntry)
     (bytes : List ℕ) → tests_under encoding entries ≡ Ok tt
-    → ((r : ℕ) → get_or (entry_ids entries) r 0 < 2 ^ 64)
-    → (text : IsIndexText order (index_version_of encoding.version) entries bytes)
-    → index_of order bytes ≡ Ok (index_with (index_version_of encoding.version)
-    (used_sections entries) entries text.rows)
+    → ((r : ℕ) → get_or (entry_ids entries) r 0 < 2 ^ 64) → (text : IsIndexText order
+    (index_version_of encoding.version) entries bytes) → index_of order bytes ≡ Ok
+    (index_with (index_version_of encoding.version) (used_sections entries) entries text.rows)
 unfolding index_bytes index_of
 index_is_read order encoding entries bytes tests small_ids text =
     let version = index_version_of encoding.version in
@@ -291,9 +270,7 @@ index_is_read order encoding entries bytes tests small_ids text =
     rw (table.power, lt-ltb (length entries) (length rows) (omega (arith, table.room))) refl in
     let regrouped : index_bytes order version kinds entries rows ≡ version_bytes order version ++
     behind (length kinds) (length entries) (length rows) slots_on' order =
-    simp (append_assoc, append-nil) in
-    ap (index_of order) (text.text ∙ regrouped)
-    ∙ rw (
+    simp (append_assoc, append-nil) in ap (index_of order) (text.text ∙ regrouped) ∙ rw (
       head.version_is,
       head.counts_are room,
       head.left,
@@ -317,12 +294,10 @@ index_is_read order encoding entries bytes tests small_ids text =
 -- ---- a contribution
 range_of_numbers : (range : Option Contribution)
     → contribution (offset_or_0 range) (size_or_0 range) ≡ non_empty range
-range_of_numbers None = refl
-range_of_numbers (Some range) = refl
+range_of_numbers range = grind arith
 
 no_range : (range : Option Contribution) → is_some range ≡ false → non_empty range ≡ None
-no_range None is = refl
-no_range (Some range) is = absurd cc
+no_range range is = grind arith
 
 -- what stands at the position that was found passes
 found_at : (p : ℕ → Bool) (xs : List ℕ) (i : ℕ) → position_from p 0 xs ≡ Some i
@@ -364,15 +339,13 @@ module _ (version : ℕ) (entries : List IndexEntry) (passed : HavePassed versio
     used_there = by_contribution (λ kind. Has kind → list_any (λ n. eqb n (number_of version kind))
         (column_numbers version kinds) ≡ true) (λ i d less some.
         let kind = get_or contribution_kinds i d in
-        let used : is_used entries kind ≡ true = list_any_at (λ e. is_some
-        (contribution_to kind e)) entries r entry within (ap (λ e. is_some
-        (contribution_to kind e)) here ∙ some) in
+        let used : is_used entries kind ≡ true = list_any_at (λ e. is_some (contribution_to kind e))
+        entries r entry within (ap (λ e. is_some (contribution_to kind e)) here ∙ some) in
         any-made (is_used entries) (number_of version) (λ n. eqb n (number_of version kind))
         contribution_kinds
-        ∙ list_any_at (λ k. is_used entries k && eqb (number_of version k)
-        (number_of version kind)) contribution_kinds i d less
-        (rw (used, eq-eqb (number_of version kind) _ refl) refl)) (λ some. absurd cc)
-        (λ some. absurd cc) (λ some. absurd cc)
+        ∙ list_any_at (λ k. is_used entries k && eqb (number_of version k) (number_of version kind))
+        contribution_kinds i d less (rw (used, eq-eqb (number_of version kind) _ refl) refl))
+        (λ some. absurd cc) (λ some. absurd cc) (λ some. absurd cc)
 
     range_by : (column : Option ℕ) (kind : SectionKind) → column_of version kind ≡ column
         → option_and_then (λ i. contribution (get_or (row_of entry).offsets i 0)
@@ -387,9 +360,8 @@ module _ (version : ℕ) (entries : List IndexEntry) (passed : HavePassed versio
         number : number_of version kind ≡ c
         number = ap (λ o. unwrap_or o 0) is_column
 
-        by : (position : Option ℕ)
-            → position_from (λ n. eqb n c) 0 (column_numbers version kinds) ≡ position
-            → option_and_then (λ i. contribution (get_or (row_of entry).offsets i 0)
+        by : (position : Option ℕ) → position_from (λ n. eqb n c) 0 (column_numbers version kinds)
+            ≡ position → option_and_then (λ i. contribution (get_or (row_of entry).offsets i 0)
             (get_or (row_of entry).sizes i 0)) position ≡ non_empty (contribution_to kind entry)
         by None at = sym (no_range _ (false_from_ne_true _ (λ some.
             let there = rw number at (used_there kind some) in
@@ -401,12 +373,10 @@ module _ (version : ℕ) (entries : List IndexEntry) (passed : HavePassed versio
             omega (arith, found.0, length-map kinds (number_of version)) in
             let k = get_or kinds i Info in
             let known : has_number version kind ≡ true = ap is_some is_column in
-            let same : k ≡ kind = one_kind version kind k known
-            (used_known version entries passed.known k
-            (filter_passes (is_used entries) contribution_kinds i Info less))
+            let same : k ≡ kind = one_kind version kind k known (used_known version
+            entries passed.known k (filter_passes (is_used entries) contribution_kinds i Info less))
             (sym (get_or-map (number_of version) kinds i Info 0 less)
-            ∙ eqb-true _ _ found.1 ∙ sym number) in
-            rw (
+            ∙ eqb-true _ _ found.1 ∙ sym number) in rw (
               get_or-map (λ k. offset_or_0 (contribution_to k entry)) kinds i Info 0 less,
               get_or-map (λ k. size_or_0 (contribution_to k entry)) kinds i Info 0 less,
               same,
@@ -422,8 +392,7 @@ module _ (version : ℕ) (entries : List IndexEntry) (passed : HavePassed versio
     unfolding row_in
     row_there rows =
         let counted : r + 1 - 1 ≡ r = omega arith in
-        let count = length-map entries (row_numbers offset_or_0 kinds) in
-        rw (
+        let count = length-map entries (row_numbers offset_or_0 kinds) in rw (
           counted,
           lt-ltb 0 (r + 1) (omega arith),
           lt-ltb r (length (map (row_numbers offset_or_0 kinds) entries))
@@ -433,9 +402,8 @@ module _ (version : ℕ) (entries : List IndexEntry) (passed : HavePassed versio
           here,
         ) refl
 
-  entries_again : (rows : List ℕ) → IsHashTable (entry_ids entries) rows
-      → AreDistinct (entry_ids entries)
-      → HasEntries version entries (index_with version kinds entries rows)
+  entries_again : (rows : List ℕ) → IsHashTable (entry_ids entries) rows → AreDistinct
+      (entry_ids entries) → HasEntries version entries (index_with version kinds entries rows)
   entries_again rows table distinct = record {
     version_is = refl;
     count = length-map entries (row_numbers offset_or_0 kinds);
@@ -452,16 +420,14 @@ module _ (version : ℕ) (entries : List IndexEntry) (passed : HavePassed versio
   }
 
 pub written_rows : (order : Endianness) (encoding : Encoding) (entries : List IndexEntry)
-    (bytes : List ℕ) → tests_under encoding entries ≡ Ok tt → AreDistinct (entry_ids entries)
-    → ((r : ℕ) → get_or (entry_ids entries) r 0 < 2 ^ 64) → IsIndexText order
-    (index_version_of encoding.version) entries bytes
-    → (index : Index) → index_of order bytes ≡ Ok index
-    → HasEntries (index_version_of encoding.version) entries index
+    (bytes : List ℕ) → tests_under encoding entries ≡ Ok tt
+    → AreDistinct (entry_ids entries) → ((r : ℕ) → get_or (entry_ids entries) r 0 < 2 ^ 64)
+    → IsIndexText order (index_version_of encoding.version) entries bytes → (index : Index)
+    → index_of order bytes ≡ Ok index → HasEntries (index_version_of encoding.version) entries index
 written_rows order encoding entries bytes tests distinct ids text index read =
     let version = index_version_of encoding.version in
     let whole : Ok (index_with version (used_sections entries) entries text.rows) ≡ Ok index =
     sym (index_is_read order encoding entries bytes tests ids text) ∙ read in
     let same : index_with version (used_sections entries) entries text.rows ≡ index = cc in
     subst (HasEntries version entries) same (entries_again version entries
-    (have_passed encoding entries tests) text.rows
-    text.table distinct)
+    (have_passed encoding entries tests) text.rows text.table distinct)

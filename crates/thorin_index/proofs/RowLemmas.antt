@@ -2,18 +2,19 @@
 -- its hash table, and bytes that a loop adds.
 use Rattle.thorin_index.proofs.Terms
 use Terms.{All, All-push, Encoding, Endianness, Err, ErrorValue, IndexEntry, IsHashTable, IsLooked}
-use Terms.{IsPlacedAfter, List, Ok, OnErr, Result, SectionKind, Some, [], ap, arith, below_more}
-use Terms.{blank, contribution_kinds, contribution_to, entry_by, entry_ids, flat_map, flat_map_more}
-use Terms.{get_or, get_or-take, get_or_append_left, get_or_default, get_or_push, identifier_of}
-use Terms.{index_version_of, inl, inr, length, length-map, length-take, length_push, map, map_more}
-use Terms.{map_push, refl, row_of, slice_get, suc, sym, take, take_more, used_sections, with_own, ℕ}
-use Terms.{◌++◌, ◌+◌, ◌-◌, ◌<◌, ◌∙◌, ◌∷◌, ◌≡◌, ◌≤◌}
+use Terms.{IsPlacedAfter, List, SectionKind, Some, [], ap, arith, below_more, blank}
+use Terms.{contribution_kinds, contribution_to, get_or-map, drop_all, entry_by, entry_ids, flat_map}
+use Terms.{flat_map_more, get_or, get_or-take, get_or_append_left, get_or_default, get_or_push}
+use Terms.{identifier_of, index_version_of, inl, inr, length, length-map, length-take, length_push}
+use Terms.{map, map_more, map_push, refl, row_of, slice_get, suc, sym, take, take-map, take_all}
+use Terms.{take_more, used_sections, with_own, ℕ, ◌++◌, ◌+◌, ◌-◌, ◌<◌, ◌∙◌, ◌∷◌, ◌≡◌, ◌≤◌}
 use Rattle.std.proofs.{lemmas.Bool.cases_lt, lemmas.Bool.Decides.nat_tests}
-use Rattle.std.proofs.lemmas.Option.{get_or_from_slice_get, slice_get_within}
-use Rattle.dwp_table.specs.{declared.object.DwarfObject.DwarfObject, Table.HasSlots}
+use Rattle.std.proofs.lemmas.Option.{get_or_from_slice_get, slice_get-get_or, slice_get_read}
+use Rattle.std.proofs.lemmas.Option.{slice_get_within}
+use Rattle.dwp_table.specs.Table.{HasSlots}
 use Rattle.thorin_index.specs.EntryTests.{count_test, index_tests, tests_under}
-use Rattle.thorin_index.specs.{declared.rows.Own.Own, IndexText.index_bytes, IndexText.IsIndexOf}
-use Rattle.thorin_index.{proofs.Each.by_contribution, specs.declared.rows.Row.Row}
+use Rattle.thorin_index.specs.{declared.rows.Row.Row, IndexText.index_bytes, IndexText.IsIndexOf}
+use Rattle.thorin_index.proofs.Each.{by_contribution, next_fails, next_passes}
 
 -- a list that begins with another isn't shorter
 pub at_least : {A : Type 0} (front all : List A) → take (length front) all ≡ front
@@ -25,9 +26,8 @@ abbrev pub AreNumbered : List IndexEntry → List Row → Type 0
 AreNumbered shared rows = All (λ (row : Row). row.shared < length shared) rows
 
 -- rows as they were, where more is shared
-pub kept_rows : (shared more : List IndexEntry) (rows : List Row)
-    → take (length shared) more ≡ shared → AreNumbered shared rows
-    → map (row_of more) rows ≡ map (row_of shared) rows
+pub kept_rows : (shared more : List IndexEntry) (rows : List Row) → take (length shared) more
+    ≡ shared → AreNumbered shared rows → map (row_of more) rows ≡ map (row_of shared) rows
 kept_rows shared more [] h numbered = refl
 kept_rows shared more (row ∷ rows) h numbered =
     let here : get_or more row.shared blank ≡ get_or shared row.shared blank =
@@ -37,12 +37,10 @@ kept_rows shared more (row ∷ rows) h numbered =
 
 -- rows with one more, which has its number of what they share now
 pub numbered_pushed : (shared more : List IndexEntry) (rows : List Row) (row : Row)
-    (rest : IndexEntry) → take (length shared) more ≡ shared
-    → slice_get more row.shared ≡ Some rest → AreNumbered shared rows
-    → AreNumbered more (rows ++ row ∷ [])
-numbered_pushed shared more rows row rest kept there numbered =
-    All-push (λ (r : Row). r.shared < length more) rows row
-    (λ k d less. omega (arith, at_least shared more kept, numbered k d less))
+    (rest : IndexEntry) → take (length shared) more ≡ shared → slice_get more row.shared ≡ Some rest
+    → AreNumbered shared rows → AreNumbered more (rows ++ row ∷ [])
+numbered_pushed shared more rows row rest kept there numbered = All-push (λ (r : Row). r.shared <
+    length more) rows row (λ k d less. omega (arith, at_least shared more kept, numbered k d less))
     (slice_get_within more row.shared rest there)
 
 pub pushed : (shared more : List IndexEntry) (rows : List Row) (row : Row) (rest entry : IndexEntry)
@@ -54,20 +52,11 @@ pushed shared more rows row rest entry kept there whole numbered =
     let last = get_or_from_slice_get more row.shared rest blank there in
     map_push (row_of more) rows row ∙ rw (same, last, whole) refl
 
--- what holds whatever came holds of an error
-pub on_err : {T E P : Type 0} (r : Result T E) → P → OnErr r P
-on_err (Ok x) p = tt
-on_err (Err e) p = p
-
-own_id : (id : DwarfObject) (own : Own) (entry : IndexEntry) → (with_own id own entry).id ≡ id
-own_id id own entry = grind arith
-
 -- the identifiers of rows are those of their entries
 pub row_ids : (shared : List IndexEntry) (rows : List Row)
     → map (λ (row : Row). identifier_of row.id) rows ≡ entry_ids (map (row_of shared) rows)
 row_ids shared [] = refl
-row_ids shared (row ∷ rows) =
-    rw (own_id row.id row.own (get_or shared row.shared blank), row_ids shared rows) refl
+row_ids shared (row ∷ rows) = grind (arith, row_ids shared rows)
 
 -- ---- entries that are the same
 
@@ -122,10 +111,9 @@ index_is order (entry ∷ entries) encoding held bytes some e table has text =
     record { rows = held; table = table; slots = has; text = rw e at text }
 
 -- what was placed stays at its place, and the last row stands in the slot that was looked at last
-pub looked_more : (ids old new looked : List ℕ) (x l : ℕ)
-    → ((y r j : ℕ) → 0 < r → IsPlacedAfter old y r j → IsPlacedAfter new y r j)
-    → (0 < l) × IsPlacedAfter new x (length ids + 1) (l - 1) → l ≤ length ids + 1
-    → IsLooked ids old looked → IsLooked (ids ++ x ∷ []) new (looked ++ l ∷ [])
+pub looked_more : (ids old new looked : List ℕ) (x l : ℕ) → ((y r j : ℕ) → 0 < r → IsPlacedAfter
+    old y r j → IsPlacedAfter new y r j) → (0 < l) × IsPlacedAfter new x (length ids + 1) (l - 1)
+    → l ≤ length ids + 1 → IsLooked ids old looked → IsLooked (ids ++ x ∷ []) new (looked ++ l ∷ [])
 looked_more ids old new looked x l stays last few looks = record {
   length_is = omega (arith, looks.length_is, length_push looked l, length_push ids x);
   each = λ r within. elim (cases_lt r (length ids)) [
@@ -159,10 +147,11 @@ pub one_piece : {A : Type 0} (f : A → List ℕ) (xs : List A) (i : ℕ) (d : A
 one_piece f xs i d start old new lt so_far added =
     added ∙ rw (so_far, take_more xs i d lt) (flat_map_more f start (take i xs) (get_or xs i d))
 
--- the same of what is made of each element
-pub one_mapped : {A B : Type 0} (f : B → List ℕ) (g : A → B) (xs : List A) (i : ℕ) (d : A)
-    (start old new : List ℕ) → i < length xs → old ≡ start ++ flat_map f (map g (take i xs))
-    → new ≡ old ++ f (g (get_or xs i d)) → new ≡ start ++ flat_map f (map g (take (i + 1) xs))
-one_mapped f g xs i d start old new lt so_far added =
-    added ∙ rw (so_far, map_more g xs i d lt)
-    (flat_map_more f start (map g (take i xs)) (g (get_or xs i d)))
+-- what is known of rows that are held, and of bytes that a loop adds
+pub ruleset last_held = (slice_get-get_or, slice_get_read, get_or_push, length_push, one_more)
+
+pub ruleset rows_held = (kept_rows, numbered_pushed, pushed, row_ids, take-map, last_held)
+
+pub ruleset tests = (next_passes, next_fails, tests_of_some, not_refused)
+
+pub ruleset pieces = (map_more, take_all, take_more, drop_all, get_or-map, tests)

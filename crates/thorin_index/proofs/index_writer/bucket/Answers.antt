@@ -24,9 +24,8 @@ loop-i-preserved g c =
     let ids = map id (take i units) in
     let count : length ids ≡ i = length-map (take i units) id
     ∙ length-take-le i units (omega arith) in
-    let more : map id (take (i + 1) units) ≡ ids ++ c.index.result ∷ [] =
-    map_more id units i c.index-units-i.result (omega arith)
-    ∙ rw (← c.index-units-i.is, ← c.index.ensures) refl in
+    let more : map id (take (i + 1) units) ≡ ids ++ c.index.result ∷ [] = map_more id units
+    i c.index-units-i.result (omega arith) ∙ rw (← c.index-units-i.is, ← c.index.ensures) refl in
     let placed = c.place_row.ensures in
     let before = c.loop-i.invariant in
     let same = c.loop-i.auto.table in
@@ -36,11 +35,9 @@ loop-i-preserved g c =
       table = rw more (placed.table ids before.table (omega (arith, count))
           (omega (arith, long, c.slot_count.ensures.room)));
       looked = rw (more, c.in_ok-push.ensures.items) (looked_more ids c.loop-i.table
-          c.place_row.new.slots
-          c.loop-i.looked.items c.index.result c.unwrap.result placed.kept
-          (rw count (rw c.unwrap.ensures at (placed.last ids before.table
-          (omega (arith, count))))) (rw c.unwrap.ensures at (placed.count ids before.table))
-          before.looked);
+          c.place_row.new.slots c.loop-i.looked.items c.index.result c.unwrap.result placed.kept
+          (rw count (rw c.unwrap.ensures at (placed.last ids before.table (omega (arith, count)))))
+          (rw c.unwrap.ensures at (placed.count ids before.table)) before.looked);
     }
 
 pub returns : goal.returns

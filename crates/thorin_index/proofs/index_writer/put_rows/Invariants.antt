@@ -7,6 +7,5 @@ invariant-loop-position l = l.out.items ≡ l.initial.out.items ++ rows_bytes l.
     (measure_of l.measure) l.columns (take l.position l.rows)
 
 abbrev pub invariant-loop-kind : goal.invariant-loop-kind
-invariant-loop-kind l = l.out.items ≡ l.initial.out.items ++ numbers_bytes l.order
-    (row_numbers (measure_of l.measure) (take l.kind-index l.columns)
-    (get_or l.rows l.position blank))
+invariant-loop-kind l = l.out.items ≡ l.initial.out.items ++ numbers_bytes l.order (row_numbers
+    (measure_of l.measure) (take l.kind-index l.columns) (get_or l.rows l.position blank))

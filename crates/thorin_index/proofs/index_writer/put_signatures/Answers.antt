@@ -5,9 +5,8 @@ use Rattle.thorin_index.proofs.RowLemmas.{one_piece}
 use Rattle.thorin_index.proofs.index_writer.put_signatures.Goals.{else-row-eq0, then-row-eq0}
 use Rattle.thorin_index.proofs.index_writer.put_signatures.Goals as goal
 
-signature_at : (entries : List IndexEntry) (r row : ℕ) (d : IndexEntry) → row ≡ suc r
-    → r < length entries
-    → identifier_of (get_or entries r d).id ≡ signature_of (entry_ids entries) row
+signature_at : (entries : List IndexEntry) (r row : ℕ) (d : IndexEntry) → row ≡ suc r → r
+    < length entries → identifier_of (get_or entries r d).id ≡ signature_of (entry_ids entries) row
 signature_at entries r row d is within =
     rw (is, get_or-map (λ (x : IndexEntry). identifier_of x.id) entries r d 0 within) refl
 

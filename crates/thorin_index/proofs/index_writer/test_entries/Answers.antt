@@ -8,6 +8,5 @@ returns-clause-offsets c = on_ok_weaker c.test_each-3.result
     c.in_ok-test_each-2.ensures.passed) c.test_each-3.ensures.passed
 
 pub returns-clause-sizes : goal.returns-clause-sizes
-returns-clause-sizes c = on_ok_weaker c.test_each-3.result
-    (rows_fit size_or_0 (codes "contribution size") c.args.rows.now refl)
-    c.test_each-3.ensures.passed
+returns-clause-sizes c = on_ok_weaker c.test_each-3.result (rows_fit size_or_0
+    (codes "contribution size") c.args.rows.now refl) c.test_each-3.ensures.passed

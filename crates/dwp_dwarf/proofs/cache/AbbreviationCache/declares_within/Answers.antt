@@ -11,8 +11,3 @@ returns-clause-same g c = λ yes part whole is_part is_whole.
     omega (arith, leb-true _ _ yes, c.len.ensures, c.saturating_add.ensures, size) in
     same_within _ part whole c.args.offset c.args.end _ _ fits
     (c.in-Some.ensures.ends c.self.invariant whole (rw (sym same) at is_whole)).1 is_part is_whole
-
-pub returns-clause-declared : goal.returns-clause-declared
-returns-clause-declared g c = λ yes whole is_whole.
-    let same : c.self.inside.section ≡ c.args.self.now = cc in
-    (c.in-Some.ensures.ends c.self.invariant whole (rw (sym same) at is_whole)).0

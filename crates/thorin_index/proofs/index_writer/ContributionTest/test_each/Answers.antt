@@ -10,10 +10,9 @@ returns-in_err-test-clause-exact c =
     let p = err_from_is_err_and c.from_residual.result c.from_residual.ensures.1 in
     rw (p.1, p.2) (λ other. next_fails (contributions_test (test_of c.args.self)) c.args.rows.now
     c.loop-position.position blank _
-    (omega (arith, c.loop-position-test.true, c.len-position-end.ensures))
-    c.loop-position.invariant (next_fails
-    (λ kind. test_of c.args.self kind (contribution_to kind entry)) contribution_kinds
-    c.loop-kind.kind-index _ _ c.loop-kind-test.true c.loop-kind.invariant
+    (omega (arith, c.loop-position-test.true, c.len-position-end.ensures)) c.loop-position.invariant
+    (next_fails (λ kind. test_of c.args.self kind (contribution_to kind entry))
+    contribution_kinds c.loop-kind.kind-index _ _ c.loop-kind-test.true c.loop-kind.invariant
     (rw c.contribution.ensures at (c.in_err-test.ensures other))))
 
 pub loop-kind-preserved : goal.loop-kind-preserved
@@ -21,17 +20,7 @@ loop-kind-preserved c =
     let entry = get_or c.args.rows.now c.loop-position.position blank in
     sym (next_passes (λ kind. test_of c.args.self kind (contribution_to kind entry))
     contribution_kinds c.loop-kind.kind-index _ c.loop-kind-test.true
-    (rw c.contribution.ensures at c.in_ok-test.ensures))
-    ∙ c.loop-kind.invariant
-
-pub loop-position-preserved : goal.loop-position-preserved
-loop-position-preserved c =
-    let passes = sym (rw (drop_all c.loop-kind.kind-index contribution_kinds (omega arith))
-    at c.loop-kind.invariant) in
-    sym (next_passes (contributions_test (test_of c.args.self)) c.args.rows.now
-    c.loop-position.position blank
-    (omega (arith, c.loop-position-test.true, c.len-position-end.ensures)) passes)
-    ∙ c.loop-position.invariant
+    (rw c.contribution.ensures at c.in_ok-test.ensures)) ∙ c.loop-kind.invariant
 
 pub returns-clause-passed : goal.returns-clause-passed
 returns-clause-passed c =
