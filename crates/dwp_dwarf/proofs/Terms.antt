@@ -22,7 +22,7 @@ pub use Rattle.dwp_bytes.specs.declared.encoding.Encoding.{Encoding}
 pub use Rattle.dwp_bytes.specs.{declared.encoding.Format.Format, declared.error.ReadError.ReadError}
 pub use Rattle.dwp_dwarf.specs.Abbreviations.{Declaration, past_specifications, Specification}
 pub use Rattle.dwp_dwarf.specs.Attributes.{attribute_of, attribute_seen, attributes_left, entry_of}
-pub use Rattle.dwp_dwarf.specs.{Chains.RemembersPlaces, declared.value.Layout.TheVariants.Fixed}
+pub use Rattle.dwp_dwarf.specs.{Chains.RemembersPlaces, declared.value.FormLayout.TheVariants.Fixed}
 pub use Rattle.dwp_dwarf.specs.{declared.versions.Node.Node, Forms.layout_of, Split.SplitAttributes}
 pub use Rattle.dwp_dwarf.specs.{Numbers.first_number, Numbers.has_bytes, Split.attributes_of}
 pub use Rattle.dwp_dwarf.specs.Declarations.{declaration_of, specification_of}

@@ -17,8 +17,8 @@ use Rattle.dwp_units.specs.AbbreviationCodes.{root_code_at}
 use Rattle.dwp_dwarf.specs.Values.{LiesFirst, LiesInUnit, RootValuesLie, ValuesLie}
 use Rattle.dwp_dwarf.proofs.Tables.{code_goes}
 use Rattle.dwp_units.proofs.Units.{listed_ok, Onward, unit_takes}
-use Rattle.dwp_dwarf.specs.{declared.value.BlockLength.BlockLength, declared.value.Layout.Layout}
-use Rattle.dwp_dwarf.specs.declared.value.Layout.TheVariants.{Block, Signed, Text, Unsigned}
+use Rattle.dwp_dwarf.specs.declared.value.{BlockLength.BlockLength, FormLayout.FormLayout}
+use Rattle.dwp_dwarf.specs.declared.value.FormLayout.TheVariants.{Block, Signed, Text, Unsigned}
 use Rattle.dwp_dwarf.specs.declared.value.BlockLength.TheVariants.{Four, Leb, One, Two}
 use Rattle.dwp_dwarf.specs.Forms.{block_length_at, named_within, text_at}
 
@@ -77,7 +77,7 @@ block_length_goes Two i = more_gives (number_goes 2 i) (λ x p. goes_some p)
 block_length_goes Four i = more_gives (number_goes 4 i) (λ x p. goes_some p)
 block_length_goes Leb i = more_gives (goes reads_uleb i) (λ x p. goes_some p)
 
-past_goes : (layout : Layout) (i : Input) → Gives Input (past_value layout i) (Goes 0 i)
+past_goes : (layout : FormLayout) (i : Input) → Gives Input (past_value layout i) (Goes 0 i)
 unfolding past_value
 past_goes (Fixed size) i = then_gives (skip_goes size i) (λ x p. value_gives (goes_some p))
 past_goes (Block wide) i = then_gives (block_length_goes wide i) (λ n p. then_gives

@@ -10,9 +10,9 @@ use Rattle.dwp_bytes.specs.Leb.{uleb_at, sleb_at}
 use Rattle.dwp_bytes.specs.declared.encoding.Encoding.{Encoding}
 use Rattle.dwp_bytes.specs.declared.error.ReadError.{ReadError}
 use Rattle.dwp_bytes.specs.declared.error.ReadError.TheVariants.{UnexpectedEof, UnknownForm}
-use Rattle.dwp_dwarf.specs.declared.value.Layout.{Layout}
-use Rattle.dwp_dwarf.specs.declared.value.Layout.TheVariants.{Fixed, Block, Text, Unsigned, Signed}
-use Rattle.dwp_dwarf.specs.declared.value.BlockLength.{BlockLength}
+use Rattle.dwp_dwarf.specs.declared.value.{BlockLength.BlockLength, FormLayout.FormLayout}
+use Rattle.dwp_dwarf.specs.declared.value.FormLayout.TheVariants.{Block, Fixed, Signed, Text}
+use Rattle.dwp_dwarf.specs.declared.value.FormLayout.TheVariants.{Unsigned}
 use Rattle.dwp_dwarf.specs.declared.value.BlockLength.TheVariants.{One, Two, Four, Leb}
 
 abbrev pub is_one_of : List ℕ → ℕ → Bool
@@ -50,7 +50,7 @@ unit_size encoding form =
     else offset_size encoding.format) else None))
 
 -- the forms whose values say how long they are
-abbrev pub open_layout : ℕ → Option Layout
+abbrev pub open_layout : ℕ → Option FormLayout
 open_layout form =
     -- block1, block2, block4
     if form == 0x0a then Some (Block One) else
@@ -67,12 +67,12 @@ open_layout form =
     then Some Unsigned else None))))))
 
 -- the first of two that is there, the first as a size
-abbrev pub sized_or : Option ℕ → Option Layout → Option Layout
+abbrev pub sized_or : Option ℕ → Option FormLayout → Option FormLayout
 sized_or (Some size) other = Some (Fixed size)
 sized_or None other = other
 
 -- how a form's value is laid out; None for a form that isn't known
-abbrev pub layout_of : Encoding → ℕ → Option Layout
+abbrev pub layout_of : Encoding → ℕ → Option FormLayout
 layout_of encoding form =
     sized_or (fixed_size form) (sized_or (unit_size encoding form) (open_layout form))
 
@@ -92,7 +92,7 @@ text_at i = do
   Ok (text.0, zero_byte.1)
 
 -- what comes behind a value
-unfoldable pub past_value : Layout → Input → Result Input ReadError
+unfoldable pub past_value : FormLayout → Input → Result Input ReadError
 past_value (Fixed size) i = skip_at size i >>= λ rest. Ok rest.1
 past_value (Block wide) i = block_length_at wide i >>= λ n. skip_at n.0 n.1 >>= λ rest. Ok rest.1
 past_value Text i = text_at i >>= λ text. Ok text.1

@@ -14,7 +14,7 @@ use dwp_bytes::{Encoding, Format, ReadError, Reader};
 
 /// How the value of a form is laid out.
 #[derive(Clone, Copy)]
-pub(crate) enum Layout {
+pub(crate) enum FormLayout {
     /// So many bytes.
     Fixed(u8),
     /// A length, and as many bytes.
@@ -76,43 +76,43 @@ pub const GNU_STR_INDEX: u64 = 0x1f02;
 
 /// How the value of a form is laid out (DWARF 5, 7.5.6; the GNU forms of split DWARF and of
 /// supplementary files).
-fn layout_of(form: u64, encoding: Encoding) -> Option<Layout>
+fn layout_of(form: u64, encoding: Encoding) -> Option<FormLayout>
     ensures { result ≡ layout_of encoding form }
 {
-    let offset = Layout::Fixed(encoding.format.offset_size() as u8);
-    let address = Layout::Fixed(encoding.address_size);
+    let offset = FormLayout::Fixed(encoding.format.offset_size() as u8);
+    let address = FormLayout::Fixed(encoding.address_size);
     Some(match form {
         // flag_present, implicit_const
-        0x19 | 0x21 => Layout::Fixed(0),
+        0x19 | 0x21 => FormLayout::Fixed(0),
         // data1, flag, ref1, strx1, addrx1
-        0x0b | 0x0c | 0x11 | 0x25 | 0x29 => Layout::Fixed(1),
+        0x0b | 0x0c | 0x11 | 0x25 | 0x29 => FormLayout::Fixed(1),
         // data2, ref2, strx2, addrx2
-        0x05 | 0x12 | 0x26 | 0x2a => Layout::Fixed(2),
+        0x05 | 0x12 | 0x26 | 0x2a => FormLayout::Fixed(2),
         // strx3, addrx3
-        0x27 | 0x2b => Layout::Fixed(3),
+        0x27 | 0x2b => FormLayout::Fixed(3),
         // data4, ref4, ref_sup4, strx4, addrx4
-        0x06 | 0x13 | 0x1c | 0x28 | 0x2c => Layout::Fixed(4),
+        0x06 | 0x13 | 0x1c | 0x28 | 0x2c => FormLayout::Fixed(4),
         // data8, ref8, ref_sig8, ref_sup8
-        0x07 | 0x14 | 0x20 | 0x24 => Layout::Fixed(8),
+        0x07 | 0x14 | 0x20 | 0x24 => FormLayout::Fixed(8),
         // data16
-        0x1e => Layout::Fixed(16),
+        0x1e => FormLayout::Fixed(16),
         // addr, and ref_addr in version 2
         0x01 => address,
         0x10 if encoding.version == 2 => address,
         // ref_addr, strp, sec_offset, strp_sup, line_strp, GNU_ref_alt, GNU_strp_alt
         0x10 | 0x0e | 0x17 | 0x1d | 0x1f | 0x1f20 | 0x1f21 => offset,
         // block1, block2, block4
-        0x0a => Layout::Block(BlockLength::One),
-        0x03 => Layout::Block(BlockLength::Two),
-        0x04 => Layout::Block(BlockLength::Four),
+        0x0a => FormLayout::Block(BlockLength::One),
+        0x03 => FormLayout::Block(BlockLength::Two),
+        0x04 => FormLayout::Block(BlockLength::Four),
         // block, exprloc
-        0x09 | 0x18 => Layout::Block(BlockLength::Leb),
+        0x09 | 0x18 => FormLayout::Block(BlockLength::Leb),
         // string
-        0x08 => Layout::Text,
+        0x08 => FormLayout::Text,
         // sdata
-        0x0d => Layout::Signed,
+        0x0d => FormLayout::Signed,
         // udata, ref_udata, strx, addrx, loclistx, rnglistx, GNU_addr_index, GNU_str_index
-        0x0f | 0x15 | 0x1a | 0x1b | 0x22 | 0x23 | 0x1f01 | 0x1f02 => Layout::Unsigned,
+        0x0f | 0x15 | 0x1a | 0x1b | 0x22 | 0x23 | 0x1f01 | 0x1f02 => FormLayout::Unsigned,
         _ => return None,
     })
 }
@@ -144,22 +144,22 @@ pub(crate) fn read_text<R: Reader>(reader: &mut R) -> Result<R, ReadError>
 }
 
 #[tactic(auto, unfolding(crate::specs::Forms::past_value))]
-fn after_value<R: Reader>(mut at: R, layout: Layout) -> Result<R, ReadError>
+fn after_value<R: Reader>(mut at: R, layout: FormLayout) -> Result<R, ReadError>
     ensures { Answers R.input result (past_value layout (R.input at)) }
 {
     match layout {
-        Layout::Fixed(size) => at.skip(usize::from(size))?,
-        Layout::Block(length) => {
+        FormLayout::Fixed(size) => at.skip(usize::from(size))?,
+        FormLayout::Block(length) => {
             let size = read_block_length(&mut at, length)?;
             at.skip(size as usize)?;
         }
-        Layout::Text => {
+        FormLayout::Text => {
             read_text(&mut at)?;
         }
-        Layout::Unsigned => {
+        FormLayout::Unsigned => {
             at.read_uleb128()?;
         }
-        Layout::Signed => {
+        FormLayout::Signed => {
             at.read_sleb128()?;
         }
     }
