@@ -1,68 +1,35 @@
 -- A package with the units of an input has them beside its own; an input that is taken joins them,
 -- and all of them can be found and read. Its strings are those that its inputs name.
 use Rattle.thorin_join.proofs.Terms
-use Terms.{adding, ap, append-nil, arith, begun_by, bind-ok, can_join, content_of, Contents}
-use Terms.{DwarfObject, Each, Elf, false, first, has_info, indexes_of, inl, InProgress}
+use Terms.{adding, ap, append-nil, AreRowsOf, arith, begun_by, bind-ok, can_join, content_of}
+use Terms.{Contents, DwarfObject, Elf, false, first, has_info, indexes_of, inl, InProgress}
 use Terms.{input_file_of, InputFile, inr, IsSound, IsSoundBegun, IsTable, joined_parts, joining}
-use Terms.{Joins, keys, kind_of, List, map, Meaning, Members, names_of, New, new_units, None}
-use Terms.{offsets_used, Ok, opened, Option, order_test, package_or_new, parts_of, refl, Represents}
-use Terms.{Some, Source, source_units, Str, subst, sum_by, sym, true, units_begun}
-use Terms.{units_of, with_input, with_new_units, with_parts, with_source, [], ℕ, ◌++◌, ◌∙◌, ◌∷◌}
-use Terms.{map-map, ◌≡◌, ◌⊎◌}
-use Rattle.thorin_join.proofs.Units.ReadInTurn.{added-keys, AreAdded, each-joining, units-joined}
-use Rattle.thorin_join.proofs.Units.ReadInTurn.{News, Reads}
-use Rattle.thorin_join.proofs.Rows.AllAdded.{AllCanBeAdded, joined-new, laid-lies, units-added}
-use Rattle.thorin_join.proofs.Parts.Added.{Brings, content-with_parts, parts-follow, units-strings}
-use Rattle.thorin_join.proofs.Parts.Added.{each-brings, parts-none}
-use Rattle.thorin_join.specs.State.{held_units, with_all}
-use Rattle.thorin_join.specs.Meaning.{input_meaning, meant, object_meaning, source_meaning}
-use Rattle.thorin_join.proofs.Units.InRows.{apart-none, joined_distinct, keys-units, units-are}
-use Rattle.thorin_join.proofs.Rows.OneAdded.{Grows, keep-rows, not-shared}
-use Rattle.thorin_join.proofs.{Rows.AllAdded.can-lie, Units.Whole.Goes, Units.Whole.units-go}
-use Rattle.thorin_join.proofs.Rows.OfUnits.{is-unit_row, row-shares}
+use Terms.{Joins, keys, kind_of, List, names_of, New, new_units, None, offsets_used, Ok, opened}
+use Terms.{Option, order_test, package_or_new, parts_of, refl, Represents, Some, Source}
+use Terms.{source_units, Str, subst, sum_by, sym, true, units_begun, units_of, with_input}
+use Terms.{with_new_units, with_parts, with_source, [], ℕ, ◌++◌, ◌∙◌, ◌∷◌, map-map, ◌≡◌, ◌⊎◌}
 use Rattle.thorin_input.specs.Encodings.{encoding_of}
+use Rattle.thorin_join.proofs.Parts.Added.{Brings, content-with_parts, parts-follow, units-strings}
+use Rattle.thorin_join.proofs.{Parts.Added.each-brings, Parts.Added.parts-none, Units.Whole.Goes}
+use Rattle.thorin_join.proofs.Rows.AllAdded.{all_meant, joined-new, laid-lies, RowsLie, units-added}
+use Rattle.thorin_join.proofs.Rows.OneAdded.{Grows, keep-rows, not-shared}
+use Rattle.thorin_join.proofs.Units.InRows.{apart-none, joined_distinct, keys-units, units-are}
+use Rattle.thorin_join.proofs.Units.ReadInTurn.{added-keys, each-joining, units-joined, Reads}
+use Rattle.thorin_join.{proofs.Units.Whole.units-go, specs.State.held_units, specs.State.with_all}
 use Rattle.thorin_join.specs.Builder.{order_of, source_for, with_source_or_new, with_units}
 use Rattle.thorin_join.specs.FirstUse.{named_in, named_in_file, strings_begun, used_by, UsesStrings}
+use Rattle.thorin_join.specs.FirstUse.{with_strings}
+use Rattle.thorin_join.specs.Meaning.{input_meaning, object_meaning, source_meaning}
 use Rattle.dwp_units.specs.declared.unit.UnitSection.TheVariants as places
+pub use Rattle.thorin_join.proofs.Rows.AllAdded.{all_there}
 
 -- joining keeps what belongs to units
-abbrev all_meant : Source → Reads → List (DwarfObject × Option Meaning)
-all_meant source us = map {B = DwarfObject × Option Meaning} (meant source) us
-
 join-meant : (source : Source) (names : List DwarfObject) (us : Reads)
     → (joining names (all_meant source us) ≡ all_meant source (joining names us))
     × (can_join names (all_meant source us) ≡ can_join names us)
 join-meant source names [] = (refl, refl)
 join-meant source names (u ∷ us) =
     grind (arith, join-meant source names us, join-meant source (names ++ u.0 ∷ []) us)
-
--- units with all that belongs to them
-abbrev pub all_there : Members → List (DwarfObject × Option Meaning)
-all_there ms = map {B = DwarfObject × Option Meaning} (λ u. (u.0, Some u.1)) ms
-
-record Ready (source : Source) (c : Contents) (after : List (List ℕ)) (ns : News)
-    (rs : Reads) : Type 0 where
-  members : Members
-  are : all_meant source rs ≡ all_there members
-  can : AllCanBeAdded source.object.order c after ns members
-
-module _ (source : Source) (before : InProgress) (parts : Contents) (after : List (List ℕ))
-    (table : IsTable before.strings) (h : parts_of source before.strings ≡ Ok (parts, after)) where
-  ready : (ns : News) (rs : Reads) → AreAdded (adding source before parts) ns rs
-      → Each (Goes source.object.order) rs
-      → Ready source (with_parts parts before.file.contents) after ns rs
-  ready [] [] are go = record { members = []; are = refl; can = tt }
-  ready (n ∷ ns) (r ∷ rs) are go =
-      let s = row-shares source before.file.contents parts r n.1.row (is-unit_row source.indexes _
-      r.0 n.1.row are.0.row) before.strings after table h are.0.tested in
-      let can = can-lie source before parts n r are.0 go.0 in
-      let rest = ready ns rs are.1 go.1 in
-      record {
-        members = (r.0, s.unit) ∷ rest.members;
-        are = λ i. (r.0, s.meaning_is i) ∷ rest.are i;
-        can = (assumption (are.0.bytes ∙ sym s.bytes_are, can), rest.can);
-      }
-  ready _ _ are go = absurd are
 
 -- the names of a package's units
 pub keys-held : (made : InProgress) → keys (held_units made) ≡ names_of made
@@ -117,39 +84,42 @@ source-joins bytes source before now sound same meaning h =
     let names : held ≡ keys ms = keys-held before ∙ sym (keys-units before) in
     let kept = parts-follow source before.strings parts m.after rep.table m.parts_are in
     let none = parts-none source before.strings parts m.after m.parts_are in
-    let r = ready source before parts m.after rep.table m.parts_are us (joining held j.all) j.are
-    (each-joining (Goes source.object.order) held j.all (units-go source j.all j.is)) in
     let q = with_all_parts before parts m.after (before.differing ++ m.new.differing) in
-    let added = added-keys (adding source before parts) us (joining held j.all) j.are in
-    let a = units-added q.file.contents q us ms r.members
+    let new = joining held j.all in
+    let added = added-keys (adding source before parts) us new j.are in
+    let s = units-added source before parts m.after rep.table m.parts_are q us new ms j.are
+    (each-joining (Goes source.object.order) held j.all (units-go source j.all j.is))
     (λ kind. record { rest = []; is = sym (append-nil (content_of kind q.file.contents)) })
     (rw (added, ← keys-held before) (joined-new held j.all))
-    (subst (λ o. AllCanBeAdded o q.file.contents m.after us r.members) same r.can)
-    (keep-rows before.file.order old q.file.contents before.strings m.after before.rows ms
-    (grows-with_parts parts old) kept.kept rep.rows) (laid-lies before parts
-    (λ place. none (kind_of place) (not-shared place).0 (not-shared place).2) sound.laid) in
-    let has : Represents (with_new_units q us) (ms ++ r.members) = record {
+    (subst (λ o. AreRowsOf o q.file.contents m.after before.rows ms) (sym same) (keep-rows
+    before.file.order old q.file.contents before.strings m.after before.rows ms
+    (grows-with_parts parts old) kept.kept rep.rows))
+    (subst (λ o. RowsLie o before.rows q.file.contents) (sym same) (laid-lies before parts
+    (λ place. none (kind_of place) (not-shared place).0 (not-shared place).2) sound.laid)) in
+    let a = s.2 in
+    let order : (with_new_units q us).file.order ≡ source.object.order = a.order ∙ sym same in
+    let has : Represents (with_new_units q us) (ms ++ s.0) = record {
       table = rw a.strings kept.table;
       no_strings = grind (arith, a.other, content-with_parts, none, rep.no_strings);
       no_compilations = grind (arith, a.other, content-with_parts, none, rep.no_compilations);
       no_types = grind (arith, a.other, content-with_parts, none, rep.no_types);
-      rows = rw (a.order, a.strings) a.rows;
+      rows = rw (order, a.strings) a.rows;
     } in
-    let are = units-are (with_new_units q us) (ms ++ r.members) has in
+    let are = units-are (with_new_units q us) (ms ++ s.0) has in
     rw (← m.is) (record {
       joins = record {
         units = all_meant source j.all;
         meaning = meaning ∙ bind-ok (source_units source) j.all _ j.is;
         defined = rw (← names) ((join-meant source held j.all).1 ∙ j.defined);
-        added = r.members;
-        joined = rw (← names) ((join-meant source held j.all).0 ∙ r.are);
+        added = s.0;
+        joined = rw (← names) ((join-meant source held j.all).0 ∙ s.1);
         is = sym are;
       };
       sound = record {
         units = rw are at has;
         apart = rw (a.names, added, keys-held before)
             (joined_distinct (names_of before) j.all sound.apart);
-        laid = grind (arith, a.order, a.lie.lies places.Info, a.lie.lies places.Types, a.lie.once);
+        laid = grind (arith, order, a.lie.lies places.Info, a.lie.lies places.Types, a.lie.once);
       };
     })
 
@@ -243,20 +213,15 @@ uses-strings bytes begun now sound h =
     let fine : IsSound now = (input-keeps bytes begun (Some now) sound h).sound in
     let t = takes bytes begun (Some now) h in
     let start = same-begun strings_begun t.file refl begun in
-    elim t.does [
+    let said : (used : List (List ℕ)) × (used_by bytes ≡ Ok used)
+    × (now.strings ≡ with_strings (strings_begun begun) used) = elim t.does [
       | inl u ↦
           let v = u.1 in
-          let brings = source-brings v.source _ v.made (source-made v.source _ v.made v.with) in
-          record {
-            used = named_in v.source v.source.object.sections;
-            named = rw (t.opens, u.0, v.object_is, v.encoding_is, v.indexes_are) refl;
-            strings = cc (v.is, brings.are, start);
-            distinct = fine.units.table.distinct;
-          }
-      | inr n ↦ record {
-        used = [];
-        named = rw (t.opens, n.0) refl;
-        strings = cc (n.1, start);
-        distinct = fine.units.table.distinct;
-      }
-    ]
+          let brings = source-brings v.source _ v.made (source-made v.source _ v.made v.with) in (
+            named_in v.source v.source.object.sections,
+            rw (t.opens, u.0, v.object_is, v.encoding_is, v.indexes_are) refl,
+            cc (v.is, brings.are, start),
+          )
+      | inr n ↦ ([], rw (t.opens, n.0) refl, cc (n.1, start))
+    ] in
+    record { used = said.0; named = said.1; strings = said.2; distinct = fine.units.table.distinct }

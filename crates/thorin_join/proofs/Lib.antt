@@ -1,4 +1,3 @@
-pub mod Chosen
 pub mod Terms
 pub mod Moved
 pub mod Parts

@@ -2,25 +2,24 @@
 use Rattle.thorin_join.proofs.Terms
 use Terms.{after, ap, arith, Bool, cond, drop, drop-append-le, Encoding, Endianness, entry_identity}
 use Terms.{Err, first_identifier, Format, Header, identity, Input, is_address_size, is_some, length}
-use Terms.{length-append, List, nat_tests, number_front, offset_size, Ok, ReadError, refl, Result}
-use Terms.{root_identity, suc, sym, take-append-drop, take-append-le, true, type_signature}
-use Terms.{unit_takes, UnitSection, zero, [], ℕ, ◌++◌, ◌+◌, ◌-◌, ◌>>=◌, ◌∙◌, ◌∷◌, ◌≡◌, ◌⊎◌}
-use Rattle.dwp_units.proofs.Readings.{bind-bind, bind_alike, reads_byte, reads_sleb, reads_uleb}
-use Rattle.dwp_units.proofs.Readings.{Answer, by-result, more, Reads}
-use Rattle.dwp_dwarf.specs.Forms.{block_length_at, named_form_at, named_within, past_value, text_at}
-use Rattle.dwp_units.specs.Units.{address_size_at, initial_length_at, older_type_at, unit_code_at}
-use Rattle.dwp_units.specs.Units.{header_at, newer_at, older_at, type_at, unit_at, unit_type_at}
-use Rattle.std.proofs.Common.{add_assoc, length-take-le, ℤ}
+use Terms.{length-append, List, nat_tests, number_front, Ok, ReadError, refl, Result, root_identity}
+use Terms.{suc, sym, take-append-drop, take-append-le, true, type_signature, unit_takes}
+use Terms.{UnitSection, zero, [], ℕ, ◌++◌, ◌+◌, ◌-◌, ◌>>=◌, ◌∙◌, ◌∷◌, ◌≡◌, ◌⊎◌}
 use Rattle.dwp_bytes.specs.Input.{byte_at, number_at, offset_at, relocated_at, skip_at, split_at}
 use Rattle.dwp_bytes.specs.Leb.{sleb_at, uleb_at}
-use Rattle.dwp_bytes.specs.declared.error.ReadError.TheVariants.{AddressSize, UnknownForm}
-use Rattle.dwp_dwarf.specs.{Abbreviations.Specification, Forms.layout_of, Forms.value_at}
-use Rattle.dwp_dwarf.specs.Entries.{attribute_at, attributes, DebugAttribute, number_of}
-use Rattle.dwp_units.specs.AbbreviationCodes.{code_at, root_code_at}
-use Rattle.std.specs.{Option.ok_or, Prelude.is_ok}
 use Rattle.dwp_bytes.specs.declared.encoding.Format.TheVariants.{Dwarf32, Dwarf64}
-use Rattle.dwp_units.specs.declared.unit.UnitSection.TheVariants.{Types}
-use Rattle.dwp_units.specs.declared.unit.UnitType.{UnitType}
+use Rattle.dwp_bytes.specs.declared.error.ReadError.TheVariants.{AddressSize, UnknownForm}
+use Rattle.dwp_dwarf.specs.Entries.{attribute_at, attributes, DebugAttribute, number_of}
+use Rattle.dwp_dwarf.specs.Forms.{block_length_at, named_form_at, named_within, past_value, text_at}
+use Rattle.dwp_dwarf.specs.{Forms.layout_of, Forms.value_at, Abbreviations.Specification}
+use Rattle.dwp_units.proofs.Readings.{Answer, by-result, more, Reads}
+use Rattle.dwp_units.proofs.Readings.{bind-bind, bind_alike, reads_byte, reads_sleb, reads_uleb}
+use Rattle.dwp_units.specs.AbbreviationCodes.{code_at, root_code_at}
+use Rattle.dwp_units.specs.Units.{address_size_at, initial_length_at, older_type_at, unit_code_at}
+use Rattle.dwp_units.specs.Units.{header_at, newer_at, older_at, type_at, unit_at, unit_type_at}
+use Rattle.dwp_units.specs.declared.unit.{UnitSection.TheVariants.Types, UnitType.UnitType}
+use Rattle.std.proofs.Common.{add_assoc, length-take-le, ℤ}
+use Rattle.std.specs.{Option.ok_or, Prelude.is_ok}
 pub use Rattle.dwp_index.proofs.TwoPlaces.{plain}
 
 -- what was read, moved
@@ -212,17 +211,15 @@ module _ (rest : List ℕ) where
   unfolding longer
   place-longer i = refl
 
-  number-more : (format : Format) → Onward (number_at (offset_size format))
-  unfolding number_at longer
-  number-more format i h = grind (arith, nat_tests, length-append, drop-append-le, number_front)
-
   split-more : (n : ℕ) → Onward (split_at n)
   unfolding split_at longer
   split-more n i h = grind (arith, nat_tests, length-append, drop-append-le, take-append-le)
 
   length-more : Onward initial_length_at
-  unfolding initial_length_at
-  length-more i h = grind (arith, number-more Dwarf32, number-more Dwarf64)
+  unfolding initial_length_at number_at longer
+  length-more i h =
+      let front = number_front i.order in
+      grind (arith, nat_tests, length-append, drop-append-le, front Dwarf32, front Dwarf64)
 
   unit-more : (place : UnitSection) → Onward (unit_at place)
   unfolding unit_at
@@ -269,9 +266,3 @@ FiveOrType unit = (unit.encoding.version ≡ 5) ⊎ (is_some (type_signature uni
 pub unit-five : (i rest : Input) (u : Header) → unit_at Types i ≡ Ok (u, rest) → FiveOrType u
 unfolding unit_at header_at older_at older_type_at
 unit-five i rest u h = grind (arith, newer-five)
-
--- a unit of version 5 is read alike in either section
-pub unit-anywhere : (place other : UnitSection) (i : Input) (u : Header) (r : Input)
-    → u.encoding.version ≡ 5 → unit_at place i ≡ Ok (u, r) → unit_at other i ≡ Ok (u, r)
-unfolding unit_at header_at older_at
-unit-anywhere place other i u r five h = grind arith

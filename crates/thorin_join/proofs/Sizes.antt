@@ -2,9 +2,9 @@
 -- and finishing adds the strings and both indexes.
 use Rattle.thorin_join.proofs.Terms
 use Terms.{Adding, adding, All, ap, appended, arith, begun_by, bind-was, bytes_of_contents}
-use Terms.{bytes_of_strings, bytes_of_unit, Contents, data_of, DwarfObject, Elf, Endianness}
+use Terms.{bytes_of_strings, bytes_of_unit, cond, Contents, data_of, DwarfObject, Elf, Endianness}
 use Terms.{ErrorValue, every, File, file_text, first, flat_map-map, Header, IndexEntry, InProgress}
-use Terms.{IsFinished, IsIndexOf, joining, KindsDiffer, leb-true, length, length-append}
+use Terms.{is_some, IsFinished, IsIndexOf, joining, KindsDiffer, leb-true, length, length-append}
 use Terms.{length-KindsDiffer, length-map, List, map, name_of, nat_le, nat_tests, NewUnit, None}
 use Terms.{offsets_used, Ok, Option, refl, same-ok, SectionKind, Some, Source, Str, suc, sum_by}
 use Terms.{sym, unit_section, UnitRead, units_whole, UnitSection, Used, with_bytes, with_input}
@@ -15,7 +15,7 @@ use Rattle.thorin_join.specs.Sizes.{carried, used_size, with_inputs}
 use Rattle.std.proofs.lemmas.List.Concat.{length-flat_map}
 use Rattle.std.proofs.lemmas.List.Sums.{sum_by-append, sum_by-cons, sum_by-le-sum_by}
 use Rattle.thorin_join.proofs.Joined.{same-begun, source-brings, source-made, takes}
-use Rattle.thorin_join.proofs.Parts.Added.{each-brings, each-unit, long, part_bytes, used-most}
+use Rattle.thorin_join.proofs.Parts.Added.{each-brings, each-unit, long, placed_bytes, used-most}
 use Rattle.thorin_join.proofs.Units.ReadInTurn.{AreAdded, each-named, News, Reads, units-joined}
 use Rattle.dwp_elf.specs.FileText.{content_bytes, names_of}
 use Rattle.dwp_elf.proofs.Limits.{length-file_text, length-number_bytes}
@@ -61,17 +61,10 @@ read_unit read = read.1.unit
 abbrev read_bytes : DwarfObject × UnitRead → ℕ
 read_bytes read = length read.1.unit.whole.bytes
 
--- by sections
-abbrev placed_bytes : Option UnitSection → Used → ℕ
-placed_bytes None from = 0
-placed_bytes (Some place) from = length from.bytes
-
-abbrev unit_bytes : Used → ℕ
-unit_bytes from = placed_bytes (unit_section from.kind) from
-
 module _ (source : Source) where
   section-within : (from : Used) (place : Option UnitSection) (us : Reads)
-      → named_at source from place ≡ Ok us → sum_by read_bytes us ≤ placed_bytes place from
+      → named_at source from place ≡ Ok us
+      → sum_by read_bytes us ≤ cond (is_some place) (length from.bytes) 0
   section-within from None us h = rw (← same-ok {E = ErrorValue} [] us h) (omega arith)
   section-within from (Some place) us h =
       let reads = each-named source from.kind (λ reads us. reads ≡ map Ok (map read_unit us)) refl
@@ -81,36 +74,24 @@ module _ (source : Source) where
       omega (arith, joined, ap length is)
 
   sections-within : (sections : List Used) (us : Reads)
-      → named_sections source sections ≡ Ok us → sum_by read_bytes us ≤ sum_by unit_bytes sections
+      → named_sections source sections ≡ Ok us → sum_by read_bytes us ≤ sum_by placed_bytes sections
   unfolding named_sections
   sections-within [] us h = grind arith
   sections-within (from ∷ rest) us h =
       let here = section-within from (unit_section from.kind) in
       let sums = sum_by-append read_bytes in
-      grind (arith, here, sections-within rest, sums, sum_by-cons unit_bytes from rest)
+      grind (arith, here, sections-within rest, sums, sum_by-cons placed_bytes from rest)
 
 -- what is added of them
-joining-within : (names : List DwarfObject) (us : Reads)
-    → sum_by read_bytes (joining names us) ≤ sum_by read_bytes us
-joining-within names [] = omega arith
-joining-within names (u ∷ us) =
-    let more = joining-within (names ++ u.0 ∷ []) us in
-    grind (arith, sum_by-cons read_bytes, joining-within names us, more)
-
-added-long : (adding : Adding) (ns : News) (rs : Reads) → AreAdded adding ns rs
-    → sum_by unit_long ns ≡ sum_by read_bytes rs
-added-long adding [] [] are = refl
-added-long adding (n ∷ ns) (r ∷ rs) are =
-    grind (arith, added-long adding ns rs, sum_by-cons unit_long, sum_by-cons read_bytes)
-added-long adding _ _ are = absurd are
-
--- a section goes to one place at most
-places-within : (sections : List Used) → sum_by part_bytes sections + sum_by unit_bytes sections ≤
-    sum_by carried sections
-places-within [] = omega arith
-places-within (s ∷ ss) =
-    let own = sum_by-cons carried s ss in
-    grind (arith, places-within ss, sum_by-cons part_bytes, sum_by-cons unit_bytes)
+added-within : (adding : Adding) (names : List DwarfObject) (us : Reads) (ns : News)
+    → AreAdded adding ns (joining names us) → sum_by unit_long ns ≤ sum_by read_bytes us
+added-within adding names us [] are = omega arith
+added-within adding names [] (n ∷ ns) are = absurd are
+added-within adding names (u ∷ us) (n ∷ ns) are =
+    let here = sum_by-cons unit_long n ns in
+    let passed = added-within adding names us (n ∷ ns) in
+    let new = added-within adding (names ++ u.0 ∷ []) us ns in
+    grind (arith, here, sum_by-cons read_bytes u us, passed, new)
 
 -- a measure of a package grows by at most so much with the units of an input
 pub record Grows (measure : Option InProgress → ℕ) (most : List Used → ℕ) : Type 0 where
@@ -125,9 +106,9 @@ bytes-grow = record {
       let m = source-made source before now h in
       let brought = each-brings source _ _ _ m.parts_are in
       let j = units-joined (adding source before m.parts) m.new m.new_are in
-      let added = added-long _ m.new.units _ j.are in
+      let added = added-within _ _ j.all m.new.units j.are in
       let all = sections-within source _ j.all j.is in
-      grind (arith, m.is, units-within, with_parts-long, brought.1, joining-within, places-within);
+      grind (arith, m.is, units-within, with_parts-long, brought.1);
 }
 
 -- the strings are those that its string offsets name
@@ -172,11 +153,7 @@ lengths-within (bytes ∷ inputs) h =
     let later = lengths-within inputs (λ k d within. h (suc k) d (omega arith)) in
     omega (arith, h 0 [] (omega arith), carried-used bytes, later, sum_by-cons {X = List ℕ})
 
--- a finished package
-strings-long : (strings : List (List ℕ)) → length (data_of strings) ≡ bytes_of_strings strings
-strings-long strings = simp (length-flat_map, length-append)
-
--- contributions of so many bytes each
+-- a finished package: contributions of so many bytes each
 each-long : {X : Type 0} (n : ℕ) (xs : List X) → sum_by (λ x. n) xs ≡ n * length xs
 each-long n [] = omega arith
 each-long n (x ∷ xs) = grind (arith, sum_by-cons (λ x. n) x xs, each-long n xs)
@@ -198,29 +175,29 @@ index-size order (first ∷ entries) bytes h =
 
 pub finished-size : (made : InProgress) (file : File) → IsFinished made file
     → IsSizeFinished made (bytes_of_contents file.contents)
-finished-size made file f = record {
-  compilation_index = length f.compilation_index;
-  type_index = length f.type_index;
-  of_compilations = index-size made.file.order _ f.compilation_index f.compilations;
-  of_types = index-size made.file.order _ f.type_index f.types;
-  is = grind (arith, f.contents, with_bytes-long, strings-long made.strings);
-}
+finished-size made file f =
+    let strings : length (data_of made.strings) ≡ bytes_of_strings made.strings =
+    simp (length-flat_map, length-append) in
+    record {
+      compilation_index = length f.compilation_index;
+      type_index = length f.type_index;
+      of_compilations = index-size made.file.order _ f.compilation_index f.compilations;
+      of_types = index-size made.file.order _ f.type_index f.types;
+      is = grind (arith, f.contents, with_bytes-long, strings);
+    }
 
 -- an ELF file has few bytes beside its contents
-contents-long : (cs : Contents) → length (content_bytes cs) ≡ bytes_of_contents cs
-unfolding content_bytes
-contents-long [] = refl
-contents-long (c ∷ cs) = grind (arith, length-append c.1, contents-long cs, sum_by-cons long c cs)
-
-names-within : (cs : Contents) → length (names_of cs) ≤ 23 * length cs
-unfolding names_of
-names-within [] = omega arith
-names-within (c ∷ cs) =
+contents-within : (cs : Contents) → (length (content_bytes cs) ≡ bytes_of_contents cs)
+    × (length (names_of cs) ≤ 23 * length cs)
+unfolding content_bytes names_of
+contents-within [] = (refl, omega arith)
+contents-within (c ∷ cs) =
     let name = leb-true _ 22 (every (λ k. nat_le (length (name_of k)) 22) refl c.0) in
-    omega (arith, length-append {A = ℕ}, name, names-within cs)
+    omega (arith, length-append {A = ℕ}, name, contents-within cs, sum_by-cons long c cs)
 
 pub file-within : (file : File) → KindsDiffer file.contents
     → length (file_text file) ≤ bytes_of_contents file.contents + container_most
 file-within file differ =
     let few = length-KindsDiffer file.contents differ in
-    grind (arith, length-file_text file, contents-long, names-within, length-append {A = ℕ})
+    let parts = contents-within file.contents in
+    grind (arith, length-file_text file, parts, length-append {A = ℕ})

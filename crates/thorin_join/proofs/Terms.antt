@@ -1,4 +1,5 @@
--- The names that proofs of this crate cite most, passed on from one place. Declares nothing.
+-- The names that proofs of this crate cite most, passed on from one place; and the rows of
+-- compilation units or those of type units, for proofs that go by which.
 use Rattle.std.proofs.Common
 pub use Common.{All, AllPairs, ap, append-nil, append_assoc, arith, Bool, codes, cond, drop, eqb}
 pub use Common.{Err, false, filter, if◌then◌else◌, inl, inr, is_none, is_some, le-leb, leb-true}
@@ -58,13 +59,12 @@ pub use Rattle.thorin_identity.specs.Identity.{first_identifier}
 pub use Rattle.thorin_index.specs.Entries.{contribution_to, entry_by}
 pub use Rattle.thorin_index.specs.{declared.entry.IndexEntry.IndexEntry, EntryTests.index_tests}
 pub use Rattle.thorin_index.specs.IndexText.{entry_ids, IsIndexOf}
-pub use Rattle.thorin_input.specs.Format.{is_copied, is_in_format, is_shared}
+pub use Rattle.thorin_input.specs.Format.{is_copied, is_shared}
 pub use Rattle.thorin_input.specs.{Held.unit_bytes, NewUnits.New}
 pub use Rattle.thorin_input.specs.Indexes.{Indexes, indexes_of, is_package, Source}
 pub use Rattle.thorin_input.specs.Names.{is_compilation, same_name}
 pub use Rattle.thorin_input.specs.Parts.{has_part, joined_parts, Parts, parts_of, stands_once}
 pub use Rattle.thorin_input.specs.Used.{first, has_info, InputFile, opened, Used}
-pub use Rattle.thorin_join.proofs.Chosen.{is_chosen, rows_of}
 pub use Rattle.thorin_join.specs.Builder.{begun_by, IdentifiersFit, IsFinished, package_or_new}
 pub use Rattle.thorin_join.specs.{Join.GivesNone, Join.Joins, Strings.strings_of}
 pub use Rattle.thorin_join.specs.Laid.{IsWhole, name_signature, type_signature}
@@ -84,3 +84,12 @@ unfoldable pub use Rattle.thorin_join.specs.Builder.{order_test, with_input}
 unfoldable pub use Rattle.thorin_join.specs.State.{with_new_unit, with_new_units, with_source}
 unfoldable pub use Rattle.thorin_package_input.specs.PackagedOffsets.{packaged_offsets}
 unfoldable pub use Rattle.thorin_strings.specs.StringOffsets.{fitting_offset, named_at, remapped}
+
+-- whether a row is one of them
+abbrev pub is_chosen : Bool → IndexEntry → Bool
+is_chosen true row = is_compilation row.id
+is_chosen false row = not (is_compilation row.id)
+
+-- `compilations` of a package's rows where this is true, else `type_units`
+abbrev pub rows_of : Bool → List IndexEntry → List IndexEntry
+rows_of are_compilations rows = filter (is_chosen are_compilations) rows

@@ -3,48 +3,36 @@ use Rattle.thorin_package_input.proofs.Terms.{cases_eq, Contribution, Index, is_
 use Rattle.thorin_package_input.proofs.Terms.{position_from, range_in, range_of_row, range_with_len}
 use Rattle.thorin_package_input.proofs.Terms.{Ranges, ranges_of, row_in, SectionKind}
 use Rattle.std.proofs.Common.{◌≡◌, ◌≢◌, ℕ, zero, suc, ◌+◌, ◌<◌, ◌≤◌, Bool, true, false, length, map}
-use Rattle.std.proofs.Common.{Some, None, Ok, Option, refl, arith, rules, MatchOption}
+use Rattle.std.proofs.Common.{Some, None, Ok, Option, refl, arith, rules}
 use Rattle.dwp_base.proofs.Bools.{by-bool}
 use Rattle.thorin_package_input.specs.RowPlaces.{IsFirstWith, row_by_place}
 
 -- ---- the first of f a, f (a + 1) and so on that passes a test
 module _ {X : Type 0} (t : X → Bool) (f : ℕ → X) where
-  abbrev NonePasses : ℕ → ℕ → Type 0
-  NonePasses a end = (j : ℕ) → a ≤ j → j < end → t (f j) ≡ false
+  abbrev first_from : ℕ → ℕ → Option ℕ
+  first_from a n = position_from t a (map f (range_with_len a n))
 
-  record IsFirstAt (a end i : ℕ) : Type 0 where
-    low : a ≤ i
-    high : i < end
-    here : t (f i) ≡ true
-    before : NonePasses a i
+  -- it passes, and none before it does
+  found_at : (a n i : ℕ) → first_from a n ≡ Some i → (a ≤ i) × (i < a + n) × (t (f i) ≡ true)
+  found_at a zero i found = absurd cc
+  found_at a (suc n) i found = grind (arith, found_at (a + 1) n i)
 
-  -- it was found, or there is none
-  abbrev IsFound : ℕ → ℕ → Option ℕ → Type 0
-  IsFound a end found = MatchOption found (NonePasses a end) (IsFirstAt a end)
+  before_found : (a n i j : ℕ) → first_from a n ≡ Some i → a ≤ j → j < i → t (f j) ≡ false
+  before_found a zero i j found from below = absurd cc
+  before_found a (suc n) i j found from below =
+      grind (arith, cases_eq j a, before_found (a + 1) n i j)
 
-  more_fail : (a end : ℕ) → t (f a) ≡ false → NonePasses (a + 1) end → NonePasses a end
-  more_fail a end fails others j from below = grind (arith, cases_eq j a, others j)
+  -- or none passes
+  none_found : (a n j : ℕ) → first_from a n ≡ None → a ≤ j → j < a + n → t (f j) ≡ false
+  none_found a zero j none from below = absurd (omega arith)
+  none_found a (suc n) j none from below = grind (arith, cases_eq j a, none_found (a + 1) n j)
 
-  one_fails : (a end : ℕ) (found : Option ℕ) → t (f a) ≡ false → IsFound (a + 1) end found
-      → IsFound a end found
-  one_fails a end None fails none = more_fail a end fails none
-  one_fails a end (Some i) fails first = record {
-    low = omega (arith, first.low);
-    high = first.high;
-    here = first.here;
-    before = more_fail a i fails first.before;
-  }
-
-  finds : (a n end : ℕ) → a + n ≡ end
-      → IsFound a end (position_from t a (map f (range_with_len a n)))
-  finds a zero end e = λ j from below. absurd (omega arith)
-  finds a (suc n) end e = by-bool _ (t (f a)) (λ passes. rw passes (record {
-    low = omega arith;
-    high = omega arith;
-    here = passes;
-    before = λ j from below. absurd (omega arith);
-  })) (λ fails. let others = finds (a + 1) n end (omega arith) in rw fails
-      (one_fails a end (position_from t (a + 1) (map f (range_with_len (a + 1) n))) fails others))
+  -- what passes where none before it does is found
+  finds : (a n i : ℕ) → a ≤ i → i < a + n → t (f i) ≡ true
+      → ((j : ℕ) → a ≤ j → j < i → t (f j) ≡ false) → first_from a n ≡ Some i
+  finds a zero i from below passes before = absurd (omega arith)
+  finds a (suc n) i from below passes before =
+      grind (arith, cases_eq i a, before a, finds (a + 1) n i)
 
 -- ---- a row's range
 pub range_is : (range : Contribution) (found : Option Contribution) → is_range range found ≡ true
@@ -68,12 +56,6 @@ module _ (index : Index) (kind : SectionKind) (range : Contribution) where
   abbrev of_row : ℕ → Option Contribution
   of_row = range_of_row index kind
 
-  abbrev found_row : Option ℕ
-  found_row = position_from test 1 (map of_row (range_with_len 1 (length index.offsets)))
-
-  rows : IsFound test of_row 1 (1 + length index.offsets) found_row
-  rows = finds test of_row 1 (length index.offsets) (1 + length index.offsets) refl
-
   has_range : (number : ℕ) (row : Ranges) → row_in index number ≡ Ok row
       → range_in row kind ≡ Some range → test (of_row number) ≡ true
   has_range number row there has = grind (arith, nat_tests)
@@ -82,24 +64,22 @@ module _ (index : Index) (kind : SectionKind) (range : Contribution) where
       × (row_in index number ≡ Ok row) × (range_in row kind ≡ Some range)
   row_found number passes = grind (rules, range_is range)
 
-  is_first : (number : ℕ) → IsFirstAt test of_row 1 (1 + length index.offsets) number
+  pub first_row : (number : ℕ) → row_by_place (Some index) kind range ≡ Some number
       → IsFirstWith index kind range number
-  is_first number first =
-      let row = row_found number first.here in
+  unfolding row_by_place ranges_of
+  first_row number found =
+      let at = found_at test of_row 1 (length index.offsets) number found in
+      let row = row_found number at.2 in
       record {
         row = row.0;
         there = row.1;
         has = row.2;
-        low = first.low;
-        high = omega (arith, first.high);
+        low = at.0;
+        high = omega arith;
         first = λ lower other below there has. let passes = has_range lower other there has in
-            let fails = first.before lower (numbered index lower other there).0 below in cc;
+            let fails = before_found test of_row 1 (length index.offsets) number lower found
+            (numbered index lower other there).0 below in cc;
       }
-
-  pub first_row : (number : ℕ) → row_by_place (Some index) kind range ≡ Some number
-      → IsFirstWith index kind range number
-  unfolding row_by_place ranges_of
-  first_row number found = is_first number (rw found at rows)
 
   pub no_row : row_by_place (Some index) kind range ≡ None → (number : ℕ) (row : Ranges)
       → row_in index number ≡ Ok row → range_in row kind ≢ Some range
@@ -107,20 +87,14 @@ module _ (index : Index) (kind : SectionKind) (range : Contribution) where
   no_row none number row there has =
       let within = numbered index number row there in
       let passes = has_range number row there has in
-      let nowhere = rw none at rows in
-      let fails = nowhere number within.0 (omega (arith, within.1)) in cc
+      let fails = none_found test of_row 1 (length index.offsets) number none within.0
+      (omega (arith, within.1)) in cc
 
   pub first_found : (number : ℕ) → IsFirstWith index kind range number
       → row_by_place (Some index) kind range ≡ Some number
   unfolding row_by_place ranges_of
-  first_found number first = found_there found_row rows
-    where
-      passes : test (of_row number) ≡ true
-      passes = has_range number first.row first.there first.has
-
-      found_there : (found : Option ℕ)
-          → IsFound test of_row 1 (1 + length index.offsets) found → found ≡ Some number
-      found_there None none = grind (arith, none number, first.low, first.high, passes)
-      found_there (Some i) at =
-          let row = row_found i at.here in
-          grind (arith, first.first i row.0, row.1, row.2, at.before number first.low, passes)
+  first_found number first =
+      finds test of_row 1 (length index.offsets) number first.low (omega (arith, first.high))
+      (has_range number first.row first.there first.has) (λ lower from below. by-bool _
+      (test (of_row lower)) (λ passes. let row = row_found lower passes in
+      absurd (first.first lower row.0 below row.1 row.2)) (λ fails. fails))

@@ -3,12 +3,11 @@ use Rattle.thorin_package_input.proofs.Terms.{Endianness, header_size, NamesTheS
 use Rattle.thorin_package_input.proofs.Terms.{data_of, Encoding, IsTable, nat_tests, ReadsAlike}
 use Rattle.std.proofs.Common.{cond, ltb, ℕ, ⊎_elim, ◌*◌, ◌++◌, ◌+◌, ◌-◌, ◌/◌, ◌<◌, ◌∙◌, ◌≡◌, ◌≤◌}
 use Rattle.std.proofs.Common.{add-mul, drop-drop, drop_at, length, length-append, length-drop, List}
-use Rattle.std.proofs.Common.{ap, arith, drop, lt-ltb, None, Ok, refl, Some, sym, take}
+use Rattle.std.proofs.Common.{ap, arith, drop, None, Ok, refl, Some, sym, take}
 use Rattle.std.proofs.lemmas.List.{drop-append-le, get_or_append_left}
 use Rattle.std.proofs.{lemmas.Bool.cases_lt, lemmas.Bool.lt-leb, lemmas.Nat.row_fits}
 use Rattle.dwp_base.{proofs.Steps.bind-was, proofs.Steps.guard-ok, specs.Numbers.number}
 use Rattle.dwp_bytes.specs.declared.encoding.Format.{Format}
-use Rattle.dwp_bytes.specs.declared.encoding.Format.TheVariants.{Dwarf32, Dwarf64}
 use Rattle.dwp_bytes.specs.StringOffsets.{entry_count, entry_in, string_at, string_in}
 use Rattle.thorin_strings.specs.StringOffsets.{named_at, offset_at}
 use Rattle.thorin_strings.proofs.NamedEntries.{as_error_ok}
@@ -23,13 +22,11 @@ no_header encoding old = rw (lt-leb 5 encoding.version old) refl
 
 count_joined : (format : Format) (n m l : ℕ) → l ≡ n * offset_size format + m
     → (l - 0) / offset_size format ≡ n + (m - 0) / offset_size format
-count_joined Dwarf32 n m l e = omega arith
-count_joined Dwarf64 n m l e = omega arith
+count_joined format n m l e = grind arith
 
 count_alone : (format : Format) (n l : ℕ) → l ≡ n * offset_size format
     → (l - 0) / offset_size format ≡ n
-count_alone Dwarf32 n l e = omega arith
-count_alone Dwarf64 n l e = omega arith
+count_alone format n l e = grind arith
 
 module _ (order : Endianness) (encoding : Encoding) (first second : List ℕ) (n : ℕ)
     (old : encoding.version < 5) (long : length first ≡ n * offset_size encoding.format) where
@@ -53,14 +50,10 @@ module _ (order : Endianness) (encoding : Encoding) (first second : List ℕ) (n
   unfolding entry_in
   entry_before i less =
       let room : i * width + width ≤ n * width = row_fits i width n width less (omega arith) in
-      let at : header_size encoding + i * width + width ≤ length first =
-      omega (arith, header, long) in rw (
-        lt-ltb i (entry_count encoding (length (first ++ second))) (omega (arith, count_all)),
-        lt-ltb i (entry_count encoding (length first)) (omega (arith, count_first)),
-        drop-append-le (header_size encoding + i * width) first second (omega arith),
-        number_front order encoding.format (drop (header_size encoding + i * width) first) second
-            (omega (arith, length-drop (header_size encoding + i * width) first)),
-      ) refl
+      let at = header_size encoding + i * width in
+      let front = number_front order encoding.format (drop at first) second in
+      let behind = drop-append-le at first second in
+      grind (arith, nat_tests, count_all, count_first, header, front, behind, length-drop at first)
 
   -- one behind it
   entry_behind : (i : ℕ) → n ≤ i → entry_in order encoding (first ++ second) i ≡ entry_in order
@@ -71,13 +64,8 @@ module _ (order : Endianness) (encoding : Encoding) (first second : List ℕ) (n
       let is : i ≡ n + later = omega arith in
       let at : header_size encoding + i * width ≡ n * width + (header_size encoding + later *
       width) = omega (arith, header, ap (λ m. m * width) is, add-mul n later width) in
-      let same : ltb i (entry_count encoding (length (first ++ second))) ≡ ltb later
-      (entry_count encoding (length second)) = grind (arith, nat_tests, count_all) in rw (
-        same,
-        at,
-        ← drop-drop (header_size encoding + later * width) (n * width) (first ++ second),
-        drop_at first second (n * width) long,
-      ) refl
+      let behind = drop-drop (header_size encoding + later * width) (n * width) (first ++ second) in
+      grind (arith, nat_tests, count_all, at, behind, drop_at first second (n * width) long)
 
   pub joined_read : (strings : List ℕ) (i : ℕ) → string_in order encoding strings (first ++ second)
       i ≡ cond (ltb i n) (string_in order encoding strings first i) (string_in order encoding

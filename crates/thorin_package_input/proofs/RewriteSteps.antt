@@ -2,12 +2,12 @@
 use Rattle.thorin_package_input.proofs.Terms.{Contribution, Endianness, header_size, rewritten_from}
 use Rattle.thorin_package_input.proofs.Terms.{kept_more, nat_tests, offset_size, ranges_test}
 use Rattle.thorin_package_input.proofs.Terms.{Encoding, remapped}
-use Rattle.std.proofs.Common.{eqb, leb, ltb, ℕ, ◌%◌, ◌&&◌, ◌++◌, ◌+◌, ◌-◌, ◌<◌, ◌∙◌, ◌∷◌, ◌≡◌, ◌≤◌}
-use Rattle.std.proofs.Common.{append_assoc, arith, cond, get_or, length, List, Result, slice_range}
-use Rattle.std.proofs.Common.{ap, drop, Err, not, Ok, refl, sym, take}
+use Rattle.std.proofs.Common.{ℕ, ◌%◌, ◌++◌, ◌+◌, ◌-◌, ◌<◌, ◌∙◌, ◌∷◌, ◌≡◌, ◌≤◌, append_assoc, arith}
+use Rattle.std.proofs.Common.{get_or, length, List, Result, slice_range, ap, drop, Err, Ok, refl}
+use Rattle.std.proofs.Common.{sym, take}
 use Rattle.dwp_base.specs.Reading.{◌>>=◌}
 use Rattle.std.proofs.lemmas.List.{at_drop_all, at_drop_more}
-use Rattle.thorin_errors.specs.Errors.{BadStringOffsets, ErrorValue, OverlappingStringOffsets}
+use Rattle.thorin_errors.specs.Errors.{ErrorValue}
 
 -- ---- what the tests say of the next range
 pub record IsNext (encoding : Encoding) (size last : ℕ) (r : Contribution)
@@ -18,19 +18,10 @@ pub record IsNext (encoding : Encoding) (size last : ℕ) (r : Contribution)
   pub behind : last ≤ r.offset.0
   pub others : ranges_test encoding size (r.offset.0 + r.size) rs ≡ Ok tt
 
-tests_passed : (a b c d e f g : ℕ) (bad overlapping : ErrorValue) (rest : Result (Unit {0})
-    ErrorValue) → cond (not (leb a b && leb c d && eqb e 0)) (Err bad) (cond (ltb f g)
-    (Err overlapping) rest) ≡ Ok tt → (a ≤ b) × (c ≤ d) × (e ≡ 0) × (g ≤ f) × (rest ≡ Ok tt)
-tests_passed a b c d e f g bad overlapping rest passed = grind (arith, nat_tests)
-
 pub next_passed : (encoding : Encoding) (size last : ℕ) (r : Contribution) (rs : List Contribution)
     → ranges_test encoding size last (r ∷ rs) ≡ Ok tt → IsNext encoding size last r rs
 unfolding ranges_test
-next_passed encoding size last r rs h =
-    let whole = (r.size - header_size encoding) % offset_size encoding.format in
-    let parts = tests_passed (r.offset.0 + r.size) size (header_size encoding) r.size whole
-    r.offset.0 last (BadStringOffsets r.offset.0) (OverlappingStringOffsets r.offset.0)
-    (ranges_test encoding size (r.offset.0 + r.size) rs) h in assumption
+next_passed encoding size last r rs h = grind (arith, nat_tests)
 
 -- ---- what was written, in front of what is to come
 abbrev Rewriting : Type 0

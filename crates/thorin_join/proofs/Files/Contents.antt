@@ -5,20 +5,19 @@ use Terms.{Endianness, entry_ids, Err, file_text, HasContent, IdentifiersFit, In
 use Terms.{index_version_of, IndexEntry, inl, inr, is-same, IsIndexOf, KindsDiffer, length}
 use Terms.{length-KindsDiffer, List, None, Ok, Option, refl, rows_of, same_kind, SectionKind}
 use Terms.{nat_tests, nil_from_length, slice_index, Some, [], ℕ, ◌+◌, ◌<◌, ◌^◌, ◌∷◌, ◌≡◌, ◌≤◌}
-use Rattle.dwp_base.specs.declared.class.Class.TheVariants.{Elf32, Elf64}
+use Rattle.dwp_base.specs.declared.class.Class.{Class, TheVariants.Elf32, TheVariants.Elf64}
 use Rattle.dwp_base.specs.declared.section.SectionKind.TheVariants.{CuIndex, TuIndex}
-use Rattle.dwp_elf_read.specs.Layout.{word_size}
+use Rattle.dwp_bytes.specs.declared.error.ReadError.TheVariants.{UnexpectedEof}
+use Rattle.dwp_elf.proofs.ReadingBack.{elf_of-file_text}
 use Rattle.dwp_elf.specs.FileText.{headers_place, name_table, Object}
 use Rattle.dwp_elf.specs.{Numbers.Fits, Written.written_elf, Written.written_sections}
+use Rattle.dwp_elf_read.specs.Layout.{word_size}
 use Rattle.dwp_index.proofs.HeldContents.{empty, foreign, index_missing, package_is}
-use Rattle.dwp_elf.proofs.ReadingBack.{elf_of-file_text}
-use Rattle.thorin_join.specs.WrittenPackage.{IsIndexIn, package_with}
 use Rattle.dwp_index.specs.IndexBytes.{index_of, version_of}
-use Rattle.thorin_index.proofs.ReadAgain.{index_is_read, written_rows}
-use Rattle.dwp_base.specs.declared.class.Class.{Class}
-use Rattle.dwp_bytes.specs.declared.error.ReadError.TheVariants.{UnexpectedEof}
 use Rattle.dwp_index.specs.Package.{index_in_section, package_of}
+use Rattle.thorin_index.proofs.ReadAgain.{index_is_read, written_rows}
 use Rattle.thorin_index.specs.ReadRows.{HasEntries}
+use Rattle.thorin_join.specs.WrittenPackage.{IsIndexIn, package_with}
 
 -- the headers' place
 pub fitting : (class : Class) (machine : ℕ) (order : Endianness) (cs : List (SectionKind × List ℕ))

@@ -229,6 +229,7 @@ module _ (made : InProgress) (file : File) (f : IsFinished made file) where
       → IsPackageOnceWritten (units_of made) file
   package-is sound tested fits differ back =
       let of = meaning_at made.file.order made.file.contents made.strings in
+      let ids = ids-chosen of in
       let units = sound.units in
       let apart = λ (b : Bool). distinct_chosen b made.rows sound.apart in
       let c = index-read made.file.order (rows_of true made.rows) f.compilation_index f.compilations
@@ -245,10 +246,8 @@ module _ (made : InProgress) (file : File) (f : IsFinished made file) where
             (rw (finished-order, rw units.no_compilations at (finished-content kinds.CuIndex))
             c.read)
             (rw (finished-order, rw units.no_types at (finished-content kinds.TuIndex)) t.read);
-        named = rw (
-          ← ids-chosen of is_compilation made.rows,
-          ← ids-chosen of (λ name. not (is_compilation name)) made.rows,
-        ) (entries_once c.index t.index _ _ (grind (arith, c.has)) (grind (arith, t.has)));
+        named = rw (← ids is_compilation made.rows, ← ids (λ name. not (is_compilation name)) made.rows)
+            (entries_once c.index t.index _ _ (grind (arith, c.has)) (grind (arith, t.has)));
         finds = λ name. package-finds file.order file.contents c.index t.index made.strings
             (finished-strings units.no_strings) units.table made.rows name of rows c.has t.has;
       }

@@ -6,25 +6,26 @@ use Terms.{ap, append-nil, append_assoc, appended, arith, bind-was, by-bool, byt
 use Terms.{bytes_of_strings, cond, content_of, Contents, Contribution, drop, DwarfObject, Encoding}
 use Terms.{Endianness, entry_count, eqb, ErrorValue, false, first, fitting_offset, has_part}
 use Terms.{header_size, if◌then◌else◌, inl, InProgress, inr, is-same, is_copied, is_package}
-use Terms.{IsTable, IsZeroFree, joined_content, joined_parts, kept_more, length, length-append}
-use Terms.{length-drop, length-take, List, list_any, list_any-append, named_at, nat_tests, NewUnit}
-use Terms.{nil_from_length, offsets_used, Ok, packaged_offsets, Parts, parts_of, position_or_len}
-use Terms.{refl, remapped, result_unwrap_or, rewritten, same-ok, same-self, same_kind, SectionKind}
-use Terms.{slice_range, Source, stands_once, Str, string_at, strings_of, StrOffsets, subst, suc}
-use Terms.{sum_by, sym, take, take-length, true, Used, with_bytes, with_each_part, with_new_unit}
-use Terms.{with_new_units, with_offsets, with_part, with_parts, with_string, with_unit_added, zero}
-use Terms.{[], ℕ, ◌&&◌, ◌*◌, ◌++◌, ◌+◌, ◌-◌, ◌<◌, ◌||◌, ◌∙◌, ◌∷◌, ◌≡◌, ◌≤◌, ◌⊎◌}
+use Terms.{is_some, IsTable, IsZeroFree, joined_content, joined_parts, kept_more, length}
+use Terms.{length-append, length-drop, length-take, List, list_any, list_any-append, named_at}
+use Terms.{nat_tests, NewUnit, nil_from_length, offsets_used, Ok, packaged_offsets, Parts, parts_of}
+use Terms.{position_or_len, refl, remapped, result_unwrap_or, rewritten, same-ok, same-self}
+use Terms.{same_kind, SectionKind, slice_range, Source, stands_once, Str, string_at, strings_of}
+use Terms.{StrOffsets, subst, suc, sum_by, sym, take, take-length, true, Used, with_bytes}
+use Terms.{with_each_part, with_new_unit, unit_section, with_new_units, with_offsets, with_part}
+use Terms.{with_parts, with_string, with_unit_added, zero, [], ℕ, ◌&&◌, ◌*◌, ◌++◌, ◌+◌, ◌-◌, ◌<◌}
+use Terms.{◌||◌, ◌∙◌, ◌∷◌, ◌≡◌, ◌≤◌, ◌⊎◌}
+use Rattle.dwp_strings.proofs.Named.{read_free, string_was, used}
 use Rattle.std.proofs.Math.Nat.{mul-le-mul_right}
 use Rattle.std.proofs.lemmas.List.Sums.{sum_by-append, sum_by-cons, sum_by_push}
-use Rattle.thorin_strings.specs.StringOffsets.{offset_at, remapped_entries, remapped_entry}
-use Rattle.dwp_strings.proofs.Named.{read_free, string_was, used}
-use Rattle.thorin_strings.proofs.NamedEntries.{entries_long, header_long}
-use Rattle.thorin_package_input.specs.PackagedOffsets.{ranges_test, rewritten_from}
-use Rattle.thorin_package_input.proofs.RewriteSteps.{next_passed}
-use Rattle.thorin_join.specs.FirstUse.{named_by_ranges, named_by_section, named_in, with_strings}
 use Rattle.thorin_join.proofs.Parts.Ranges.{count-fits, count-none, range-of}
-use Rattle.thorin_join.proofs.Units.ReadInTurn.{News}
-use Rattle.thorin_join.specs.Strings.{each_from, offset_of_entry, strings_at}
+use Rattle.thorin_join.{proofs.Units.ReadInTurn.News, specs.Strings.each_from}
+use Rattle.thorin_join.specs.FirstUse.{named_by_ranges, named_by_section, named_in, with_strings}
+use Rattle.thorin_join.specs.{Strings.offset_of_entry, Strings.strings_at, Sizes.carried}
+use Rattle.thorin_package_input.proofs.RewriteSteps.{next_passed}
+use Rattle.thorin_package_input.specs.PackagedOffsets.{ranges_test, rewritten_from}
+use Rattle.thorin_strings.proofs.NamedEntries.{entries_long, header_long}
+use Rattle.thorin_strings.specs.StringOffsets.{offset_at, remapped_entries, remapped_entry}
 
 -- bytes that are added to a section
 pub content-appended : (kind k : SectionKind) (bytes : List ℕ) (c : Contents) → content_of kind
@@ -273,10 +274,9 @@ slice-long bytes at size h =
 abbrev pub long : SectionKind × List ℕ → ℕ
 long c = length c.1
 
--- the bytes of a section's part: its string offsets, or the section as it is, where it is copied
-abbrev pub part_bytes : Used → ℕ
-part_bytes s = cond (same_kind s.kind StrOffsets) (length s.bytes)
-    (cond (is_copied s.kind) (length s.bytes) 0)
+-- the bytes of a section of units
+abbrev pub placed_bytes : Used → ℕ
+placed_bytes s = cond (is_some (unit_section s.kind)) (length s.bytes) 0
 
 module _ (source : Source) where
   abbrev strings_in : List ℕ
@@ -312,28 +312,34 @@ module _ (source : Source) where
       rw packed (ranges-bring bytes 0 (length bytes) _ strings out (omega arith) s1.1 s1.2))
       (λ plain. rw plain (range-brings _ _ _ bytes _ strings out refl (rw plain at h)))
 
-  -- what sections bring: the strings that they name, and parts of so many bytes
+  -- what sections bring: the strings that they name, and parts that have, with their units, no more
+  -- than is carried
   abbrev Bring : Parts → (sections : List Used) → Parts → Type 0
   Bring before sections after =
       Brings strings_in before.1 (named_in source sections) (sum_by offsets_used sections) after.1
-      × (bytes_of_contents after.0 ≤ bytes_of_contents before.0 + sum_by part_bytes sections)
+      × (bytes_of_contents after.0 + sum_by placed_bytes sections ≤ bytes_of_contents before.0
+      + sum_by carried sections)
 
   pub step-brings : (before : Parts) (s : Used) (next : Parts) → Adds source before s next
       → Brings strings_in before.1
       (if same_kind s.kind StrOffsets then named_by_section source s.bytes else [])
       (offsets_used s) next.1
-      × (bytes_of_contents next.0 ≤ bytes_of_contents before.0 + part_bytes s)
+      × (bytes_of_contents next.0 + placed_bytes s ≤ bytes_of_contents before.0 + carried s)
   step-brings before s next adds =
       let brings = section-brings s.bytes before.1 in
-      grind (arith, brings, take-length before.1, sum_by_push long before.0)
+      let part = cond (same_kind s.kind StrOffsets || is_copied s.kind) (length s.bytes) 0 in
+      let fits : part + placed_bytes s ≤ carried s = grind arith in
+      grind (arith, brings, fits, take-length before.1, sum_by_push long before.0)
 
   pub each-brings : (sections : List Used) (before after : Parts)
       → with_each_part source before sections ≡ Ok after → Bring before sections after
   each-brings = each-part source Bring (λ parts. (none-brings, omega arith))
       (λ before s next ss after made rest later.
       let here = step-brings before s next made.adds in
-      let offsets = sum_by-cons offsets_used s ss in
-      (both-bring here.0 later.0 (omega arith), omega (arith, sum_by-cons part_bytes s ss)))
+      let offsets = sum_by-cons offsets_used s ss in (
+        both-bring here.0 later.0 (omega arith),
+        omega (arith, sum_by-cons placed_bytes s ss, sum_by-cons carried s ss),
+      ))
 
   -- the table of strings goes on from the one before
   pub parts-follow : (strings : List (List ℕ)) (parts : Contents) (after : List (List ℕ))

@@ -8,13 +8,12 @@ use Terms.{kept_more, length, length-append, List, no_header, offset_size, Ok, P
 use Terms.{range_in, range_named, Ranges, ReadsAlike, refl, row_in, same-self, same_kind}
 use Terms.{SectionKind, Some, Source, Str, strings_again, StrOffsets, sym, take, true, Used}
 use Terms.{whole_entries, with_each_part, [], ℕ, ◌*◌, ◌++◌, ◌+◌, ◌-◌, ◌<◌, ◌∙◌, ◌∷◌, ◌≡◌, ◌≤◌, ◌⊎◌}
-use Rattle.thorin_join.proofs.Parts.Ranges.{count-none, empty-alike}
-use Rattle.thorin_join.proofs.Parts.Ranges.{whole-long, whole-read}
+use Rattle.std.proofs.Common.{leb, leb-false, true≢false, ⊎_elim}
 use Rattle.thorin_join.proofs.Parts.Added.{each-brings, each-part, has_part-more, joined_parts-more}
 use Rattle.thorin_join.proofs.Parts.Added.{joined_parts-other, Rewritten, rewritten-package}
 use Rattle.thorin_join.proofs.Parts.Added.{rewritten-plain, step-brings}
+use Rattle.thorin_join.proofs.Parts.Ranges.{count-none, empty-alike, whole-long, whole-read}
 use Rattle.thorin_package_input.proofs.ReadAlike.{package_reads_alike}
-use Rattle.std.proofs.Common.{leb, leb-false, true≢false, ⊎_elim}
 use Rattle.thorin_package_input.specs.PackagedReading.{range_bytes}
 
 pub has-more : (a : Contents) (bytes : List ℕ) → has_part StrOffsets

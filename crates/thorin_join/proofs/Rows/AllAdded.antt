@@ -1,18 +1,20 @@
 -- The units of an input that are added lie one after another, and stand in their rows.
 use Rattle.thorin_join.proofs.Terms
 use Terms.{adding, All-append, ap, append-nil, append_assoc, AreRowsOf, arith, Compilation}
-use Terms.{content_of, Contents, contribution_to, DwarfObject, Endianness, false, filter-append}
-use Terms.{IndexEntry, InProgress, IsWhole, joined_parts, joining, keys, kind_of, length}
-use Terms.{length-append, List, list_any, map-append, Members, names_of, NewUnit, None, place_for}
-use Terms.{refl, row_at, same_kind, same_name, SectionKind, Some, Source, sym, take-length}
-use Terms.{TypeUnit, UnitRead, UnitSection, with_bytes, with_new_unit, with_new_units, with_parts}
-use Terms.{with_unit_added, [], ℕ, ◌++◌, ◌+◌, ◌∙◌, ◌∷◌, ◌≡◌}
-use Rattle.thorin_join.proofs.Rows.OneAdded.{CanBeAdded, grows-trans, grows-with_bytes, keep-shares}
-use Rattle.thorin_join.proofs.Rows.OneAdded.{keep-rows, own-place, place-put, row-other, unit-added}
-use Rattle.thorin_join.proofs.Rows.OneAdded.{CanLie, Grows, keep-lie, row-name, row-own, rows-next}
-use Rattle.thorin_join.specs.Laid.{HaveOneRange, Heads, is_at, IsLaid, Lie, rows_at, same_place}
-use Rattle.thorin_join.proofs.{Units.ReadInTurn.IsAdded, Units.ReadInTurn.News, Units.Whole.Goes}
-use Rattle.thorin_join.proofs.Rows.OfUnits.{is-unit_row, whole-else}
+use Terms.{place_for, content_of, Contents, TypeUnit, contribution_to, DwarfObject, Each}
+use Terms.{Endianness, false, filter-append, IndexEntry, InProgress, IsTable, IsWhole, joined_parts}
+use Terms.{joining, keys, kind_of, length, length-append, List, list_any, map, map-append, Meaning}
+use Terms.{Members, names_of, NewUnit, None, Ok, Option, parts_of, refl, row_at, same_kind}
+use Terms.{same_name, SectionKind, Some, Source, sym, take-length, UnitRead, UnitSection}
+use Terms.{with_bytes, with_new_unit, with_new_units, with_parts, with_unit_added, [], ℕ, ◌++◌, ◌+◌}
+use Terms.{◌∙◌, ◌∷◌, ◌≡◌}
+use Rattle.thorin_join.proofs.Rows.OneAdded.{grows-trans, grows-with_bytes, keep-shares, keep-rows}
+use Rattle.thorin_join.proofs.Rows.OneAdded.{own-place, place-put, row-other, unit-added, CanLie}
+use Rattle.thorin_join.proofs.Rows.OneAdded.{Grows, keep-lie, row-name, row-own, rows-next}
+use Rattle.thorin_join.specs.Laid.{HaveOneRange, is_at, IsLaid, Lie, rows_at, same_place}
+use Rattle.thorin_join.proofs.Units.ReadInTurn.{AreAdded, IsAdded, News, Reads}
+use Rattle.thorin_join.{proofs.Units.Whole.Goes, specs.Meaning.meant}
+use Rattle.thorin_join.proofs.Rows.OfUnits.{is-unit_row, row-shares, whole-else}
 use Rattle.thorin_join.proofs.Parts.Added.{content-with_bytes, content-with_parts}
 use Rattle.dwp_units.specs.declared.unit.UnitSection.TheVariants as places
 
@@ -32,10 +34,10 @@ module _ (order : Endianness) (place : UnitSection) (row : IndexEntry) (own : Li
       let next : at ≡ offset + length head.own + length head.rest =
       omega (arith, ap length head.are, length-append head.own head.rest) in
       let rest = head.rest ++ own in
-      let are : bytes ++ own ≡ head.own ++ rest = rw (head.are, append_assoc) in
-      let first : Heads order place offset r (bytes ++ own) =
-      record { own = head.own; rest = rest; are = are; range = head.range; is = head.is } in
-      (first, lie-append (offset + length head.own) rs head.rest next h.1)
+      let are : bytes ++ own ≡ head.own ++ rest = rw (head.are, append_assoc) in (
+        record { own = head.own; rest = rest; are = are; range = head.range; is = head.is },
+        lie-append (offset + length head.own) rs head.rest next h.1,
+      )
 
 -- how the rows of a package lie
 pub record RowsLie (order : Endianness) (rows : List IndexEntry) (c : Contents) : Type 0 where
@@ -117,46 +119,60 @@ pub names-added : (p : InProgress) (u : DwarfObject × NewUnit) → names_of (wi
     names_of p ++ u.0 ∷ []
 names-added p u = rw (map-append, row-name u.1.row p.file.contents u.0 u.1.bytes u.1.place) refl
 
--- units that can be added
-abbrev pub AllCanBeAdded : Endianness → Contents → List (List ℕ) → News → Members → Type 0
-AllCanBeAdded order c strings [] [] = Unit {0}
-AllCanBeAdded order c strings (u ∷ us) (m ∷ ms) = CanBeAdded order c strings u m
-    × AllCanBeAdded order c strings us ms
-AllCanBeAdded order c strings _ _ = ⊥
+-- what belongs to units, where it is there
+abbrev pub all_meant : Source → Reads → List (DwarfObject × Option Meaning)
+all_meant source us = map {B = DwarfObject × Option Meaning} (meant source) us
+
+abbrev pub all_there : Members → List (DwarfObject × Option Meaning)
+all_there ms = map {B = DwarfObject × Option Meaning} (λ u. (u.0, Some u.1)) ms
 
 -- what is known of a package once these units are added
-pub record Added (p now : InProgress) (us : News) (ms : Members) : Type 0 where
+pub record Added (read : Endianness) (table : List (List ℕ)) (p now : InProgress) (us : News)
+    (ms : Members) : Type 0 where
   pub strings : now.strings ≡ p.strings
   pub order : now.file.order ≡ p.file.order
-  pub rows : AreRowsOf p.file.order now.file.contents p.strings now.rows ms
+  pub rows : AreRowsOf read now.file.contents table now.rows ms
   pub other : (kind : SectionKind) → ((place : UnitSection) → same_kind (kind_of place) kind ≡
       false) → content_of kind now.file.contents ≡ content_of kind p.file.contents
   pub names : names_of now ≡ names_of p ++ keys us
-  pub lie : RowsLie p.file.order now.rows now.file.contents
+  pub lie : RowsLie read now.rows now.file.contents
 
-pub units-added : (base : Contents) (p : InProgress) (us : News) (ms added : Members)
-    → Grows base p.file.contents → AllNew (names_of p) (keys us)
-    → AllCanBeAdded p.file.order base p.strings us added
-    → AreRowsOf p.file.order p.file.contents p.strings p.rows ms
-    → RowsLie p.file.order p.rows p.file.contents → Added p (with_new_units p us) us (ms ++ added)
-unfolding with_new_units with_new_unit
-units-added base p [] ms [] grows new can rows lie =
-    rw (append-nil ms) (assumption (sym (append-nil (names_of p))))
-units-added base p (u ∷ us) ms (m ∷ added) grows new can rows lie =
-    let order = p.file.order in
-    let c = p.file.contents in
-    let q = with_unit_added p u in
-    let more = grows-with_bytes (kind_of u.1.place) u.1.bytes c in
-    let same = take-length p.strings in
-    let row = unit-added u.1.row c u.0 u.1.bytes u.1.place order p.strings m (assumption (
-      keep-lie base c u.1.row grows can.0.lie,
-      keep-shares order base c p.strings p.strings u.1.row m.1 grows same can.0.lie can.0.shares,
-    )) in
-    let before = keep-rows order c q.file.contents p.strings p.strings p.rows ms more same rows in
-    let names = names-added p u in
-    let a = units-added base q us (ms ++ m ∷ []) added (grows-trans base c q.file.contents grows
-    more) (rw names new.1) can.1 (rows-next order q.file.contents p.strings p.rows ms _ m before
-    row) (unit-lies order c p.rows u can.0.can lie) in
-    let named = append_assoc (names_of p) (u.0 ∷ []) (keys us) in
-    rw new.0 (grind (arith, a, append_assoc ms (m ∷ []) added, names, named, content-with_bytes))
-units-added base p _ ms _ grows new can rows lie = absurd can
+module _ (source : Source) (before : InProgress) (parts : Contents) (after : List (List ℕ))
+    (table : IsTable before.strings) (h : parts_of source before.strings ≡ Ok (parts, after)) where
+  pub units-added : (p : InProgress) (us : News) (rs : Reads) (ms : Members)
+      → AreAdded (adding source before parts) us rs → Each (Goes source.object.order) rs
+      → Grows (with_parts parts before.file.contents) p.file.contents
+      → AllNew (names_of p) (keys us)
+      → AreRowsOf source.object.order p.file.contents after p.rows ms
+      → RowsLie source.object.order p.rows p.file.contents
+      → (members : Members) × (all_meant source rs ≡ all_there members)
+      × Added source.object.order after p (with_new_units p us) us (ms ++ members)
+  unfolding with_new_units with_new_unit
+  units-added p [] [] ms are go grows new rows lie =
+      ([], refl, rw (append-nil ms) (assumption (sym (append-nil (names_of p)))))
+  units-added p (u ∷ us) (r ∷ rs) ms are go grows new rows lie =
+      let order = source.object.order in
+      let base = with_parts parts before.file.contents in
+      let c = p.file.contents in
+      let q = with_unit_added p u in
+      let more = grows-with_bytes (kind_of u.1.place) u.1.bytes c in
+      let same = take-length after in
+      let s = row-shares source before.file.contents parts r u.1.row (is-unit_row source.indexes _
+      r.0 u.1.row are.0.row) before.strings after table h are.0.tested in
+      let m : DwarfObject × Meaning = (u.0, s.unit) in
+      let can = can-lie source before parts u r are.0 go.0 in
+      let row = unit-added u.1.row c u.0 u.1.bytes u.1.place order after s.unit
+      (are.0.bytes ∙ sym s.bytes_are) s.encoding (keep-lie base c u.1.row grows s.lie)
+      (keep-shares order base c after after u.1.row s.unit grows same s.lie s.shares) can in
+      let old = keep-rows order c q.file.contents after after p.rows ms more same rows in
+      let names = names-added p u in
+      let a = units-added q us rs (ms ++ m ∷ []) are.1 go.1 (grows-trans base c q.file.contents
+      grows more) (rw names new.1) (rows-next order q.file.contents after p.rows ms _ m old row)
+      (unit-lies order c p.rows u can lie) in
+      let named = append_assoc (names_of p) (u.0 ∷ []) (keys us) in
+      let all = append_assoc ms (m ∷ []) a.0 in (
+        m ∷ a.0,
+        λ i. (sym are.0.name i, s.meaning_is i) ∷ a.1 i,
+        rw new.0 (grind (arith, a.2, all, names, named, content-with_bytes)),
+      )
+  units-added p _ _ ms are go grows new rows lie = absurd are

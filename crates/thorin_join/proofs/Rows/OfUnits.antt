@@ -2,17 +2,17 @@
 -- each of its ranges was put behind the contents before: a unit that passed the tests stands in its
 -- row.
 use Rattle.thorin_join.proofs.Terms
-use Terms.{all_kinds, ap, arith, bind-was, Bool, by-bool, content_of, Contents, Contribution}
-use Terms.{contribution_put, contribution_to, data_of, DwarfObject, Encoding, entry_by, false, find}
+use Terms.{all_kinds, ap, arith, bind-was, by-bool, content_of, Contents, Contribution}
+use Terms.{contribution_put, contribution_to, data_of, DwarfObject, Encoding, entry_by, false}
 use Terms.{first, identifier_of, Index, IndexEntry, Indexes, is_copied, is_none, is_package}
-use Terms.{is_shared, is_some, IsTable, joined_parts, length, LieInside, List, list_all, Meaning}
-use Terms.{None, Ok, Option, part_of, parts_of, range_in, Ranges, read_each, ReadsAlike, refl}
-use Terms.{row_in, SectionKind, Shares, Some, Source, Str, StrOffsets, sym, take, take-length, true}
-use Terms.{UnitRead, with_parts, [], ℕ, ◌&&◌, ◌+◌, ◌||◌, ◌∙◌, ◌∷◌, ◌≡◌, ◌≤◌}
+use Terms.{is_shared, is_some, IsTable, joined_parts, length, LieInside, List, Meaning, None, Ok}
+use Terms.{Option, part_of, parts_of, range_in, Ranges, read_each, ReadsAlike, refl, row_in}
+use Terms.{SectionKind, Shares, Some, Source, Str, StrOffsets, sym, take, take-length, true}
+use Terms.{UnitRead, with_parts, ℕ, ◌&&◌, ◌+◌, ◌||◌, ◌∙◌, ◌≡◌, ◌≤◌}
 use Rattle.thorin_input.specs.Adjusting.{adjusted, contribution_by_row, has_column_for, other_index}
 use Rattle.thorin_input.specs.Adjusting.{Adjustor, own_index, row_of}
-use Rattle.thorin_join.specs.Meaning.{contribution_by, contributions_by, shared_kinds, unit_meaning}
-use Rattle.thorin_join.specs.Meaning.{lie_inside, meaning_by, offsets_by, placed_row}
+use Rattle.thorin_join.specs.Meaning.{contribution_by, contributions_by, unit_meaning, lie_inside}
+use Rattle.thorin_join.specs.Meaning.{meaning_by, offsets_by, placed_row}
 use Rattle.thorin_input.specs.Rows.{adjusted_contribution, own_contribution, unit_contribution}
 use Rattle.thorin_join.proofs.Rows.OneAdded.{Lies, lies-whole, not-outside, part-inside, range-none}
 use Rattle.thorin_join.proofs.Rows.OneAdded.{Placed, placed-by, range-some}
@@ -127,12 +127,6 @@ pub record RowShares (source : Source) (before parts : Contents) (after : List (
   pub encoding : row.encoding ≡ unit.encoding
   pub lie : LieInside (with_parts parts before) row
   pub shares : Shares source.object.order (with_parts parts before) after row unit
-
--- a test that fails wherever another one passes
-none-found : {X : Type 0} (other test : X → Bool) → ((x : X) → other x ≡ true → test x ≡ false)
-    → (xs : List X) → list_all other xs ≡ true → is_none (find test xs) ≡ true
-none-found other test fails [] pass = refl
-none-found other test fails (x ∷ xs) pass = grind (arith, fails x, none-found other test fails xs)
 
 module _ (source : Source) (before parts : Contents) (read : DwarfObject × UnitRead)
     (row : IndexEntry) (made : IsUnitRow source.indexes (whole_row source.encoding before parts)
@@ -255,12 +249,13 @@ module _ (source : Source) (before parts : Contents) (read : DwarfObject × Unit
       let longs = copied-or-offsets (λ kind. length (first kind source.object.sections) ≡ length
       (joined_parts kind parts)) (λ kind copied. ap length (sym (firsts kind copied)))
       (sym reads.size) in
+      let inside = λ (kind : SectionKind) (shared : is_shared kind ≡ true).
+      not-outside (first kind source.object.sections) (joined_parts kind parts)
+      (range_in has.row kind) (longs kind shared) (placed kind shared).within in
       by (Some has.row) (λ kind. part_of (joined_parts kind parts) (range_in has.row kind))
       (rw (packed, has.placed) refl) (λ kind shared. (placed kind shared).lies)
       (λ kind copied. ap (λ v. part_of v (range_in has.row kind)) (firsts kind copied))
-      (none-found is_shared _ (λ kind shared. not-outside (first kind source.object.sections)
-      (joined_parts kind parts) (range_in has.row kind) (longs kind shared)
-      (placed kind shared).within) shared_kinds refl) (packed-reads test packed after reads))
+      (grind (arith, inside)) (packed-reads test packed after reads))
       (λ plain. by None (λ kind. joined_parts kind parts) (rw plain refl) (plain-lies plain)
       (parts-copied source strings parts after h) refl
       (parts-read source plain strings parts after table h))

@@ -33,9 +33,8 @@ grows-trans c d e h k kind = record {
 -- bytes that are added
 pub grows-with_bytes : (k : SectionKind) (x : List ℕ) (c : Contents) → Grows c (with_bytes k x c)
 grows-with_bytes k x c kind =
-    rw (content-with_bytes kind k x c) (by-bool _ (same_kind k kind)
-    (λ same. rw same (record { rest = x; is = refl }))
-    (λ other. rw other (record { rest = []; is = sym (append-nil (content_of kind c)) })))
+    let none = append-nil (content_of kind c) in
+    record { rest = cond (same_kind k kind) x []; is = grind (arith, content-with_bytes, none) }
 
 pub range-front : (a x : List ℕ) (i n : ℕ) → i + n ≤ length a → slice_range (a ++ x) i (i + n) ≡
     slice_range a i (i + n)
@@ -190,16 +189,6 @@ pub record CanLie (order : Endianness) (u : DwarfObject × NewUnit) : Type 0 whe
       × (u.0 ≡ TypeUnit (record { 0 = signature }))
   pub whole : IsWhole order u.1.place u.0 u.1.bytes
 
--- a unit that can be added: it has its place in what its row shares
-pub record CanBeAdded (order : Endianness) (c : Contents) (strings : List (List ℕ)) (u : DwarfObject
-    × NewUnit) (m : DwarfObject × Meaning) : Type 0 where
-  pub name : u.0 ≡ m.0
-  pub bytes : u.1.bytes ≡ m.1.bytes
-  pub encoded : u.1.row.encoding ≡ m.1.encoding
-  pub lie : LieInside c u.1.row
-  pub shares : Shares order c strings u.1.row m.1
-  pub can : CanLie order u
-
 module _ (shared : IndexEntry) (c : Contents) (name : DwarfObject) (x : List ℕ) where
   -- a unit's row has its own part, and those that it shares
   row-parts : (place : UnitSection) (kind : SectionKind)
@@ -241,25 +230,25 @@ module _ (shared : IndexEntry) (c : Contents) (name : DwarfObject) (x : List ℕ
         grind (arith, row-part, there.inside, there.some, own.inside, own.some, content-put k x c)
 
     -- a unit whose row shares what belongs to it is the one of its row, once its bytes are added
-    pub unit-added : (order : Endianness) (s : List (List ℕ)) (m : DwarfObject × Meaning)
-        → CanBeAdded order c s (name, record { place = place; bytes = x; row = shared }) m
-        → IsRowOf order (with_bytes (kind_of place) x c) s row m
+    pub unit-added : (order : Endianness) (s : List (List ℕ)) (unit : Meaning) → x ≡ unit.bytes
+        → shared.encoding ≡ unit.encoding → LieInside c shared → Shares order c s shared unit
+        → CanLie order (name, record { place = place; bytes = x; row = shared })
+        → IsRowOf order (with_bytes (kind_of place) x c) s row (name, unit)
     unfolding encoding_in
-    unit-added order s m added =
-        let can = added.can in
-        let kept = keep-shares order c (with_bytes (kind_of place) x c) s s shared m.1
-        (grows-with_bytes (kind_of place) x c) (take-length s) added.lie added.shares in
+    unit-added order s unit bytes encoded lie shares can =
+        let kept = keep-shares order c (with_bytes (kind_of place) x c) s s shared unit
+        (grows-with_bytes (kind_of place) x c) (take-length s) lie shares in
         record {
-          name = row-name place ∙ added.name;
-          encoding = grind (arith, added.encoded);
-          lie = row-lies added.lie;
+          name = row-name place;
+          encoding = grind (arith, encoded);
+          lie = row-lies lie;
           shares = grind (arith, is-same, not-shared place, row-other, kept.content, kept.string);
           owns = record {
             place = place;
-            place_is = rw (← added.name) (own-place place can);
+            place_is = own-place place can;
             bytes = rw (row-own, content-put (kind_of place) x c)
-                ((lies-whole (content_of (kind_of place) c) x).part_is ∙ added.bytes);
+                ((lies-whole (content_of (kind_of place) c) x).part_is ∙ bytes);
             encoding = can.whole.unit.encoding;
-            header = grind (arith, added.bytes, can.whole.read);
+            header = grind (arith, bytes, can.whole.read);
           };
         }

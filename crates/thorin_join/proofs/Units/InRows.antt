@@ -1,13 +1,12 @@
 -- Names of units that are apart: no two places have one name. The units that a package represents
 -- are those that stand in the ranges of its rows.
 use Rattle.thorin_join.proofs.Terms
-use Terms.{All, AllPairs, ap, append-nil, append_assoc, AreApart, AreDistinct, AreRowsOf, arith}
-use Terms.{Bool, content_of, Contents, contribution_to, data_of, DwarfObject, Endianness, entry_ids}
-use Terms.{false, filter_passes, get_or-at, identifier_of, IndexEntry, InProgress, is_chosen}
-use Terms.{is_compilation, IsRowOf, IsTable, joining, keys, length-map, List, list_any, list_any_at}
-use Terms.{map, Meaning, meaning_at, Members, names_of, Ok, part_of, refl, Represents}
-use Terms.{result_unwrap_or, rows_of, same_name, strings_of, StrOffsets, sym, take-length, true}
-use Terms.{map-map, unit_bytes, units_of, [], ℕ, ◌++◌, ◌∷◌, ◌≡◌}
+use Terms.{All, AllPairs, append-nil, append_assoc, AreApart, AreDistinct, AreRowsOf, arith, Bool}
+use Terms.{Contents, data_of, DwarfObject, Endianness, entry_ids, false, filter_passes, get_or-at}
+use Terms.{identifier_of, IndexEntry, InProgress, is_chosen, is_compilation, IsRowOf, IsTable}
+use Terms.{joining, keys, length-map, List, list_any, list_any_at, map, Meaning, meaning_at}
+use Terms.{Members, names_of, refl, Represents, rows_of, same_name, sym, take-length, true, map-map}
+use Terms.{units_of, [], ℕ, ◌++◌, ◌∷◌, ◌≡◌}
 use Rattle.std.proofs.{lemmas.List.Kept.AllPairs-filter, lemmas.List.Quantifiers.all_pairs_push}
 use Rattle.thorin_join.proofs.Parts.Ranges.{strings-are}
 
@@ -29,14 +28,10 @@ pub joined_distinct : {X : Type 0} (names : List DwarfObject) (all : List (Dwarf
     → AreApart names → AreApart (names ++ map (λ u. u.0) (joining names all))
 joined_distinct names [] h = rw (append-nil names) h
 joined_distinct names (u ∷ rest) h =
+    let named = list_any_at (same_name u.0) names in
     let new = λ (n : list_any (same_name u.0) names ≡ false). rw append_assoc at
     (joined_distinct (names ++ u.0 ∷ []) rest (all_pairs_push (λ a b. same_name a b ≡ false) names
-    u.0 h (λ k d within. grind (
-      arith,
-      n,
-      list_any_at (same_name u.0) names k d within,
-      same_name-sym,
-    )))) in
+    u.0 h (λ k d within. grind (arith, n, named k d within, same_name-sym)))) in
     grind (arith, joined_distinct names rest h, new)
 
 -- two rows of one kind with one identifier have one name
@@ -70,24 +65,20 @@ distinct_chosen b rows apart =
 
 module _ (order : Endianness) (contents : Contents) (strings : List (List ℕ))
     (table : IsTable strings) where
-  module _ (row : IndexEntry) (member : DwarfObject × Meaning) (is : IsRowOf order contents strings
-      row member) where
-    bytes-are : member.1.bytes ≡ unit_bytes contents row
-    bytes-are = grind (arith, is.owns.place_is, is.owns.bytes)
-
-    strings-found : strings_of order row.encoding (data_of strings)
-        (part_of (content_of StrOffsets contents) (contribution_to StrOffsets row)) ≡ Ok
-        member.1.strings
-    strings-found = rw is.encoding (strings-are order member.1.encoding (data_of strings) _
-        member.1.strings (is.shares.string strings table (take-length strings)))
-
-    meaning-is : member.1 ≡ meaning_at order contents strings row
-    meaning-is = λ i. record {
-      bytes = bytes-are i;
-      contributions = λ kind copied. sym (is.shares.content kind copied) i;
-      strings = sym (ap (λ found. result_unwrap_or found []) strings-found) i;
-      encoding = sym is.encoding i;
-    }
+  meaning-is : (row : IndexEntry) (member : DwarfObject × Meaning)
+      → IsRowOf order contents strings row member → member.1 ≡ meaning_at order contents strings row
+  meaning-is row member is =
+      let unit = meaning_at order contents strings row in
+      let bytes : member.1.bytes ≡ unit.bytes = grind (arith, is.owns.place_is, is.owns.bytes) in
+      let found = strings-are order member.1.encoding (data_of strings) _ member.1.strings
+      (is.shares.string strings table (take-length strings)) in
+      let strings' : member.1.strings ≡ unit.strings = grind (arith, is.encoding, found) in
+      λ i. record {
+        bytes = bytes i;
+        contributions = λ kind copied. sym (is.shares.content kind copied) i;
+        strings = strings' i;
+        encoding = sym is.encoding i;
+      }
 
   rows-are : (rows : List IndexEntry) (ms : Members) → AreRowsOf order contents strings rows ms
       → ms ≡ map {B = DwarfObject × Meaning} (λ row.

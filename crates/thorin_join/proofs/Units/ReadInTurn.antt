@@ -1,12 +1,12 @@
 -- The units of an input: their names and headers, and what holds of each; they are read one after
 -- another, each added to what those before it gave, and so joined to the names that are there.
 use Rattle.thorin_join.proofs.Terms
-use Terms.{Adding, All-append, ap, append-nil, append_assoc, arith, as_error, bind-was, can_join}
+use Terms.{Adding, All-append, append-nil, append_assoc, arith, as_error, bind-was, can_join}
 use Terms.{DwarfObject, Each, ErrorValue, Header, identity, Input, is_some, joining, kept_bytes}
 use Terms.{keys, kind_of, List, list_any, list_any-append, map-append, name_for, New, new_units}
 use Terms.{NewUnit, None, Ok, Option, ParseUnitHeader, place_for, ReadError, refl, Result, same-ok}
 use Terms.{same_name, section, SectionKind, slice_get, Some, Source, source_units, suc, sym, true}
-use Terms.{unit_section, UnitRead, UnitSection, Used, with_unit, [], ℕ, ◌++◌, ◌∙◌, ◌∷◌, ◌≡◌}
+use Terms.{unit_section, UnitRead, UnitSection, Used, with_unit, [], ℕ, ◌++◌, ◌∷◌, ◌≡◌}
 use Rattle.thorin_input.specs.NewUnits.{SeenSections, with_each_read, with_first, with_section}
 use Rattle.thorin_input.specs.NewUnits.{with_each_section, with_section_at, with_section_in}
 use Rattle.thorin_join.specs.Meaning.{named_at, named_each, named_sections, named_unit}
@@ -195,8 +195,7 @@ steps-joined : (adding : Adding) (before after : New) (us : Reads)
     → Steps adding before us after → AreJoined adding before after us
 unfolding with_unit with_first
 steps-joined adding before after [] same =
-    let units = ap (λ (n : New). n.units) (sym same) ∙ sym (append-nil before.units) in
-    record { added = []; units = units; are = tt; defined = refl }
+    rw same (record { added = []; units = sym (append-nil after.units); are = tt; defined = refl })
 steps-joined adding before after (u ∷ us) h =
     let named = same_name u.0 in
     let there = is_some-lookup named before.units in

@@ -1,17 +1,16 @@
 -- The name of a unit has the sort, and of a type unit the signature, that its header says; and the
 -- units of an input are whole units of their names, wherever their bytes come to stand.
 use Rattle.thorin_join.proofs.Terms
-use Terms.{All-weaker, ap, arith, bind-was, Bool, cond, drop, DwarfObject, Each, encoding_in}
-use Terms.{Endianness, entry_identity, first_identifier, Header, identity, inl, Input, inr, IsWhole}
-use Terms.{kind_of, length, List, name_signature, nat_eq, None, Ok, place_for, ReadError, Result}
-use Terms.{root_identity, same-ok, section, slice_get, Some, Source, source_units, suc, sym}
-use Terms.{take-append-drop, type_signature, unit_taken, UnitRead, UnitSection, zero, [], ℕ, ◌++◌}
-use Terms.{◌+◌, ◌-◌, ◌∙◌, ◌∷◌, ◌≡◌, ◌⊎◌}
+use Terms.{All-weaker, same-ok, ap, arith, bind-was, drop, DwarfObject, Each, encoding_in}
+use Terms.{Endianness, entry_identity, first_identifier, Header, identity, Input, IsWhole, kind_of}
+use Terms.{length, List, name_signature, None, Ok, place_for, ReadError, Result, root_identity}
+use Terms.{section, slice_get, Some, Source, source_units, sym, take-append-drop, type_signature}
+use Terms.{unit_taken, UnitRead, UnitSection, [], ℕ, ◌++◌, ◌+◌, ◌-◌, ◌∙◌, ◌∷◌, ◌≡◌}
 use Rattle.thorin_join.proofs.Units.ReadInTurn.{each-all, name-identity, sections-are, WasRead}
-use Rattle.thorin_join.proofs.Moved.{FiveOrType, IsShifted, unit-anywhere, unit-five, unit-moves}
-use Rattle.dwp_units.specs.Units.{listed, unit_at, units, units_within}
-use Rattle.dwp_index.proofs.TwoPlaces.{units_alone}
-use Rattle.thorin_join.proofs.{Moved.plain, Units.ReadInTurn.Listed, Units.ReadInTurn.Reads}
+use Rattle.thorin_join.proofs.Moved.{FiveOrType, IsShifted, unit-five, unit-moves}
+use Rattle.dwp_units.specs.Units.{unit_at, units}
+use Rattle.dwp_index.proofs.TwoPlaces.{unit_anywhere, units_alone, within_at}
+use Rattle.thorin_join.proofs.{Moved.plain, Units.ReadInTurn.Reads}
 use Rattle.dwp_dwarf.specs.Entries.{DebugAttribute}
 use Rattle.dwp_units.specs.declared.unit.UnitSection.TheVariants as places
 
@@ -42,34 +41,12 @@ IsKnown order place unit = ReadsAlone order place unit × (place ≡ places.Type
 abbrev pub Goes : Endianness → DwarfObject × UnitRead → Type 0
 Goes order read = IsWhole order (place_for read.0 read.1.from) read.0 read.1.unit.whole.bytes
 
--- a unit among those that were read is the first, or among those behind it
-listed-at : (r : Result (Header × Input) ReadError) (others : Input → Listed) (none : Bool) (k : ℕ)
-    (unit : Header) → slice_get (cond none [] (listed r others)) k ≡ Some (Ok unit) → (x : Header
-    × Input) × (r ≡ Ok x) × ((x.0 ≡ unit) ⊎ (slice_get (others x.1) (k - 1) ≡ Some (Ok unit)))
-listed-at r others none k unit h = grind arith
-
 module _ (order : Endianness) (place : UnitSection) where
-  -- where a unit was read
-  within-at : (n d : ℕ) (left : List ℕ) (k : ℕ) (u : Header)
-      → slice_get (units_within n place (plain order d left)) k ≡ Some (Ok u) → (at : ℕ)
-      × (bytes : List ℕ) × (rest : Input) × (unit_at place (plain order at bytes) ≡ Ok (u, rest))
-  unfolding units_within
-  within-at zero d left k u h = absurd cc
-  within-at (suc n) d left k u h =
-      let i = plain order d left in
-      let l = listed-at (unit_at place i) (units_within n place) (nat_eq (length left) 0) k u h in
-      let t = unit_taken place i l.0.1 l.0.0 l.1 in
-      elim l.2 [
-        | inl same ↦ (d, left, l.0.1, l.1 ∙ ap (λ (v : Header). Ok (v, l.0.1)) same)
-        | inr later ↦ within-at n (d + t.0.taken) (drop t.0.taken left) (k - 1) u
-            (rw t.0.is at later)
-      ]
-
   pub known-in : (bytes : List ℕ) (k : ℕ) (unit : Header)
       → slice_get (units place (section order bytes)) k ≡ Some (Ok unit) → IsKnown order place unit
   unfolding units encoding_in
   known-in bytes k unit h =
-      let at = within-at (length bytes) 0 bytes k unit h in
+      let at = within_at order place unit (length bytes) 0 bytes k h in
       let i = plain order at.0 at.1 in
       let t = unit_taken place i at.2 unit at.3 in
       let own = unit.whole.bytes in
@@ -78,8 +55,8 @@ module _ (order : Endianness) (place : UnitSection) where
       let s = bind-was (unit_at place (section order own)) _ unit.encoding
       (units_alone order place unit bytes k h) in
       let moved = unit-moves order place own more at.0 s.0.0 s.0.1 s.1 in
-      let same : moved.unit ≡ unit = ap (λ (x : Header × Input). x.0) (same-ok _ _
-      (sym moved.read ∙ ap (λ l. unit_at place (plain order at.0 l)) whole_is ∙ at.3)) in
+      let same : moved.unit ≡ unit = ap (λ (x : Header × Input). x.0)
+      (same-ok _ _ (sym (rw whole_is at moved.read) ∙ at.3)) in
       let known : ReadsAlone order place unit = record {
         alone = s.0.0;
         rest = s.0.1;
@@ -95,7 +72,7 @@ pub goes-alone : (order : Endianness) (place : UnitSection) (name : DwarfObject)
     → IsKnown order place unit → type_signature unit.unit_type ≡ name_signature name
     → ReadsAlone order (place_for name (kind_of place)) unit
 goes-alone order place name unit known sort =
-    grind (arith, known.0.shifted, unit-anywhere place places.Info)
+    grind (arith, known.0.shifted, unit_anywhere place places.Info)
 
 -- all units of an input do so
 pub units-go : (source : Source) (all : Reads) → source_units source ≡ Ok all
