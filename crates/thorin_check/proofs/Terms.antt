@@ -10,7 +10,7 @@ pub use Rattle.std.proofs.Common.{append_assoc, below_more, get_or-drop, length-
 pub use Rattle.std.proofs.Common.{arith, Bor, drop, eqb, Err, find, refl, subst, take, true, zero}
 pub use Rattle.std.proofs.Common.{ap, inl, inr, map, min, not, suc, sym}
 pub use Rattle.thorin_check.specs.Apart.{AreApart, AreApartIn, AreReadAlike, HasRanges, tables_by}
-pub use Rattle.thorin_check.specs.Apart.{HasRange, IsApart, IsLast, IsSame}
+pub use Rattle.thorin_check.specs.Apart.{HasRange, IsApart, IsSame}
 pub use Rattle.thorin_check.specs.Indexes.{mixed_versions, section_faults, versions_faults}
 pub use Rattle.thorin_check.specs.Indexes.{column_faults, lacks_column, TellsColumns}
 pub use Rattle.thorin_check.specs.Rendering.{fault_text, FaultValue, of_executable, of_package}
