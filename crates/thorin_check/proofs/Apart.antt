@@ -1,14 +1,15 @@
 -- Ranges that don't overlap, unless they are the same, and are read alike.
 use Rattle.thorin_check.proofs.Terms
-use Terms.{AreApartIn, AreReadAlike, Contribution, get_or_default, IsPermutation, SectionKind, ◌&&◌}
-use Terms.{AllPairs, AreApart, below_more, Contains, HasRanges, nat_tests, tables_by, UnitEntry}
-use Terms.{Abbrev, get_or, HasRange, IsApart, IsLast, IsSame, length, nat_le, Option, range_in, ◌+◌}
-use Terms.{arith, Bool, false, Index, List, nat_lt, None, refl, Some, take, true, ℕ, ◌-◌, ◌<◌, ◌||◌}
-use Terms.{inl, inr, min, not, ◌^◌, ◌∙◌, ◌≡◌, ◌≤◌, ◌⊎◌}
+use Terms.{AreApartIn, Contribution, get_or_default, HasRanges, IsApart, IsPermutation, SectionKind}
+use Terms.{AllPairs, AreApart, Contains, HasRange, Index, nat_tests, range_in, tables_by, UnitEntry}
+use Terms.{Abbrev, arith, Bool, false, get_or, length, List, None, Option, refl, Some, take, true}
+use Terms.{inl, inr, not, suc, zero, ℕ, ◌+◌, ◌-◌, ◌<◌, ◌||◌, ◌∙◌, ◌≡◌, ◌≤◌, ◌⊎◌}
 use Rattle.{dwp_base.proofs.Bools.neither, thorin_check.specs.declared.overlaps.Placed.Placed}
-use Rattle.std.proofs.{lemmas.List.Elements.All-more, lemmas.List.Sorted.Contains-permutation}
-use Rattle.dwp_index.specs.Package.{index_for, Package}
 use Rattle.thorin_check.specs.Overlaps.{overlap, range_by_index, same_range, slot_range}
+use Rattle.std.proofs.lemmas.List.Sorted.{all_adjacent_more, Contains-permutation}
+use Rattle.std.proofs.lemmas.{Bool.cases_lt, List.Elements.All-more}
+use Rattle.std.{proofs.Common.add-one, specs.List.AllAdjacentBelow}
+use Rattle.dwp_index.specs.Package.{index_for, Package}
 
 -- two ranges that are the same, or both absent
 pub one_range : (a b : Option Contribution) → same_range a b ≡ true → a ≡ b
@@ -16,67 +17,26 @@ one_range a b e = grind (arith, nat_tests)
 
 -- ---- sorted ranges, gone through
 
--- how far ranges were gone through
-pub record GoneThrough (ranges : List Placed) (i farthest : ℕ)
-    (before : Option Placed) : Type 0 where
-  pub apart : (j k : ℕ) (d : Placed) → j < k → k < i → IsApart (get_or ranges j d)
-      (get_or ranges k d)
-  pub ends : (k : ℕ) (d : Placed) → k < i
-      → min ((get_or ranges k d).offset + (get_or ranges k d).size) (2 ^ 64 - 1) ≤ farthest
-  pub last : (range : Placed) → IsLast before range → (k : ℕ) × (k + 1 ≡ i)
-      × ((d : Placed) → IsSame (get_or ranges k d) range)
+apart_behind : (a b c : Placed) → IsApart a b → IsApart b c → IsApart a c
+apart_behind a b c first next = grind (arith)
 
--- the next range is the same as the last
-same_here : (ranges : List Placed) (i farthest : ℕ) (before : Option Placed)
-    → GoneThrough ranges i farthest before → (x : Placed) → IsLast before x → (j : ℕ) (d : Placed)
-    → j < i → IsApart (get_or ranges j d) x
-same_here ranges i farthest before g x is j d lt =
-    let last = g.last x is in
-    let same = last.2 d in
-    let next = last.1 in
-    let or : (j < last.0) ⊎ (j ≡ last.0) = grind arith in
-    elim or [
-      | inl less ↦ elim (g.apart j last.0 d less (omega arith)) [
-        | inl alike ↦ inl (alike.0 ∙ same.0, alike.1 ∙ same.1, alike.2 ∙ same.2)
-        | inr behind ↦ inr (rw same.0 at behind)
-      ]
-      | inr this ↦ rw this (inl same)
+-- one more is apart from the one before
+pub next_apart : (ranges : List Placed) (i : ℕ) (d e : Placed) → 0 < i → i < length ranges
+    → AllAdjacentBelow IsApart ranges i → IsApart (get_or ranges (i - 1) d) (get_or ranges i e)
+    → AllAdjacentBelow IsApart ranges (i + 1)
+next_apart ranges i d e some lt before apart = all_adjacent_more ranges IsApart i some before
+    (λ f. rw (get_or_default ranges (i - 1) f d (omega arith), get_or_default ranges i f e lt) apart)
+
+-- where each is apart from the one before, any two are
+pub all_apart : (ranges : List Placed) (end : ℕ) → AllAdjacentBelow IsApart ranges end
+    → (i j : ℕ) (d : Placed) → i < j → j < end → IsApart (get_or ranges i d) (get_or ranges j d)
+all_apart ranges end h i zero d lt within = absurd (omega arith)
+all_apart ranges end h i (suc j) d lt within =
+    let next = rw add-one at (h j d (omega arith)) in
+    elim (cases_lt i j) [
+      | inl less ↦ apart_behind _ _ _ (all_apart ranges end h i j d less (omega arith)) next
+      | inr le ↦ (let this : i ≡ j = omega arith in rw this next)
     ]
-
--- a range is the same as the one before, or begins behind all, as its tests tell
-pub is_behind : (twin : Bool) (farthest offset : ℕ)
-    → (twin || (nat_le farthest offset && nat_lt farthest (2 ^ 64 - 1))) ≡ true
-    → (twin ≡ true) ⊎ ((farthest ≤ offset) × (farthest < 2 ^ 64 - 1))
-is_behind twin farthest offset e = grind (arith, nat_tests)
-
--- one more range was gone through
-pub gone_on : (ranges : List Placed) (i : ℕ) (e : Placed) → i < length ranges
-    → (farthest further : ℕ) (before : Option Placed) (any twin behind : Bool)
-    → (any ≡ false → GoneThrough ranges i farthest before)
-    → (twin ≡ true → IsLast before (get_or ranges i e)) → (behind ≡ true → (twin ≡ true)
-    ⊎ ((farthest ≤ (get_or ranges i e).offset) × (farthest < 2 ^ 64 - 1))) → farthest ≤ further
-    → min ((get_or ranges i e).offset + (get_or ranges i e).size) (2 ^ 64 - 1) ≤ further
-    → (any || not behind) ≡ false → GoneThrough ranges (i + 1) further (Some (get_or ranges i e))
-gone_on ranges i e lt farthest further before any twin behind g last goes more end none =
-    let both = neither any (not behind) none in
-    let so_far = g both.0 in
-    let passed : behind ≡ true = grind (arith, both.1) in
-    let here : (j : ℕ) (d : Placed) → j < i → IsApart (get_or ranges j d) (get_or ranges i e) =
-    elim (goes passed) [
-      | inl is ↦ same_here ranges i farthest before so_far (get_or ranges i e) (last is)
-      | inr le ↦ λ j d lt. let end = so_far.ends j d lt in inr (omega (arith, le.0, le.1))
-    ] in
-    record {
-      apart = λ j k d less below. below_more
-          (λ k. j < k → IsApart (get_or ranges j d) (get_or ranges k d)) i
-          (λ k below less. so_far.apart j k d less below)
-          (λ less. rw (get_or_default ranges i d e lt) (here j d less)) k below less;
-      ends = λ k d below. below_more
-          (λ k. min ((get_or ranges k d).offset + (get_or ranges k d).size) (2 ^ 64 - 1) ≤ further)
-          i (λ k below. let one = so_far.ends k d below in omega arith)
-          (rw (get_or_default ranges i d e lt) end) k below;
-      last = λ range is. (i, refl, λ d. rw (get_or_default ranges i d e lt) is);
-    }
 
 -- ---- ranges of slots
 
@@ -122,32 +82,29 @@ module _ (pack : Package) (slots : List UnitEntry) (kind : SectionKind) (ranges 
       (index_has (index_for pack b.object) b.row kind s there) one.2 one.3 other.2 other.3
       (placed_apart one.0 other.0 one.1 other.1)
 
-  -- two slots that share the bytes of a unit
-  slots_alike : (a b : UnitEntry) → Contains slots a → Contains slots b → AreReadAlike pack kind a b
-  slots_alike a b is so units range here there =
-      let one = has a is range here in
-      let other = has b so range there in
-      rw units at (read_alike one.0 other.0 range _ _
-      (index_has (index_for pack a.object) a.row kind range here) one.2 one.3 other.2 other.3
-      one.4 other.4 (placed_apart one.0 other.0 one.1 other.1))
-
   pub slots_apart : AreApartIn pack slots kind
   slots_apart a b is so = (
     slots_by a b is so (slot_range pack a kind) (slot_range pack b kind) refl refl,
-    slots_alike a b is so,
+    λ units range here there.
+        let one = has a is range here in
+        let other = has b so range there in
+        rw units at (read_alike one.0 other.0 range _ _
+        (index_has (index_for pack a.object) a.row kind range here) one.2 one.3 other.2 other.3
+        one.4 other.4 (placed_apart one.0 other.0 one.1 other.1)),
   )
 
 -- one section more
 module _ (pack : Package) (slots : List UnitEntry) (kinds : List SectionKind) (i : ℕ)
     (d : SectionKind) (lt : i < length kinds) where
-  pub apart_on : (any more : Bool) (ranges lent : List Placed) → lent ≡ ranges
+  pub apart_on : (any fits : Bool) (ranges lent : List Placed) → lent ≡ ranges
       → (any ≡ false → AreApart pack slots (take i kinds))
-      → HasRanges pack slots (get_or kinds i d) ranges → (more ≡ false → AllPairs IsApart lent)
-      → (any || more) ≡ false → AreApart pack slots (take (i + 1) kinds)
-  apart_on any more ranges lent same before has apart e =
-      let both = neither any more e in
+      → HasRanges pack slots (get_or kinds i d) ranges → (fits ≡ true → AllPairs IsApart lent)
+      → (any || not fits) ≡ false → AreApart pack slots (take (i + 1) kinds)
+  apart_on any fits ranges lent same before has apart e =
+      let both = neither any (not fits) e in
+      let yes : fits ≡ true = grind (arith, both.1) in
       All-more (AreApartIn pack slots) kinds i d lt (before both.0)
-      (slots_apart pack slots (get_or kinds i d) ranges has (rw same at (apart both.1)))
+      (slots_apart pack slots (get_or kinds i d) ranges has (rw same at (apart yes)))
 
 -- ranges in another order
 pub ranges_sorted : (pack : Package) (slots : List UnitEntry) (kind : SectionKind)

@@ -1,24 +1,21 @@
 -- What was told of the units that an executable names, and what was checked.
 use Rattle.thorin_check.proofs.Terms
-use Terms.{append_assoc, Executables, Grows, has_no_index, IsOfPrinting, PackageError, skeletons_by}
-use Terms.{append-nil, Bool, FailsToRead, fault_count, FaultValue, nat_tests, none_grown, UnitEntry}
-use Terms.{AreByRow, Failure, get_or, IsFault, Listed, of_unit, Outcome, Progress, Reading, TellsOr}
-use Terms.{arith, false, Is, length, List, Named, Offer, Option, Prints, Result, subst, Tells, ◌++◌}
-use Terms.{Bor, Err, inl, None, OnOk, refl, Some, Told, true, zero, ℕ, ◌+◌, ◌<◌, ◌∷◌, ◌≡◌, ◌≢◌, ◌≤◌}
-use Terms.{inr, Ok, suc, []}
-use Rattle.thorin_check.specs.Faults.{longest_path, missing_faults, missing_text, TellsListed}
-use Rattle.thorin_check.specs.Faults.{bare_fault, IsBroken, long_bytes, long_size, TellsNamed}
-use Rattle.thorin_check.specs.Faults.{room_of, TellsEnd}
+use Terms.{append_assoc, Executables, FailsToRead, IsOfPrinting, Listed, PackageError, skeletons_by}
+use Terms.{AreByRow, Failure, fault_count, FaultValue, nat_tests, none_grown, Progress, UnitEntry}
+use Terms.{get_or, Grows, length, Named, of_unit, Option, Outcome, Prints, Reading, Result, TellsOr}
+use Terms.{arith, Bool, false, List, None, Offer, OnOk, refl, Some, subst, Tells, Told, true, zero}
+use Terms.{Bor, Err, inl, inr, Is, Ok, suc, ℕ, [], ◌++◌, ◌+◌, ◌<◌, ◌∷◌, ◌≡◌, ◌≢◌, ◌≤◌}
 use Rattle.thorin_check.specs.Checking.{ChecksIndexed, IsOfChecking, TellsExecutable, TellsPackage}
-use Rattle.thorin_check.specs.Checking.{Checks, FailsOne, Finishes, IsOfReading}
+use Rattle.thorin_check.specs.Faults.{longest_path, missing_faults, missing_text, TellsListed}
+use Rattle.thorin_check.specs.Checking.{Checks, ChecksBytes, FailsOne, Finishes, IsOfReading}
+use Rattle.thorin_check.specs.Faults.{IsBroken, long_bytes, long_size, TellsEnd, TellsNamed}
+use Rattle.{std.specs.declared.io.Error.Error as IoError, thorin_check.specs.Faults.room_of}
+use Rattle.thorin_check.proofs.Told.{counted_from, stopped_behind, then_or, told_as}
+use Rattle.thorin_errors.specs.declared.error.Error.{Error, TheVariants.Memory}
 use Rattle.dwp_index.specs.Package.{found, FoundUnit, Package, package_of}
-use Rattle.thorin_errors.specs.{declared.error.Error.Error, declared.error.Error.TheVariants.Memory}
-use Rattle.thorin_errors.specs.{Answers.MemoryAside, Errors.error_of, Errors.ErrorValue}
-use Rattle.thorin_check.proofs.Told.{counted_from, stopped_behind, told_as, told_then}
-use Rattle.std.specs.declared.io.Error.{Error as IoError}
-use Rattle.std.proofs.KnownBytes.{Appends-trans, Keeps-refl}
 use Rattle.thorin_check.proofs.Sound.{no_fault, no_fault_told, some_fault}
-use Rattle.thorin_print.specs.declared.output.Failure.TheVariants as failures
+use Rattle.thorin_errors.specs.{Answers.MemoryAside, Errors.error_of}
+use Rattle.std.proofs.KnownBytes.{Appends-trans, Keeps-refl}
 
 module _ (executable : List ℕ) (named : Named)
     (looked : Result (Option FoundUnit) PackageError) where
@@ -41,114 +38,82 @@ end_behind : (executable : List ℕ) (room less : ℕ) (x : Named) (first : List
 end_behind executable room less x first left faults fits h = grind (arith)
 
 module _ (pack : Package) (executable : List ℕ) where
-  -- no unit is left, but the end
-  at_end : {end : Option ErrorValue} (room : ℕ) (left : Listed) (faults : List FaultValue)
-      → left ≡ ([], end) → TellsEnd executable room [] ([], end) faults
-      → TellsListed pack executable room left faults
-  at_end room left faults e h = rw e (record {
-    first = [];
-    left = [];
-    split = refl;
-    ended = faults;
-    end = h;
-    all = refl;
-  })
+  -- what is told of those that are left: where they are all, and none, that is told
+  abbrev pub TellsLeft : (is_first : Bool) → (room : ℕ) → (left : Listed) → List FaultValue → Type 0
+  TellsLeft true = TellsNamed pack executable
+  TellsLeft false = TellsListed pack executable
 
-  -- behind the first of some
-  behind_first : (room left : ℕ) (first : Named) (after : Listed) (ms more : List FaultValue)
-      → room ≤ left + long_size first.1
-      → Is (missing_faults executable first (found pack first.0)) ms
-      → TellsListed pack executable left after more
-      → TellsListed pack executable room (first ∷ after.0, after.1) (ms ++ more)
-  behind_first room left first after ms more fits k t = record {
-    first = first ∷ t.first;
-    left = t.left;
-    split = rw t.split refl;
-    ended = t.ended;
-    end = end_behind executable room left first t.first (t.left, after.1) t.ended fits t.end;
-    all = rw (t.all, k, append_assoc) refl;
-  }
+  -- what is told of those that are left makes, behind these faults, what is told of all
+  abbrev pub GoesOn : (whole : ℕ) (all : Listed) (is_first : Bool) (room : ℕ) (left : Listed)
+      → List FaultValue → Type 0
+  GoesOn whole all is_first room left faults = (more : List FaultValue)
+      → TellsLeft is_first room left more → TellsNamed pack executable whole all (faults ++ more)
 
-  -- the path of the first of some is too long
-  long_first : (room : ℕ) (first : Named) (after : Listed) (faults : List FaultValue)
-      → longest_path < length first.1 → room < length first.1 → IsBroken executable faults
-      → TellsListed pack executable room (first ∷ after.0, after.1) faults
-  long_first room first after faults long over broken =
-      let size : long_size first.1 ≡ length first.1 = grind (arith, nat_tests) in
-      let all : room < long_bytes (first ∷ []) = omega (arith, size, over) in
-      record {
-        first = [];
-        left = first ∷ after.0;
-        split = refl;
-        ended = faults;
-        end = (long, all, broken);
-        all = refl;
-      }
+  left_by : (is_first : Bool) (room : ℕ) (left : Listed) (faults : List FaultValue)
+      → (left.0 ≡ [] → left.1 ≡ None → ⊥) → TellsListed pack executable room left faults
+      → TellsLeft is_first room left faults
+  left_by true room ([], None) faults some t = absurd (some refl refl)
+  left_by true room ([], Some error) faults some t = t
+  left_by true room (first ∷ rest, end) faults some t = t
+  left_by false room left faults some t = t
 
-  module _ (whole : ℕ) (all : Listed) where
-    -- nothing is told yet; or what is told of those that are left makes, behind these faults, what
-    -- is told of all
-    abbrev pub GoesOn : (is_first : Bool) → (room : ℕ) → (left : Listed) → List FaultValue → Type 0
-    GoesOn true room left faults = (faults ≡ []) × (left ≡ all) × (room ≡ whole)
-    GoesOn false room left faults = (more : List FaultValue)
-        → TellsListed pack executable room left more
-        → TellsNamed pack executable whole all (faults ++ more)
+  -- none of them is looked for
+  pub none_looked : (room : ℕ) (left : Listed) (faults : List FaultValue)
+      → TellsEnd executable room [] left faults → TellsListed pack executable room left faults
+  none_looked room left faults end =
+      record { first = []; left = left.0; split = refl; ended = faults; end = end; all = refl }
 
-    module _ (is_first : Bool) (room : ℕ) (left after : Listed) (first : Named)
-        (split : left ≡ (first ∷ after.0, after.1)) where
-      on_some : (b : Bool) (ls more : List FaultValue) → GoesOn b room left ls
-          → TellsListed pack executable room (first ∷ after.0, after.1) more
-          → TellsNamed pack executable whole all (ls ++ more)
-      on_some true ls more h t = rw (h.0, ← h.1, ← h.2, split) t
-      on_some false ls more h t = h more (rw split t)
+  -- what is left was told, or telling it stopped
+  pub left_told : (whole : ℕ) (all : Listed) (is_first : Bool) (room : ℕ) (left : Listed)
+      (a b c : Progress) (result : Outcome) → Told (GoesOn whole all is_first room left) a b
+      → Tells (TellsLeft is_first room left) b c result
+      → Tells (TellsNamed pack executable whole all) a c result
+  left_told whole all is_first room left a b c result =
+      then_or (GoesOn whole all is_first room left) (TellsLeft is_first room left) IsOfPrinting a b
+      c (TellsNamed pack executable whole all) (λ ls ms h t. h ms t) result
 
-      pub on_next : (less : ℕ) → room ≤ less + long_size first.1 → (ls ms : List FaultValue)
-          → GoesOn is_first room left ls
-          → Is (missing_faults executable first (found pack first.0)) ms
-          → GoesOn false less after (ls ++ ms)
-      on_next less fits ls ms h k = λ more t. rw (append_assoc ls ms more)
-          (on_some is_first ls (ms ++ more) h (behind_first room less first after ms more fits k t))
-
-      pub on_long : longest_path < length first.1 → room < length first.1
-          → (ls ms : List FaultValue) → GoesOn is_first room left ls → IsBroken executable ms
-          → TellsNamed pack executable whole all (ls ++ ms)
-      on_long long over ls ms h broken =
-          on_some is_first ls ms h (long_first room first after ms long over broken)
-
-    module _ (room : ℕ) (left : Listed) where
-      pub on_end : left ≡ ([], None) → (ls : List FaultValue) → GoesOn false room left ls
-          → TellsNamed pack executable whole all ls
-      on_end e ls h = rw append-nil at (h [] (at_end room left [] e refl))
-
-      pub on_bare : left ≡ ([], None) → (ls ms : List FaultValue) → GoesOn true room left ls
-          → IsFault (bare_fault executable) ms → TellsNamed pack executable whole all (ls ++ ms)
-      on_bare e ls ms h is = rw (h.0, ← h.1, e) is
-
-      on_broken : (is_first : Bool) (error : ErrorValue) → left ≡ ([], Some error)
-          → (ls ms : List FaultValue) → GoesOn is_first room left ls → IsBroken executable ms
-          → TellsNamed pack executable whole all (ls ++ ms)
-      on_broken true error e ls ms h broken =
-          rw (h.0, ← h.1, e) (at_end whole ([], Some error) ms refl broken)
-      on_broken false error e ls ms h broken = h ms (at_end room left ms e broken)
-
-      pub broken_behind : (is_first : Bool) {a b : Progress} (c : Progress) (error : Error)
-          (result : Outcome) → Told (GoesOn is_first room left) a b
-          → MemoryAside error (left ≡ ([], Some (error_of error)))
-          → OnOk result (error ≢ Memory) → Tells (IsBroken executable) b c result
-          → Tells (TellsNamed pack executable whole all) a c result
-      broken_behind is_first c error (Ok done) p aside known h =
-          told_then (on_broken is_first (error_of error) (aside known)) p h
-      broken_behind is_first c error (Err failure) p aside known h =
-          stopped_behind c.written p h
-
-  -- the error that they begin with was told
-  pub named_broken : (room : ℕ) (listed : Listed) (a b : Progress) (error : Error)
-      (result : Outcome) → MemoryAside error (listed ≡ ([], Some (error_of error)))
+  -- the error that is next was told
+  pub broken_left : (is_first : Bool) (room : ℕ) (left : Listed) (error : Error) (a b : Progress)
+      (result : Outcome) → MemoryAside error (left ≡ ([], Some (error_of error)))
       → OnOk result (error ≢ Memory) → Tells (IsBroken executable) a b result
-      → Tells (TellsNamed pack executable room listed) a b result
-  named_broken room listed a b error (Ok done) aside known h = rw (aside known)
-      (told_as h (λ faults broken. at_end room ([], Some (error_of error)) faults refl broken))
-  named_broken room listed a b error (Err failure) aside known h = h
+      → Tells (TellsLeft is_first room left) a b result
+  broken_left is_first room left error a b (Ok done) aside known h = rw (aside known)
+      (told_as h (λ faults broken. left_by is_first room ([], Some (error_of error)) faults
+      (λ none end. absurd cc) (none_looked room ([], Some (error_of error)) faults broken)))
+  broken_left is_first room left error a b (Err failure) aside known h = h
+
+  module _ (is_first : Bool) (room : ℕ) (left after : Listed) (first : Named)
+      (split : left ≡ (first ∷ after.0, after.1)) where
+    -- the path of the next is too long
+    pub long_left : longest_path < length first.1 → room < length first.1
+        → (faults : List FaultValue) → IsBroken executable faults
+        → TellsLeft is_first room left faults
+    long_left long over faults broken =
+        let size : long_size first.1 ≡ length first.1 = grind (arith, nat_tests) in
+        let all : room < long_bytes (first ∷ []) = omega (arith, size, over) in
+        rw split (left_by is_first room (first ∷ after.0, after.1) faults
+        (λ none end. absurd cc) (none_looked room (first ∷ after.0, after.1) faults (long, all, broken)))
+
+    module _ (whole : ℕ) (all : Listed) where
+      -- the next was looked for
+      pub on_next : (less : ℕ) → room ≤ less + long_size first.1 → (ls ms : List FaultValue)
+          → GoesOn whole all is_first room left ls
+          → Is (missing_faults executable first (found pack first.0)) ms
+          → GoesOn whole all false less after (ls ++ ms)
+      on_next less fits ls ms h k = λ more t.
+          let both : TellsListed pack executable room (first ∷ after.0, after.1) (ms ++ more) =
+          record {
+            first = first ∷ t.first;
+            left = t.left;
+            split = rw t.split refl;
+            ended = t.ended;
+            end = end_behind executable room less first t.first (t.left, after.1) t.ended fits
+                t.end;
+            all = rw (t.all, k, append_assoc) refl;
+          } in
+          rw (append_assoc ls ms more) (h (ms ++ more)
+          (rw split (left_by is_first room (first ∷ after.0, after.1) (ms ++ more)
+          (λ none end. absurd cc) both)))
 
 module _ (offer : Offer) where
   -- ---- failures
@@ -223,24 +188,12 @@ module _ (offer : Offer) (executables : Executables) where
       stopped_behind c t (of_printing offer executables.paths failure f.0, f.1)
 
   -- the file was read
-  module _ (path bytes lent : List ℕ) (read : offer path (Ok bytes)) (same : lent ≡ bytes) where
-    pub file_checked : (pack : Package) (a c : Option (List ℕ)) (result : Result ℕ Failure)
-        (b : Bool) → package_of lent ≡ Ok pack → b ≡ has_no_index pack → b ≡ false
-        → ChecksIndexed offer executables pack a c result → Checks offer path executables a c result
-    unfolding Checks
-    file_checked pack a c result b is e f h = inl (bytes, read, rw (← same, is, ← e, f) h)
-
-    pub file_without_index : (pack : Package) (a : Option (List ℕ)) (b : Bool)
-        → package_of lent ≡ Ok pack → b ≡ has_no_index pack → b ≡ true
-        → Checks offer path executables a a (Err failures.NoIndex)
-    unfolding Checks
-    file_without_index pack a b is e f =
-        inl (bytes, read, rw (← same, is, ← e, f) (refl, Keeps-refl a))
-
-    pub file_malformed : (cause : PackageError) (a : Option (List ℕ)) → package_of lent ≡ Err cause
-        → Checks offer path executables a a (Err failures.Malformed)
-    unfolding Checks
-    file_malformed cause a is = inl (bytes, read, rw (← same, is) (refl, Keeps-refl a))
+  pub file_read : (path bytes lent : List ℕ) (a c : Option (List ℕ)) (result : Result ℕ Failure)
+      → offer path (Ok bytes) → lent ≡ bytes
+      → ChecksBytes offer executables (package_of lent) a c result
+      → Checks offer path executables a c result
+  unfolding Checks
+  file_read path bytes lent a c result read same h = inl (bytes, read, rw same at h)
 
   -- it can't be read, or there is no memory
   pub not_checked : (path : List ℕ) (a : Option (List ℕ)) (failure : Failure)

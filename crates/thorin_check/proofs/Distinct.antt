@@ -2,27 +2,29 @@
 use Rattle.thorin_check.proofs.Terms
 use Terms.{contribution_kinds, DwarfObject, IsGatheredIn, IsPermutation, PackageError, StringRange}
 use Terms.{AllPairs, FaultValue, IsGathered, nat_tests, same_Some, TellsSeen, TellsText, UnitEntry}
-use Terms.{All, AreApart, ForEach, get_or, IsOfUnit, IsTextOf, Outcome, Progress, same-ok, take_all}
-use Terms.{arith, Bool, false, Global, IsSeen, length, nat_eq, Option, Result, String, Tells, ◌&&◌}
-use Terms.{Err, IfOk, List, None, OnOk, refl, Some, take, Told, ◌++◌, ◌+◌, ◌<◌, ◌∙◌, ◌∷◌, ◌≡◌, ◌≤◌}
-use Terms.{Ok, sym, [], ℕ}
+use Terms.{AreApart, Bool, ForEach, Global, IsOfUnit, IsSeen, IsTextOf, Progress, same-ok, take_all}
+use Terms.{arith, false, get_or, IfOk, length, List, nat_eq, None, Ok, OnOk, Option, Result, String}
+use Terms.{All, Err, refl, Some, sym, take, Told, ℕ, [], ◌&&◌, ◌++◌, ◌+◌, ◌<◌, ◌∙◌, ◌∷◌, ◌≡◌, ◌≤◌}
 use Rattle.std.proofs.lemmas.List.Elements.{All-get_or, All-more, All-nil, All-push, All-weaker}
-use Rattle.std.proofs.lemmas.List.Elements.{All-contains, Contains-append_left, Contains-push}
-use Rattle.std.proofs.lemmas.List.Quantifiers.{all_pairs_push}
-use Rattle.std.proofs.lemmas.List.Sorted.{Contains-permutation}
-use Rattle.dwp_index.specs.Package.{found, FoundUnit, Package}
-use Rattle.thorin_check.specs.Checking.{TellsSlot, TellsSlots, TellsStringsOfAll, TellsUnits}
-use Rattle.thorin_check.specs.Gathered.{GoesOn, Listed, TellsListed}
-use Rattle.thorin_check.specs.{declared.units.Seen.Seen, Faults.TellsStringsOf, Faults.TellsUnit}
 use Rattle.thorin_check.specs.Strings.{HasOffsets, IsBehind, IsRangeOfOne, number_of, ShareNone}
-use Rattle.thorin_check.proofs.SharedStrings.{has_strings}
-use Rattle.thorin_check.proofs.Told.{for_each_more, in_turn, tells_as, told_as, told_next}
+use Rattle.std.proofs.lemmas.List.Elements.{All-contains, Contains-append_left, Contains-push}
+use Rattle.thorin_check.specs.Checking.{TellsSlot, TellsSlots, TellsStringsOfAll, TellsUnits}
+use Rattle.std.proofs.lemmas.List.{Quantifiers.all_pairs_push, Sorted.Contains-permutation}
+use Rattle.thorin_check.{proofs.SharedStrings.has_strings, specs.declared.units.Seen.Seen}
+use Rattle.thorin_check.proofs.Told.{for_each_more, in_turn, told_as, told_next}
+use Rattle.thorin_check.specs.Gathered.{GoesOn, Listed, TellsListed}
+use Rattle.thorin_check.specs.Faults.{TellsStringsOf, TellsUnit}
+use Rattle.dwp_index.specs.Package.{found, FoundUnit, Package}
+
+-- string offsets behind some, if there are some, have this number or a higher one
+abbrev pub bound : Option StringRange → ℕ
+bound None = 0
+bound (Some last) = number_of last + 1
 
 -- a unit has no string offsets behind some, if there are some
 abbrev pub IsUpTo : Package → Option StringRange → DwarfObject → Type 0
-IsUpTo pack None object = ⊥
-IsUpTo pack (Some last) object = (range : StringRange) → HasOffsets pack object range
-    → number_of range ≤ number_of last
+IsUpTo pack before object = (range : StringRange) → HasOffsets pack object range
+    → number_of range < bound before
 
 -- a unit has one range of string offsets
 one_range : (pack : Package) (object : DwarfObject) (a b : StringRange) → HasOffsets pack object a
@@ -34,17 +36,15 @@ one_range pack object a b (one, is, has) (other, so, too) =
 -- those before are apart from one behind them
 module _ (pack : Package) (range : StringRange) (object : DwarfObject)
     (this : HasOffsets pack object range) where
-  up_to_next : (before : Option StringRange) → IsBehind before range → (other : DwarfObject)
-      → IsUpTo pack before other → IsUpTo pack (Some range) other
-  up_to_next None behind other up = absurd up
-  up_to_next (Some last) behind other up = λ has is. let le = up has is in omega arith
-
-  shares_none : (before : Option StringRange) → IsBehind before range → (other : DwarfObject)
-      → IsUpTo pack before other → ShareNone pack other object
-  shares_none None behind other up = absurd up
-  shares_none (Some last) behind other up = λ has one two.
-      let le = rw (one_range pack object has range two this) at (up has one) in
-      absurd (omega arith)
+  apart : (before : Option StringRange) → IsBehind before range → (other : DwarfObject)
+      → IsUpTo pack before other
+      → IsUpTo pack (Some range) other × ShareNone pack other object
+  apart before behind other up =
+      let le : bound before ≤ number_of range = grind (arith) in (
+        λ has is. let lt = up has is in omega arith,
+        λ has one two. let lt = rw (one_range pack object has range two this) at (up has one) in
+            omega arith,
+      )
 
 module _ (pack : Package) (listed : Listed) where
   -- listed string offsets are those of one of these units
@@ -100,10 +100,10 @@ module _ (pack : Package) (listed : Listed) where
           objects = t.objects ++ (object ∷ []);
           once = all_pairs_push (ShareNone pack) t.objects object t.once
               (All-weaker (IsUpTo pack before) (λ other. ShareNone pack other object)
-              (shares_none pack range object is before behind) t.objects t.up_to);
+              (λ other up. (apart pack range object is before behind other up).1) t.objects t.up_to);
           up_to = All-push (IsUpTo pack (Some range)) t.objects object
               (All-weaker (IsUpTo pack before) (IsUpTo pack (Some range))
-              (up_to_next pack range object is before behind) t.objects t.up_to)
+              (λ other up. (apart pack range object is before behind other up).0) t.objects t.up_to)
               (λ has there. rw (one_range pack object has range there is) (omega arith));
           last = λ other e. rw (← same_Some range other e) here;
           told = for_each_more (λ object. TellsStringsOf object (found pack object)) t.objects
@@ -114,27 +114,18 @@ module _ (pack : Package) (listed : Listed) where
               grind (arith)) (take i listed) t.others) here;
         }
 
-  pub first_all : (i : ℕ) (before : Option StringRange) → length listed ≤ i
-      → (faults : List FaultValue) → TellsFirst i before faults → TellsListed pack listed faults
-  first_all i before le faults t = record {
+  -- all were, which are others in another order
+  pub first_all : (old : Listed) → IsPermutation old listed → (i : ℕ) (before : Option StringRange)
+      → length listed ≤ i → (faults : List FaultValue) → TellsFirst i before faults
+      → TellsListed pack old faults
+  first_all old same i before le faults t = record {
     objects = t.objects;
     once = t.once;
     told = t.told;
     others = λ range there. All-contains (IsOneOf t.objects) listed (range, there.0)
-        (rw (take_all i listed le) at t.others) there.1;
+        (rw (take_all i listed le) at t.others)
+        (Contains-permutation old listed (range, there.0) same there.1);
   }
-
--- the same of those in another order
-pub listed_before : (pack : Package) (old new : Listed) → IsPermutation old new
-    → (a b : Progress) (result : Outcome) → Tells (TellsListed pack new) a b result
-    → Tells (TellsListed pack old) a b result
-listed_before pack old new same a b result = tells_as a b result (λ faults t. record {
-  objects = t.objects;
-  once = t.once;
-  told = t.told;
-  others = λ range there.
-      t.others range (there.0, Contains-permutation old new (range, there.0) same there.1);
-})
 
 -- ---- units, and their strings behind
 
@@ -186,23 +177,20 @@ module _ (pack : Package) (entries : List UnitEntry) (listed : Listed) (any : Bo
 pub stays_seen : (pack : Package) (seen : Seen) → IsSeen pack seen → GoesOn pack seen seen
 stays_seen pack seen is = record { seen = is; kept = λ range there. there }
 
--- a text was made, as nothing was told else
-pub text_made : {E : Type 0} {P : Type 0} (object : DwarfObject)
-    (text : Result (Option (String Global)) E) (a b : Progress) → OnOk text P
-    → TellsText object text a b (Ok tt) → P
-text_made object text a b is h = grind (arith)
-
 module _ (pack : Package) where
-  pub text_seen : {E : Type 0} (listed : Listed) (entry : UnitEntry)
+  -- what was made for a unit was told
+  pub text_seen : {E : Type 0} (old new : Seen) (entry : UnitEntry)
       (text : Result (Option (String Global)) E) (a b : Progress)
-      → IsTextOf (TellsUnit pack entry) entry.object text
-      → IfOk text (λ t. t ≡ None → IsGatheredIn pack listed (found pack entry.object))
-      → TellsText entry.object text a b (Ok tt) → Told (TellsSeen pack listed entry) a b
-  text_seen listed entry (Ok None) a b is gathered h =
-      told_as h (λ faults e. (rw e is, λ none. gathered refl))
-  text_seen listed entry (Ok (Some text)) a b is gathered h =
-      told_as h (λ faults e. (rw e is, λ none. absurd (let some = rw e at none in cc)))
-  text_seen listed entry (Err cause) a b is gathered h = absurd (let e = h.0 in cc)
+      → IsTextOf (TellsUnit pack entry) entry.object text → OnOk text (GoesOn pack old new)
+      → IfOk text (λ t. t ≡ None
+      → IsGatheredIn pack new.strings.unread.items (found pack entry.object))
+      → TellsText entry.object text a b (Ok tt)
+      → GoesOn pack old new × Told (TellsSeen pack new.strings.unread.items entry) a b
+  text_seen old new entry (Ok None) a b is on gathered h =
+      (on, told_as h (λ faults e. (rw e is, λ none. gathered refl)))
+  text_seen old new entry (Ok (Some text)) a b is on gathered h =
+      (on, told_as h (λ faults e. (rw e is, λ none. absurd (let some = rw e at none in cc))))
+  text_seen old new entry (Err cause) a b is on gathered h = absurd (let e = h.0 in cc)
 
   module _ (old new : Listed)
       (kept : (range : StringRange) → IsGathered pack old range → IsGathered pack new range) where

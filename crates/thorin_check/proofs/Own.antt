@@ -4,25 +4,23 @@ use Rattle.thorin_check.proofs.Terms
 use Terms.{column_place, Contribution, contribution_kinds, DwarfObject, Endianness, Ok, SectionKind}
 use Terms.{column_of, drop-take, nat_tests, PlaceRead, range_in, result_ok, same_Some, Sections, []}
 use Terms.{Bool, by-bool, content, IsAmong, IsTrue, length, nat_eq, Option, own_by, Ranges, same-ok}
-use Terms.{All, arith, false, find, List, None, own_of, refl, row_in, Some, true, ℕ, ◌++◌, ◌+◌, ◌-◌}
-use Terms.{sym, ◌∙◌, ◌∷◌, ◌≡◌, ◌≤◌}
+use Terms.{All, arith, false, find, List, None, own_of, refl, row_in, Some, sym, true, ℕ, ◌++◌, ◌+◌}
+use Terms.{◌-◌, ◌∙◌, ◌∷◌, ◌≡◌, ◌≤◌}
 use Rattle.dwp_index.specs.Package.{first_outside, found_counted, lies_inside, Package, unit_at_row}
 use Rattle.dwp_index.specs.Package.{FoundUnit, index_for, is_outside, kind_of, place_of, row_bytes}
-use Rattle.dwp_index.specs.Package.{found, part_of, unit_in}
 use Rattle.thorin_check.specs.Remembered.{bytes_at, is_in_types, IsReadIn, numbers_of, section_by}
-use Rattle.thorin_check.specs.Remembered.{own_at, place_in, said_of}
-use Rattle.{dwp_bytes.specs.Input.section, dwp_index.proofs.PackageLookUp.by_row}
-use Rattle.std.proofs.{Common.option_map, lemmas.Map.Views.All-values-insert_entry}
-use Rattle.dwp_base.proofs.EveryKind.{each, HoldsAll}
-use Rattle.dwp_index.specs.Finding.{LiesInside, own_bytes, own_place}
 use Rattle.std.specs.{BTreeMap.insert_entry, declared.cmp.Ordering.Ordering, Map.values_of}
-use Rattle.dwp_units.specs.{declared.unit.UnitSection.TheVariants.Types, Units.Unit as Header}
-use Rattle.dwp_units.specs.{declared.unit.UnitSection.UnitSection, Units.units}
-use Rattle.thorin_find.specs.Names.{first_of, header_in}
-use Rattle.thorin_identity.specs.Identity.{identity}
 use Rattle.thorin_check.specs.{declared.abbreviations.UnitPlace.UnitPlace, Faults.is_of}
+use Rattle.std.proofs.{Common.option_map, lemmas.Map.Views.All-values-insert_entry}
+use Rattle.{dwp_bytes.specs.Input.section, dwp_index.proofs.PackageLookUp.by_row}
+use Rattle.dwp_index.specs.Finding.{LiesInside, own_bytes, own_place}
+use Rattle.thorin_check.specs.Remembered.{own_at, place_in, said_of}
+use Rattle.dwp_index.specs.Package.{found, part_of, unit_in}
+use Rattle.dwp_units.specs.Units.{Unit as Header, units}
+use Rattle.thorin_find.specs.Names.{first_of, header_in}
+use Rattle.dwp_base.proofs.EveryKind.{each, HoldsAll}
+use Rattle.thorin_identity.specs.Identity.{identity}
 use Rattle.dwp_base.specs.declared.section.SectionKind.TheVariants as kinds
-use Rattle.dwp_index.specs.declared.error.PackageError.TheVariants as errors
 use Rattle.thorin_check.specs.contracts.abbreviations.UnitPlacePartialEq.TheImpl as places
 
 -- ---- its ranges
@@ -33,10 +31,6 @@ find_misses : {X : Type 0} (p : X → Bool) (Q : X → Type 0) → ((x : X) → 
 find_misses p Q goes [] rest h e = h
 find_misses p Q goes (x ∷ xs) rest h e = by-bool _ (p x) (λ yes. let hit = rw yes at e in absurd cc)
     (λ no. (goes x no, find_misses p Q goes xs rest h (rw no at e)))
-
-inside_of : (bytes : List ℕ) (range : Option Contribution) → is_outside bytes range ≡ false
-    → (c : Contribution) → range ≡ Some c → c.offset.0 + c.size ≤ length bytes
-inside_of bytes range e c is = let h = rw is at e in grind (arith, nat_tests)
 
 module _ (contents : Sections) (row : Ranges) where
   abbrev IsInside : SectionKind → Type 0
@@ -56,7 +50,7 @@ module _ (contents : Sections) (row : Ranges) where
   all_inside_of e =
       each IsInside (find_misses
       (λ kind. is_outside (content contents kind) (range_in row kind)) IsInside
-      (λ kind. inside_of (content contents kind) (range_in row kind)) contribution_kinds
+      (λ kind outside c is. let h = rw is at outside in grind (arith, nat_tests)) contribution_kinds
       (kinds.Str ∷ kinds.CuIndex ∷ kinds.TuIndex ∷ []) (
         absent_inside kinds.Str refl refl,
         (absent_inside kinds.CuIndex refl refl, (absent_inside kinds.TuIndex refl refl, tt)),
@@ -104,9 +98,6 @@ bytes_are bytes (Some c) inside =
     let back : c.offset.0 + c.size - c.offset.0 ≡ c.size = omega arith in
     rw (fits, back) (drop-take c.offset.0 c.size bytes)
 
-section_back : (s : UnitSection) → section_by (is_in_types s) ≡ s
-section_back s = grind (arith)
-
 module _ (pack : Package) (object : DwarfObject) (unit : FoundUnit)
     (is : found pack object ≡ Ok (Some unit)) where
   -- a unit's own bytes and its abbreviations are those of its place
@@ -115,18 +106,12 @@ module _ (pack : Package) (object : DwarfObject) (unit : FoundUnit)
   own_is =
       let row = row_of_found pack object unit is in
       let s = place_of object (range_in unit.row kinds.Types) in
-      let back = section_back (place_of object (range_in unit.row kinds.Types)) in
+      let back : section_by (is_in_types s) ≡ s = grind (arith) in
       let own = bytes_are (content pack.contents (kind_of s)) (range_in unit.row (kind_of s))
       (row.inside (kind_of s)) in
       let abbreviations = bytes_are (content pack.contents kinds.Abbrev)
       (range_in unit.row kinds.Abbrev) (row.inside kinds.Abbrev) in
       rw (back, row.contents, row.order, row.bytes, own, abbreviations) refl
-
-  pub abbreviations_inside : (tables : Endianness × List ℕ)
-      → tables ≡ (pack.order, content pack.contents kinds.Abbrev) → (c : Contribution)
-      → range_in unit.row kinds.Abbrev ≡ Some c → c.offset.0 + c.size ≤ length tables.1
-  abbreviations_inside tables are c here =
-      let row = row_of_found pack object unit is in rw are (row.inside kinds.Abbrev c here)
 
   -- what was read of a unit with a header, and of one without
   pub own_read : (tables : Endianness × List ℕ) (order : Endianness) (header : Header)
@@ -189,19 +174,11 @@ from_row pack object unit is =
     let row = row_of_found pack object unit is in
     rw (row.contents, row.order, row.bytes) refl
 
-place_alike : (is_types : Bool) (a b : DwarfObject) (range : Option Contribution)
-    → is_of is_types a ≡ true → is_of is_types b ≡ true → place_of a range ≡ place_of b range
-place_alike is_types a b range is so = grind (arith)
-
-alike_in_row : (pack : Package) (row : Ranges) (is_types : Bool) (a b : DwarfObject)
+-- objects of one kind have one index, and their bytes stand in one section
+alike : (pack : Package) (range : Option Contribution) (is_types : Bool) (a b : DwarfObject)
     → is_of is_types a ≡ true → is_of is_types b ≡ true
-    → own_in_row pack a row ≡ own_in_row pack b row
-alike_in_row pack row is_types a b is so =
-    rw (place_alike is_types a b (range_in row kinds.Types) is so) refl
-
-one_index : (pack : Package) (is_types : Bool) (a b : DwarfObject) → is_of is_types a ≡ true
-    → is_of is_types b ≡ true → index_for pack a ≡ index_for pack b
-one_index pack is_types a b is so = grind (arith)
+    → (index_for pack a ≡ index_for pack b) × (place_of a range ≡ place_of b range)
+alike pack range is_types a b is so = grind (arith)
 
 -- the units of one row give one identifier
 pub own_once : (pack : Package) (is_types : Bool) (a b : DwarfObject) (one other : FoundUnit)
@@ -210,8 +187,9 @@ pub own_once : (pack : Package) (is_types : Bool) (a b : DwarfObject) (one other
 own_once pack is_types a b one other is so here there same =
     let row = row_of_found pack a one here in
     let again = row_of_found pack b other there in
+    let both = alike pack (range_in other.row kinds.Types) is_types a b is so in
     let ranges : one.row ≡ other.row = same-ok one.row other.row (same_Some (Ok one.row)
-    (Ok other.row) (sym (rw (one_index pack is_types a b is so, same) at row.row) ∙ again.row)) in
+    (Ok other.row) (sym (rw (both.0, same) at row.row) ∙ again.row)) in
     let middle : own_in_row pack a one.row ≡ own_in_row pack b other.row =
-    rw ranges (alike_in_row pack other.row is_types a b is so) in
+    rw (ranges, both.1) refl in
     from_row pack a one here ∙ middle ∙ sym (from_row pack b other there)

@@ -1,22 +1,22 @@
 -- Which strings end, as the last zero byte of all tells, and the strings of units, by the string
 -- offsets that they share.
 use Rattle.thorin_check.proofs.Terms
-use Terms.{Contribution, DwarfObject, get_or-drop, get_or_default, IsGatheredIn, PackageError, ◌++◌}
-use Terms.{Endianness, IsGathered, length-drop, option_map, result_err, StringRange, StrOffsets, []}
-use Terms.{entry_in, is_inside, IsOfUnit, nat_tests, Ok, same_Some, string_at, string_in, string_of}
+use Terms.{Contribution, DwarfObject, get_or_default, IsGatheredIn, List, PackageError, StringRange}
+use Terms.{Endianness, get_or-drop, IsGathered, length-drop, Ok, option_map, result_err, StrOffsets}
+use Terms.{entry_in, is_inside, IsOfUnit, nat_tests, same_Some, string_at, string_in, string_of, []}
 use Terms.{AllEnd, content, HasEnds, IsReach, IsTrue, length, list_any, Option, range_in, Result, ℕ}
-use Terms.{arith, drop, Err, false, List, None, refl, Some, true, ◌+◌, ◌-◌, ◌<◌, ◌∙◌, ◌∷◌, ◌≡◌, ◌≤◌}
-use Terms.{eqb, inl, inr, Str, sym}
-use Rattle.{dwp_index.proofs.PackageLookUp.by_row, std.specs.Option.option_eq}
+use Terms.{All, arith, drop, eqb, Err, false, inl, inr, None, refl, Some, Str, sym, true, ◌++◌, ◌+◌}
+use Terms.{◌-◌, ◌<◌, ◌∙◌, ◌∷◌, ◌≡◌, ◌≤◌}
+use Rattle.thorin_check.specs.Gathered.{Adds, AllEndIn, Gathered, Gathers, Listed, Lists, string_by}
+use Rattle.thorin_check.specs.Strings.{HasStringsIn, HasStringsOf, IsRangeOfOne, range_by, range_of}
+use Rattle.std.proofs.lemmas.List.Elements.{All-nil, All-push, Contains-append_left, Contains-push}
+use Rattle.dwp_bytes.specs.{declared.encoding.Encoding.Encoding, StringOffsets.entry_count}
+use Rattle.thorin_check.specs.declared.strings.{Ends.Ends, UnreadStrings.UnreadStrings}
+use Rattle.dwp_index.specs.Package.{found, FoundUnit, Package, row_bytes, unit_in}
+use Rattle.{std.specs.Option.option_eq, thorin_check.proofs.Own.row_of_found}
 use Rattle.std.proofs.lemmas.List.Folds.{list_any_at, list_any_none}
 use Rattle.memchr.specs.Find.{is_byte, IsLastByte, Nowhere, Passes}
-use Rattle.dwp_bytes.specs.{declared.encoding.Encoding.Encoding, StringOffsets.entry_count}
-use Rattle.dwp_index.specs.Package.{found, FoundUnit, Package, row_bytes, unit_in}
-use Rattle.thorin_check.{proofs.Own.row_of_found, specs.declared.strings.Ends.Ends}
-use Rattle.std.proofs.lemmas.List.Elements.{All-nil, All-push, Contains-append_left, Contains-push}
-use Rattle.thorin_check.specs.Strings.{HasStringsIn, HasStringsOf, IsRangeOfOne, range_by, range_of}
-use Rattle.thorin_check.specs.Gathered.{Adds, AllEndIn, Gathered, Gathers, Listed, Lists, string_by}
-use Rattle.thorin_check.specs.declared.strings.UnreadStrings.{UnreadStrings}
+use Rattle.dwp_index.proofs.PackageLookUp.{by_row}
 use Rattle.thorin_check.specs.contracts.strings.StringRangePartialEq.TheImpl as ranges
 
 module _ (strings : List ℕ) where
@@ -83,37 +83,29 @@ no_string order encoding strings i = grind (arith, nat_tests)
 
 module _ (pack : Package) (object : DwarfObject) (unit : FoundUnit)
     (is : found pack object ≡ Ok (Some unit)) where
-  by_range : (c : Option Contribution) → range_in unit.row StrOffsets ≡ c
+  -- a unit's strings are those of its string offsets
+  of_range : (c : Option Contribution) → range_in unit.row StrOffsets ≡ c
       → (range : StringRange) → option_map (range_by unit.encoding) c ≡ Some range → (i : ℕ)
       → string_by pack range i ≡ string_of unit i
   unfolding row_bytes string_in entry_in
-  by_range None there range e i = absurd cc
-  by_range (Some c) there range e i =
+  of_range None there range e i = absurd cc
+  of_range (Some c) there range e i =
       let row = row_of_found pack object unit is in
       let same = same_Some (range_by unit.encoding c) range e in
       rw (← same, row.contents, row.order, there) refl
 
-  -- a unit's strings are those of its string offsets
-  pub of_range : (range : StringRange) → range_of unit ≡ Some range → (i : ℕ)
-      → string_by pack range i ≡ string_of unit i
-  of_range range e = by_range (range_in unit.row StrOffsets) refl range e
-
   pub range_ends : (range : StringRange) → range_of unit ≡ Some range → AllEnd unit
       → AllEndIn pack range
-  range_ends range e all i = rw (of_range range e i) (all i)
+  range_ends range e all i = rw (of_range _ refl range e i) (all i)
 
-  all_by : (c : Option Contribution) → range_in unit.row StrOffsets ≡ c
+  pub all_ends : (c : Option Contribution) → range_in unit.row StrOffsets ≡ c
       → ((range : StringRange) → range_of unit ≡ Some range → AllEndIn pack range) → AllEnd unit
   unfolding row_bytes
-  all_by None there ends i =
+  all_ends None there ends i =
       rw there (no_string unit.order unit.encoding (content unit.contents Str) i)
-  all_by (Some c) there ends i =
+  all_ends (Some c) there ends i =
       let e : range_of unit ≡ Some (range_by unit.encoding c) = rw there refl in
-      rw (← of_range (range_by unit.encoding c) e i) (ends (range_by unit.encoding c) e i)
-
-  pub all_ends : ((range : StringRange) → range_of unit ≡ Some range → AllEndIn pack range)
-      → AllEnd unit
-  all_ends = all_by (range_in unit.row StrOffsets) refl
+      rw (← of_range _ refl (range_by unit.encoding c) e i) (ends (range_by unit.encoding c) e i)
 
 -- ---- units that are gathered
 
@@ -138,47 +130,37 @@ module _ (pack : Package) (old : UnreadStrings) (unit : FoundUnit) (object : Dwa
     pub last_added : old.last ≡ Some range → Adds pack old old unit
     last_added last = grind (arith, g.last)
 
-    this : (other : StringRange) → range_of unit ≡ Some other → range ≡ other
-    this other e = same_Some range other (has ∙ e)
-
-    -- its strings can all be read
-    pub read_added : (new : UnreadStrings) → new.ends ≡ old.ends → new.unread ≡ old.unread
-        → new.last ≡ Some range → AllEnd unit → Adds pack old new unit
-    read_added new ends unread last all =
-        let here : IsGathered pack old.unread.items range =
-        inl (range_ends pack object unit is range (sym has) all) in
-        record {
-          gathers = record {
-            ends = rw ends g.ends;
-            last = λ other e. rw (unread, ← same_Some range other (sym last ∙ e)) here;
-            are = rw unread g.are;
-          };
-          kept = λ other there. rw unread there;
-          added = λ other e. rw (unread, ← this other e) here;
-        }
+    -- it is gathered, and those before still are
+    pub gathered : (new : UnreadStrings) → new.ends ≡ old.ends → new.last ≡ Some range
+        → All (IsOfUnit pack) new.unread.items → ((other : StringRange)
+        → IsGathered pack old.unread.items other → IsGathered pack new.unread.items other)
+        → IsGathered pack new.unread.items range → Adds pack old new unit
+    gathered new ends last are kept here = record {
+      gathers = record {
+        ends = rw ends g.ends;
+        last = λ other e. rw (← same_Some range other (sym last ∙ e)) here;
+        are = are;
+      };
+      kept = kept;
+      added = λ other e. rw (← same_Some range other (has ∙ e)) here;
+    }
 
     -- it is listed
     pub listed_added : (new : UnreadStrings) → new.ends ≡ old.ends
         → new.unread.items ≡ old.unread.items ++ ((range, object) ∷ [])
         → new.last ≡ Some range → Adds pack old new unit
     listed_added new ends unread last =
-        let here : IsGathered pack new.unread.items range =
-        inr (object, rw unread (Contains-push old.unread.items (range, object))) in
-        record {
-          gathers = record {
-            ends = rw ends g.ends;
-            last = λ other e. rw (← same_Some range other (sym last ∙ e)) here;
-            are = rw unread (All-push (IsOfUnit pack) old.unread.items (range, object) g.are
-                (unit, is, sym has));
-          };
-          kept = λ other there. elim there [
-            | inl all ↦ inl all
-            | inr listed ↦ (let among = Contains-append_left old.unread.items
-                ((range, object) ∷ []) (other, listed.0) listed.1 in
-                inr (listed.0, rw unread among))
-          ];
-          added = λ other e. rw (← this other e) here;
-        }
+        gathered new ends last (rw unread (All-push (IsOfUnit pack) old.unread.items (range, object)
+        g.are (unit, is, sym has)))
+        (λ other there. elim there [
+          | inl all ↦ inl all
+          | inr listed ↦ inr (
+            listed.0,
+            rw unread (Contains-append_left old.unread.items
+                ((range, object) ∷ []) (other, listed.0) listed.1),
+          )
+        ])
+        (inr (object, rw unread (Contains-push old.unread.items (range, object))))
 
 -- ---- units whose strings were checked
 
@@ -188,9 +170,10 @@ module _ (pack : Package) (objects : List DwarfObject) (listed : Listed)
       → (range : Option StringRange) → range_of unit ≡ range → Gathered pack listed unit
       → HasStringsOf pack objects unit
   gathered_in object unit is None none g =
-      inl (all_ends pack object unit is (λ range e. absurd (let some = sym none ∙ e in cc)))
+      inl (all_ends pack object unit is _ refl
+      (λ range e. absurd (let some = sym none ∙ e in cc)))
   gathered_in object unit is (Some range) has g = elim (g range has) [
-    | inl all ↦ inl (all_ends pack object unit is
+    | inl all ↦ inl (all_ends pack object unit is _ refl
         (λ other e. rw (← same_Some range other (sym has ∙ e)) all))
     | inr there ↦ inr (range, has, others range there)
   ]

@@ -1,38 +1,33 @@
 -- Where no fault was told, the package is sound.
 use Rattle.thorin_check.proofs.Terms
-use Terms.{column_faults, contribution_kinds, mixed_versions, section_faults, versions_faults, lit<}
-use Terms.{AllEnd, DwarfObject, Executables, lacks_column, PackageError, skeletons_by, string_count}
-use Terms.{append-nil, AreApartIn, fault_count, FaultValue, nat_tests, result_err, SectionKind, ◌-◌}
-use Terms.{AreApart, AreByRow, Contains, ReadError, same_Some, string_in, string_of, UnitEntry, ◌<◌}
-use Terms.{entry_in, flat_map, ForEach, get_or, InTurn, length, Listed, nat_eq, Option, Reading, []}
-use Terms.{arith, Bool, codes, false, Index, List, Named, None, Offer, own_of, Result, subst, ◌++◌}
-use Terms.{All, Bor, Err, inl, inr, map, min, refl, Some, true, ◌^◌, ◌∙◌, ◌∷◌, ◌≡◌, ◌≢◌, ◌≤◌, ◌⊎◌}
-use Terms.{Is, Ok, sym, ℕ}
+use Terms.{column_faults, contribution_kinds, lacks_column, PackageError, section_faults, UnitEntry}
+use Terms.{AreByRow, DwarfObject, Executables, fault_count, SectionKind, skeletons_by, string_count}
+use Terms.{append-nil, AreApartIn, FaultValue, ForEach, nat_tests, result_err, same_Some, string_in}
+use Terms.{AllEnd, entry_in, flat_map, get_or, InTurn, Listed, Option, Reading, Result, string_of}
+use Terms.{arith, Bool, codes, false, Index, length, List, Named, None, Offer, own_of, Some, subst}
+use Terms.{All, Err, inl, inr, Is, Ok, refl, sym, true, [], ◌++◌, ◌<◌, ◌∙◌, ◌∷◌, ◌≡◌, ◌≢◌, ◌≤◌, ◌⊎◌}
+use Terms.{ap, ℕ}
 use Rattle.std.proofs.lemmas.List.Sorted.{All-permutation, Contains-permutation, length_permutation}
-use Rattle.std.proofs.lemmas.List.Sorted.{IsPermutation-sym}
-use Rattle.thorin_check.specs.Checking.{TellsExecutable, TellsExecutables, TellsStringsOfAll}
-use Rattle.thorin_check.specs.Checking.{status_of, TellsPackage, TellsSlot, TellsSlots}
-use Rattle.thorin_check.specs.Faults.{TellsListed, TellsLooked, TellsRowsOf, TellsString, TellsUnit}
+use Rattle.thorin_check.specs.Checking.{TellsExecutable, TellsPackage, TellsSlot, TellsStringsOfAll}
+use Rattle.thorin_check.specs.Faults.{TellsFound, TellsInRow, TellsListed, TellsLooked, TellsRowsOf}
 use Rattle.thorin_check.specs.Faults.{missing_faults, TellsNumbered, TellsStrings, TellsStringsOf}
-use Rattle.thorin_check.specs.Faults.{row_fault, strings_of, TellsFound, TellsInRow, TellsNamed}
-use Rattle.thorin_check.specs.Faults.{is_bare, IsUnread, room_of, row_end, TellsEnd, TellsOwn}
-use Rattle.thorin_check.{proofs.Own.own_once, proofs.Own.row_of_found, specs.Strings.HasStringsOf}
-use Rattle.thorin_check.proofs.SharedStrings.{all_ends, range_ends}
-use Rattle.std.proofs.lemmas.List.Elements.{All-cons, All-contains, All-nil, All-weaker}
-use Rattle.std.proofs.lemmas.List.FromFn.{get_or-map-range_with_len, length-map-range_with_len}
-use Rattle.dwp_index.specs.Package.{found, FoundUnit, Package}
 use Rattle.thorin_check.specs.Sound.{AreNamed, HasUnitsOf, IsSound, IsSoundUnit, NameOnce, slots}
+use Rattle.std.proofs.lemmas.List.FromFn.{get_or-map-range_with_len, length-map-range_with_len}
+use Rattle.thorin_check.specs.Faults.{IsUnread, row_fault, strings_of, TellsNamed, TellsUnit}
+use Rattle.thorin_check.specs.{Checking.status_of, Checking.TellsSlots, Strings.HasStringsOf}
+use Rattle.std.proofs.lemmas.List.{length-map, nil_from_length, Sorted.IsPermutation-sym}
+use Rattle.std.proofs.lemmas.List.Elements.{All-cons, All-contains, All-nil, All-weaker}
+use Rattle.thorin_check.specs.Faults.{is_bare, room_of, row_end, TellsEnd, TellsOwn}
+use Rattle.thorin_check.proofs.SharedStrings.{all_ends, range_ends}
+use Rattle.dwp_index.specs.Package.{found, FoundUnit, Package}
+use Rattle.thorin_check.proofs.Own.{own_once, row_of_found}
 use Rattle.dwp_base.specs.declared.section.SectionKind.TheVariants as kinds
-use Rattle.dwp_index.specs.declared.error.PackageError.TheVariants as errors
 
 -- ---- no faults
 
-some_told : (fault : FaultValue) (faults : List FaultValue) → [] ≡ fault ∷ faults → ⊥
-some_told fault faults e = cc
-
 none_of_both : (first rest : List FaultValue) → [] ≡ first ++ rest → (first ≡ []) × (rest ≡ [])
 none_of_both [] rest e = (refl, sym e)
-none_of_both (fault ∷ first) rest e = absurd (some_told fault (first ++ rest) e)
+none_of_both (fault ∷ first) rest e = absurd cc
 
 pub none_in_turn : (P Q : List FaultValue → Type 0) → InTurn P Q [] → P [] × Q []
 none_in_turn P Q t =
@@ -49,13 +44,13 @@ none_for_each P (x ∷ xs) h =
 -- ---- a unit
 
 module _ (pack : Package) (entry : UnitEntry) where
-  none_unread : (object : DwarfObject) (cause : PackageError) → IsUnread object cause [] → ⊥
-  none_unread object cause h = grind (arith)
+  none_unread : (cause : PackageError) → IsUnread entry.object cause [] → ⊥
+  none_unread cause h = grind (arith)
 
   looked_up : (looked : Result (Option FoundUnit) PackageError) → TellsLooked pack entry looked []
       → (unit : FoundUnit) × (looked ≡ Ok (Some unit)) × TellsFound pack entry unit []
-  looked_up (Err cause) h = absurd (none_unread entry.object cause h)
-  looked_up (Ok None) h = absurd (some_told _ _ h)
+  looked_up (Err cause) h = absurd (none_unread cause h)
+  looked_up (Ok None) h = absurd cc
   looked_up (Ok (Some unit)) h = (unit, refl, h)
 
   by_own : (own : Option (Option DwarfObject)) → TellsOwn entry.object own []
@@ -73,10 +68,6 @@ module _ (pack : Package) (entry : UnitEntry) where
 -- ---- strings
 
 module _ (unit : FoundUnit) where
-  read_whole : (object : DwarfObject) (i : ℕ) (read : Result (Option (List ℕ)) ReadError)
-      → TellsString object i read [] → result_err read ≡ None
-  read_whole object i read h = grind (arith)
-
   past_all : (i : ℕ) → string_count unit ≤ i → result_err (string_of unit i) ≡ None
   unfolding string_count string_in entry_in
   past_all i le = grind (arith, nat_tests)
@@ -91,8 +82,8 @@ module _ (unit : FoundUnit) where
       let is : get_or (strings_of unit) i (i, string_of unit i) ≡ (i, string_of unit i) =
       get_or-map-range_with_len (λ k. (k, string_of unit k)) 0 (string_count unit) i i
       (i, string_of unit i) lt (omega arith) in
-      read_whole object i (string_of unit i)
-      (subst (λ s. TellsNumbered object s []) is (each i (i, string_of unit i) within))
+      let told = subst (λ s. TellsNumbered object s []) is (each i (i, string_of unit i) within) in
+      grind (arith, told)
 
   all_read_of : (object : DwarfObject) → TellsStrings object unit [] → AllEnd unit
   all_read_of object h i =
@@ -101,21 +92,16 @@ module _ (unit : FoundUnit) where
 
 module _ (pack : Package) (objects : List DwarfObject)
     (none : TellsStringsOfAll pack objects []) where
-  one_ends : (object : DwarfObject) → Contains objects object → (unit : FoundUnit)
-      → found pack object ≡ Ok (Some unit) → AllEnd unit
-  one_ends object is unit found_is =
-      let told = All-contains (λ object. TellsStringsOf object (found pack object) []) objects
-      object (none_for_each (λ object. TellsStringsOf object (found pack object)) objects none)
-      is in
-      all_read_of unit object (rw found_is at told)
-
   strings_end : (object : DwarfObject) (unit : FoundUnit) → found pack object ≡ Ok (Some unit)
       → HasStringsOf pack objects unit → AllEnd unit
   strings_end object unit is (inl all) = all
   strings_end object unit is (inr (range, has, one)) =
-      let all = one_ends one.object one.is_one one.unit one.is_found in
+      let told = All-contains (λ object. TellsStringsOf object (found pack object) []) objects
+      one.object (none_for_each (λ object. TellsStringsOf object (found pack object)) objects none)
+      one.is_one in
+      let all = all_read_of one.unit one.object (rw one.is_found at told) in
       let ends = range_ends pack one.object one.unit one.is_found range one.is_range all in
-      all_ends pack object unit is (λ other e. rw (← same_Some range other (sym has ∙ e)) ends)
+      all_ends pack object unit is _ refl (λ other e. rw (← same_Some range other (sym has ∙ e)) ends)
 
 -- ---- a sound unit
 
@@ -151,10 +137,6 @@ named_once pack all is_types a b here there is so row =
 
 -- ---- executables
 
-end_none : (executable : List ℕ) (room : ℕ) (first : List Named) (left : Listed)
-    → TellsEnd executable room first left [] → (left.0 ≡ []) × (left.1 ≡ None)
-end_none executable room first left h = grind (arith)
-
 none_missing : (pack : Package) (executable : List ℕ) (named : List Named)
     → flat_map (λ named. missing_faults executable named (found pack named.0)) named ≡ []
     → All (λ named. found pack named.0 ≢ Ok None) named
@@ -171,15 +153,16 @@ module _ (offer : Offer) (reading : Reading) (pack : Package) where
       → (units.1 ≡ None) × All (λ named. found pack named.0 ≢ Ok None) units.0
   listed executable room units t =
       let both = none_of_both _ t.ended t.all in
-      let end = end_none executable room t.first (t.left, units.1)
-      (subst (TellsEnd executable room t.first (t.left, units.1)) both.1 t.end) in
-      let none : t.left ≡ [] = end.0 in
-      (end.1, rw (t.split, none, append-nil) (none_missing pack executable t.first both.0))
+      let ended = subst (TellsEnd executable room t.first (t.left, units.1)) both.1 t.end in
+      let none : t.left ≡ [] = grind (arith, ended) in (
+        grind (arith, ended),
+        rw (t.split, none, append-nil) (none_missing pack executable t.first both.0),
+      )
 
   of_named : (executable : List ℕ) (room : ℕ) (units : Listed)
       → TellsNamed pack executable room units []
       → (units.1 ≡ None) × (units.0 ≢ []) × All (λ named. found pack named.0 ≢ Ok None) units.0
-  of_named executable room ([], None) h = absurd (some_told _ _ h)
+  of_named executable room ([], None) h = absurd cc
   of_named executable room ([], Some error) t =
       let none = (listed executable room ([], Some error) t).0 in absurd cc
   of_named executable room (first ∷ rest, end) t =
@@ -191,43 +174,20 @@ module _ (offer : Offer) (reading : Reading) (pack : Package) where
       let named = of_named executable (room_of t.bytes) (skeletons_by reading.nameless t.bytes)
       t.tells in grind (arith, named)
 
-  all_units : (executables : List (Bor (List ℕ)))
-      → TellsExecutables offer reading pack executables []
-      → All (λ executable. HasUnitsOf offer reading pack executable.now) executables
-  all_units executables t = All-weaker
-      (λ executable. TellsExecutable offer reading pack executable.now [])
-      (λ executable. HasUnitsOf offer reading pack executable.now)
-      (λ executable. has_units executable.now) executables (none_for_each _ executables t)
-
 -- ---- a package
 
 none_wrong : (kind : SectionKind) (is_so : Bool) (what : List ℕ)
     → Is (section_faults kind is_so what) [] → is_so ≡ false
 none_wrong kind is_so what h = grind (arith)
 
-one_version : (versions : Option (ℕ × ℕ)) → Is (versions_faults versions) [] → versions ≡ None
-one_version versions h = grind (arith)
-
-map_none : {X Y : Type 0} (f : X → Y) (xs : List X) → [] ≡ map f xs → xs ≡ []
-map_none f [] e = refl
-map_none f (x ∷ xs) e = absurd cc
-
 -- the slots are the entries, in another order
 module _ (pack : Package) (entries : List UnitEntry) (by_row : AreByRow pack entries) where
-  in_entries : (slot : UnitEntry) → Contains (slots pack) slot → Contains entries slot
-  in_entries slot = Contains-permutation (slots pack) entries slot by_row.all
-
-  apart_in : (kinds : List SectionKind) → AreApart pack entries kinds
-      → AreApart pack (slots pack) kinds
-  apart_in kinds apart = All-weaker (AreApartIn pack entries) (AreApartIn pack (slots pack))
-      (λ kind h a b is_a is_b. h a b (in_entries a is_a) (in_entries b is_b)) kinds apart
-
   rows_named : (kind : List ℕ) (is_types : Bool) (index : Option Index)
       → TellsRowsOf kind is_types (row_end index) entries [] → AreNamed pack is_types index
   rows_named kind is_types index t row some lt =
-      let none = map_none (row_fault kind) t.rows t.are in
       elim (t.others row some lt) [
-        | inl told ↦ (let there = rw none at told in let l = there.1 in absurd (omega arith))
+        | inl told ↦ absurd
+            (omega (arith, ap length t.are, length-map (row_fault kind) t.rows, told.1))
         | inr named ↦ record {
           slot = named.slot;
           is_slot = Contains-permutation entries (slots pack) named.slot
@@ -256,10 +216,13 @@ no_fault_told offer executables pack entries by_row t =
     (sound_unit pack parts.0.0 units.1) entries
     (none_for_each (TellsSlot pack parts.0.0) entries units.0.0)) in
     let as_many = length_permutation (slots pack) entries by_row.all in
+    let entry = λ (slot : UnitEntry). Contains-permutation (slots pack) entries slot by_row.all in
     record {
       sound = record {
         units = sound;
-        apart = apart_in pack entries by_row contribution_kinds (units.0.1 refl);
+        apart = All-weaker (AreApartIn pack entries) (AreApartIn pack (slots pack))
+            (λ kind h a b is_a is_b. h a b (entry a is_a) (entry b is_b)) contribution_kinds
+            (units.0.1 refl);
         compilations_named = rows_named pack entries by_row (codes "cu") false
             pack.compilations rows.0;
         types_named = rows_named pack entries by_row (codes "tu") true pack.types rows.1;
@@ -268,7 +231,7 @@ no_fault_told offer executables pack entries by_row t =
         has_abbreviations = rw as_many at (none_wrong kinds.Abbrev _
             (codes " is empty or absent") sections.0);
         has_strings = none_wrong kinds.Str _ (codes " is empty or absent") sections.1;
-        one_version = one_version (mixed_versions pack) indexes.0;
+        one_version = grind (arith, indexes.0);
         has_columns = All-weaker (λ kind. Is (column_faults kind (lacks_column pack kind)) [])
             (λ kind. lacks_column pack kind ≡ false)
             (λ kind. none_wrong kind (lacks_column pack kind)
@@ -276,20 +239,18 @@ no_fault_told offer executables pack entries by_row t =
             (none_for_each (λ kind. Is (column_faults kind (lacks_column pack kind)))
             contribution_kinds indexes.1);
       };
-      named = all_units offer executables.reading pack executables.paths others.1;
+      named = All-weaker
+          (λ executable. TellsExecutable offer executables.reading pack executable.now [])
+          (λ executable. HasUnitsOf offer executables.reading pack executable.now)
+          (λ executable. has_units offer executables.reading pack executable.now)
+          executables.paths (none_for_each _ executables.paths others.1);
     }
 
 -- ---- the status
 
-counted : (n most : ℕ) → 0 < n → 0 < most → nat_eq (min n most) 0 ≡ false
-counted n most some room = grind (arith, nat_tests)
-
 pub no_fault : (faults : List FaultValue) (status : ℕ) → status ≡ status_of (fault_count faults)
     → status ≡ 0 → faults ≡ []
-no_fault [] status e is = refl
-no_fault (fault ∷ faults) status e is =
-    let some = counted (length (fault ∷ faults)) (2 ^ 64 - 1) (omega arith) (lit< tt) in
-    let one = rw some at e in absurd (omega arith)
+no_fault faults status e is = nil_from_length faults (grind (arith, nat_tests))
 
 pub some_fault : (faults : List FaultValue) (status : ℕ) → status ≡ status_of (fault_count faults)
     → status ≡ 1 → faults ≢ []

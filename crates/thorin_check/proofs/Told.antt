@@ -1,19 +1,18 @@
 -- Faults that were told.
 use Rattle.thorin_check.proofs.Terms
 use Terms.{append_assoc, Err, IsOfPrinting, IsUnreadText, of_executable, PackageError, string_bytes}
-use Terms.{append-nil, counted_on, DwarfObject, fault_text, FaultValue, IsSomeText, result_err, ◌+◌}
-use Terms.{IsTextOf, of_package, Progress, ReadError, take_more, TellsText, TellsWhat, UnitEntry, ℕ}
-use Terms.{decimal, Failure, ForEach, get_or, IsFault, length, of_unit, Outcome, take_all, TellsOr}
-use Terms.{codes, false, Global, grown, Grows, InTurn, Option, own_of, Prints, Result, String, ◌++◌}
-use Terms.{arith, Bool, IfOk, List, None, refl, rules, Some, take, Tells, Told, true, ◌-◌, ◌<◌, ◌^◌}
-use Terms.{ap, inl, min, Ok, sym, [], ◌∙◌, ◌∷◌, ◌≡◌, ◌≢◌, ◌≤◌}
-use Rattle.thorin_check.specs.Faults.{TellsItself, TellsString, TellsStrings, TellsStringsOf}
-use Rattle.thorin_check.specs.Faults.{IsBroken, string_text, TellsFound, TellsOwn, TellsUnit}
+use Terms.{append-nil, counted_on, DwarfObject, fault_text, FaultValue, inl, IsSomeText, of_package}
+use Terms.{IsTextOf, Progress, ReadError, result_err, take_more, TellsText, TellsWhat, UnitEntry, ℕ}
+use Terms.{decimal, Failure, ForEach, Global, InTurn, IsFault, of_unit, Outcome, take_all, TellsOr}
+use Terms.{arith, Bool, codes, get_or, Grows, length, Option, own_of, Prints, Result, String, Tells}
+use Terms.{false, grown, IfOk, List, min, None, refl, rules, Some, sym, take, Told, true, ◌++◌, ◌+◌}
+use Terms.{ap, Ok, [], ◌-◌, ◌<◌, ◌^◌, ◌∙◌, ◌∷◌, ◌≡◌, ◌≢◌, ◌≤◌}
+use Rattle.thorin_check.specs.Faults.{string_text, TellsFound, TellsItself, TellsString, TellsUnit}
+use Rattle.thorin_check.specs.{Faults.is_bare, Faults.IsBroken, Faults.TellsOwn, Overlaps.IsClash}
 use Rattle.std.{proofs.lemmas.Grind.flat_map-append, specs.Result.IsErrAnd}
-use Rattle.thorin_check.specs.{Faults.is_bare, Overlaps.IsClash}
-use Rattle.std.proofs.KnownBytes.{Appends-nil, Appends-trans}
 use Rattle.thorin_print.specs.{declared.form.Form.Form, Shown.shown}
 use Rattle.dwp_index.specs.Package.{found, FoundUnit, Package}
+use Rattle.std.proofs.KnownBytes.{Appends-nil, Appends-trans}
 use Rattle.thorin_words.specs.Printed.{printed}
 
 -- what the exit of a `?` answers
@@ -226,17 +225,8 @@ broken executable a b result told is =
 
 -- ---- strings
 
-pub string_fine : (object : DwarfObject) (i : ℕ) (read : Result (Option (List ℕ)) ReadError)
-    → None ≡ result_err read → TellsString object i read []
-string_fine object i read e = grind (arith)
-
 pub string_faulty : (object : DwarfObject) (i : ℕ) (read : Result (Option (List ℕ)) ReadError)
     (error : ReadError) → Some error ≡ result_err read → (text : List ℕ)
     → ((cause : List ℕ) × (text ≡ string_text i cause))
     → TellsString object i read (of_unit object text ∷ [])
 string_faulty object i read error e text is = grind (arith)
-
-pub strings_some : (object : DwarfObject) (looked : Result (Option FoundUnit) PackageError)
-    (a b : Progress) (result : Outcome) (unit : FoundUnit) → looked ≡ Ok (Some unit)
-    → Tells (TellsStrings object unit) a b result → Tells (TellsStringsOf object looked) a b result
-strings_some object looked a b result unit e h = rw e h

@@ -44,10 +44,6 @@ IsSame a b = (a.offset ≡ b.offset) × (a.size ≡ b.size) × (a.tables ≡ b.t
 abbrev pub IsApart : Placed → Placed → Type 0
 IsApart a b = IsSame a b ⊎ (a.offset + a.size ≤ b.offset)
 
-abbrev pub IsLast : Option Placed → Placed → Type 0
-IsLast None range = ⊥
-IsLast (Some last) range = IsSame last range
-
 -- the abbreviations of a row, where a section has the bytes of units
 abbrev pub tables_by : SectionKind → (abbreviations : Option Contribution) → Option Contribution
 tables_by kind abbreviations = if has_units kind then abbreviations else None

@@ -1,7 +1,7 @@
 -- The faults of a package that `check` tells.
 use Rattle.std.specs.Prelude.{◌≡◌, ◌≢◌, ◌⊎◌, ℕ, ◌+◌, ◌<◌, max, nat_lt, Bool, true, false, not, ◌&&◌}
 use Rattle.std.specs.Prelude.{◌==◌, if◌then◌else◌, List, [], ◌∷◌, ◌++◌, codes, map, length, Option}
-use Rattle.std.specs.Prelude.{Some, None, is_none, Result, Ok, Err, ◌-◌, nat_le}
+use Rattle.std.specs.Prelude.{Some, None, is_none, Result, Ok, Err, get_or, nat_le}
 use Rattle.std.specs.Fmt.{decimal}
 use Rattle.std.specs.List.{All, Contains, flat_map, range_with_len}
 use Rattle.dwp_base.specs.Sections.{name_of}
@@ -253,13 +253,14 @@ abbrev pub TellsNamed : Package → (executable : List ℕ) → (room : ℕ) →
 TellsNamed pack executable room ([], None) faults = IsFault (bare_fault executable) faults
 TellsNamed pack executable room listed faults = TellsListed pack executable room listed faults
 
--- ---- the rows of an index, gone through in their order
+-- ---- slots in the order of their rows
 
--- a slot names a row of an index, and none before this one
-abbrev pub is_next : (is_types : Bool) → (end : ℕ) → UnitEntry → (next : ℕ) → Bool
-is_next is_types end slot next =
-    is_of is_types slot.object && nat_le next slot.row && nat_lt slot.row end
+-- a slot names a row of an index, from one on
+abbrev pub is_from : (is_types : Bool) → (row : ℕ) → UnitEntry → Bool
+is_from is_types row slot = is_of is_types slot.object && nat_le row slot.row
 
--- the faults of the rows from one up to another
-abbrev pub row_faults : (kind : List ℕ) → (first end : ℕ) → List FaultValue
-row_faults kind first end = map (row_fault kind) (range_with_len first (end - first))
+-- slots before a place name rows of an index before one, if any
+pub record ArePast (is_types : Bool) (row : ℕ) (slots : List UnitEntry) (place : ℕ)
+    : Type 0 where
+  pub past : (k : ℕ) (d : UnitEntry) → k < place
+      → is_of is_types (get_or slots k d).object ≡ true → (get_or slots k d).row < row

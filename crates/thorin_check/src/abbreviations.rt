@@ -1,15 +1,14 @@
 //! The identifiers that units' own bytes give. What was read is remembered: the abbreviations from
 //! unit to unit, and what units that share their bytes have.
 
-ghost use Rattle.std.specs.Prelude.{false, IfOk, length, None, Ok, Some, true, ◌+◌, ◌≡◌, ◌≢◌, ◌≤◌};
-ghost use Rattle.std.specs.{Prelude.drop, Prelude.IfErr, Prelude.take, Result.result_ok};
-ghost use Rattle.dwp_base.specs.declared.section.Contribution.{Contribution};
-ghost use Rattle.dwp_bytes.specs.Input.{section};
-ghost use Rattle.dwp_index.specs.{Contents.content, Index.range_in, Package.found};
-ghost use Rattle.dwp_units.specs.Units.{unit_of};
-ghost use Rattle.thorin_identity.specs.Identity.{identity};
-ghost use Rattle.thorin_check.specs.{Faults.TellsOwn, Own.own_of, Texts.IsTextOf};
+ghost use Rattle.std.specs.Prelude.{drop, false, IfErr, IfOk, length, None, Some, take, true, ◌+◌};
 ghost use Rattle.thorin_check.specs.Remembered.{bytes_at, Knows, numbers_of, place_in, said_of};
+ghost use Rattle.{dwp_units.specs.Units.unit_of, thorin_identity.specs.Identity.identity};
+ghost use Rattle.dwp_index.specs.{Contents.content, Index.range_in, Package.found};
+ghost use Rattle.thorin_check.specs.{Faults.TellsOwn, Own.own_of, Texts.IsTextOf};
+ghost use Rattle.dwp_base.specs.declared.section.Contribution.{Contribution};
+ghost use Rattle.{dwp_bytes.specs.Input.section, std.specs.Result.result_ok};
+ghost use Rattle.std.specs.Prelude.{Ok, ◌≡◌, ◌≢◌, ◌≤◌};
 ghost use Rattle.thorin_errors.specs.Answers.{Gives};
 
 use crate::faults::some;

@@ -1,10 +1,8 @@
 //! `thorin check`.
 
-ghost use Rattle.thorin_check.specs.Checking.{Finishes, IsOfChecking, TellsPackage};
-ghost use Rattle.std.specs.Prelude.{string_bytes};
-ghost use Rattle.thorin_check.specs.{Apart.AreApartOr, Checking.Checks};
-ghost use Rattle.thorin_find.specs.Listing.{AreByRow};
-ghost use Rattle.thorin_check.specs.Telling.{so_far, TellsOr};
+ghost use Rattle.thorin_check.specs.Checking.{Checks, Finishes, IsOfChecking, TellsPackage};
+ghost use Rattle.thorin_check.specs.{Apart.AreApartOr, Telling.so_far, Telling.TellsOr};
+ghost use Rattle.{std.specs.Prelude.string_bytes, thorin_find.specs.Listing.AreByRow};
 
 use crate::executables::{Reading, check_executable};
 use crate::faults::{Faults, put_totals};

@@ -1,14 +1,13 @@
 //! The units that executables name, in `thorin check`.
 
-ghost use Rattle.std.specs.Prelude.{false, IfOk, length, OnOk, true, ◌+◌, ◌<◌, ◌≡◌, ◌≢◌, ◌≤◌};
-ghost use Rattle.std.specs.Prelude.{string_bytes};
 ghost use Rattle.thorin_check.specs.Faults.{longest_path, missing_faults, missing_text, TellsNamed};
-ghost use Rattle.dwp_index.specs.Package.{found};
+ghost use Rattle.std.specs.Prelude.{false, IfOk, length, OnOk, string_bytes, true, ◌+◌, ◌<◌, ◌≡◌};
+ghost use Rattle.thorin_check.specs.{Faults.IsBroken, Faults.long_size, Rendering.of_executable};
+ghost use Rattle.thorin_check.specs.Telling.{Is, IsFault, so_far, Tells, TellsOr};
+ghost use Rattle.{dwp_index.specs.Package.found, thorin_print.specs.Shown.shown};
 ghost use Rattle.thorin_errors.specs.declared.error.Error.TheVariants.{Memory};
 ghost use Rattle.thorin_check.specs.Checking.{IsOfReading, TellsExecutable};
-ghost use Rattle.thorin_check.specs.{Faults.IsBroken, Faults.long_size, Rendering.of_executable};
-ghost use Rattle.thorin_print.specs.Shown.{shown};
-ghost use Rattle.thorin_check.specs.Telling.{Is, IsFault, so_far, Tells, TellsOr};
+ghost use Rattle.std.specs.Prelude.{◌≢◌, ◌≤◌};
 
 use crate::faults::{Fault, Faults, some, tell, tell_fault};
 use bumpalo::Bump;

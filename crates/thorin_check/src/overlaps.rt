@@ -1,10 +1,9 @@
 //! Ranges of units that clash with those of others, in `thorin check`: they overlap, or are the
 //! same bytes of units, and their rows have other abbreviations.
 
-ghost use Rattle.std.specs.Prelude.{◌≡◌, ◌+◌, ◌-◌, ◌^◌, min, true, false, IfOk};
-ghost use Rattle.std.specs.List.{AllPairs};
-ghost use Rattle.thorin_check.specs.Apart.{IsApart, IsLast, HasRanges, AreApartOr};
-ghost use Rattle.thorin_check.specs.Overlaps.{slot_range};
+ghost use Rattle.thorin_check.specs.Apart.{AreApartOr, HasRanges, IsApart};
+ghost use Rattle.{std.specs.List.AllPairs, thorin_check.specs.Overlaps.slot_range};
+ghost use Rattle.std.specs.Prelude.{false, IfOk, true, ◌≡◌};
 
 use crate::units::{has_units, is_same as is_same_range};
 use dwp_base::{Contribution, SectionKind};
@@ -65,7 +64,8 @@ impl Overlaps {
         let mut clash = false;
         for kind in &CONTRIBUTION_KINDS {
             let ranges = sorted_ranges(alloc, pack, entries, *kind)?;
-            clash |= overlaps.mark_twins(*kind, ranges.as_slice());
+            clash |= !are_apart(ranges.as_slice());
+            overlaps.mark_twins(*kind, ranges.as_slice());
         }
         if clash {
             overlaps.find_clashes(alloc, pack, entries)?;
@@ -83,17 +83,10 @@ impl Overlaps {
     }
 
     /// Marks the entries whose rows share a range of one section, where it has the bytes of units:
-    /// the ranges are sorted by their places. Answers whether two of them clash.
-    fn mark_twins(&mut self, kind: SectionKind, ranges: &[Placed]) -> bool
-        ensures { result ≡ false → AllPairs IsApart ranges.now }
-    {
-        let mut clash = false;
-        let mut farthest = 0u64;
+    /// the ranges are sorted by their places.
+    fn mark_twins(&mut self, kind: SectionKind, ranges: &[Placed]) {
         let mut before: Option<Placed> = None;
         for range in ranges {
-            let is_twin = is_last(before, *range);
-            clash |= !(is_twin | (farthest <= range.offset) & (farthest < u64::MAX));
-            farthest = farthest.max(end(*range));
             if let Some(first) = before {
                 if has_units(kind) && is_same(first, *range) {
                     for entry in &[first.entry, range.entry] {
@@ -105,7 +98,6 @@ impl Overlaps {
             }
             before = Some(*range);
         }
-        clash
     }
 
     /// Marks each range of the units that are found in the row of their entry that another of these
@@ -242,20 +234,28 @@ fn is_same(a: Placed, b: Placed) -> bool
     a.offset == b.offset && a.size == b.size
 }
 
-/// Whether a range is the same as the one before, where there is one, and has its abbreviations.
-#[tactic(auto, using(crate::proofs::Apart::one_range))]
-fn is_last(before: Option<Placed>, range: Placed) -> bool
-    ensures { result ≡ true → IsLast before range }
+/// Whether each range is the same as the one before, or begins behind it: so no two of them clash.
+fn are_apart(ranges: &[Placed]) -> bool
+    ensures { result ≡ true → AllPairs IsApart ranges.now }
 {
-    match before {
-        Some(last) => is_same(last, range) && is_same_range(last.tables, range.tables),
-        None => false,
+    for i in 1..ranges.len() {
+        if !is_apart(ranges[i - 1], ranges[i]) {
+            return false;
+        }
     }
+    true
+}
+
+/// Whether a range is the same as the one before and has its abbreviations, or begins behind it.
+#[tactic(auto, using(crate::proofs::Apart::one_range))]
+fn is_apart(last: Placed, range: Placed) -> bool
+    ensures { result ≡ true → IsApart last range }
+{
+    (is_same(last, range) && is_same_range(last.tables, range.tables))
+        || (last.offset <= range.offset && last.size <= range.offset - last.offset)
 }
 
 /// Where a range ends, as far as 64 bits go.
-fn end(range: Placed) -> u64
-    ensures { result ≡ min (range.offset + range.size) (2 ^ 64 - 1) }
-{
+fn end(range: Placed) -> u64 {
     range.offset.saturating_add(range.size)
 }

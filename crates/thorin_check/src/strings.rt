@@ -233,7 +233,7 @@ pub(crate) fn check_strings<O: Write>(
 }
 
 /// Checks each string of a unit.
-#[tactic(auto, using(crate::proofs::Told::strings_some, crate::proofs::Told::none_told))]
+#[tactic(auto, using(crate::proofs::Told::none_told))]
 fn check_strings_of<O: Write>(
     pack: &PackageFile<'_>,
     ends: Ends,
@@ -258,7 +258,7 @@ fn check_strings_of<O: Write>(
 }
 
 /// What is told of a string of a unit, where it can't be read.
-#[tactic(auto, using(crate::proofs::Told::string_fine, crate::proofs::Told::string_faulty, crate::proofs::Told::made))]
+#[tactic(auto, using(crate::proofs::Told::string_faulty, crate::proofs::Told::made))]
 fn string_text(
     ends: Ends,
     unit: &PackagedUnit<'_>,

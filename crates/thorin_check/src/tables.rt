@@ -1,10 +1,11 @@
 //! The sections of abbreviations and of strings, the indexes and their rows, in `thorin check`.
 
-ghost use Rattle.std.specs.Prelude.{option_copied, ◌<◌, ◌≡◌, ◌≤◌};
+ghost use Rattle.std.specs.Prelude.{false, option_copied, true, ◌<◌, ◌≡◌};
 ghost use Rattle.thorin_check.specs.Indexes.{mixed_versions, section_faults, versions_faults};
 ghost use Rattle.thorin_check.specs.{Checking.TellsTables, Indexes.lacks_column, Telling.so_far};
 ghost use Rattle.thorin_check.specs.{Indexes.has_column, Telling.Is, Telling.Tells};
-ghost use Rattle.thorin_check.specs.Faults.{is_next, row_end, row_faults, TellsRowsOf};
+ghost use Rattle.thorin_check.specs.Faults.{ArePast, is_from, IsNamed, row_end, row_fault};
+ghost use Rattle.thorin_check.specs.{Faults.TellsRowsOf, Telling.IsFault};
 ghost use Rattle.thorin_find.specs.Listing.{AreByRow, place_of_line};
 ghost use Rattle.std.specs.{List.Sorted.IsSortedByKey, Ordering.nat_cmp};
 
@@ -106,13 +107,12 @@ fn has_column(index: Option<&UnitIndex<'_>>, kind: SectionKind) -> bool
     index.is_some_and(|index| index.has_column(kind))
 }
 
-/// Whether a slot names a row of an index before its end, and none before the next.
-fn is_next(is_types: bool, end: u64, slot: UnitEntry, next: u64) -> bool
-    ensures { result ≡ is_next is_types end slot next }
+/// Whether a slot names a row of an index, from one on.
+fn is_from(is_types: bool, row: u64, slot: UnitEntry) -> bool
+    ensures { result ≡ is_from is_types row slot }
 {
-    let row = u64::from(slot.row);
     let is_type = matches!(slot.object, DwarfObject::TypeUnit(_));
-    is_type == is_types && next <= row && row < end
+    is_type == is_types && row <= u64::from(slot.row)
 }
 
 /// The number behind that of the last row of an index; 1 where there is no index.
@@ -123,10 +123,7 @@ fn end_of(index: Option<&UnitIndex<'_>>) -> u64
     index.map_or(1, |index| u64::from(index.unit_count()) + 1)
 }
 
-/// A slot names each row of an index up to its end: tells each row before that of a slot of its
-/// kind, and then each row behind the last. A slot whose row isn't behind those of the slots before
-/// is passed over, as one whose row is past the rows.
-#[tactic(auto, using(crate::proofs::NamedRows::covers_skipped))]
+/// A slot names each row of an index up to its end: tells each row that none does.
 fn check_rows<O: Write>(
     kind: &str,
     is_types: bool,
@@ -140,34 +137,41 @@ fn check_rows<O: Write>(
     ensures { Tells (TellsRowsOf kind.now is_types end entries.now)
         (so_far (O.contents out.old) faults.old) (so_far (O.contents out.new) faults.new) result }
 {
-    let mut next = 1u64;
-    for i in 0..entries.len() {
-        if !is_next(is_types, end, entries[i], next) {
+    let mut from = 0usize;
+    for row in 1..end {
+        if is_named(is_types, row, entries, &mut from) {
             continue;
         }
-        let row = u64::from(entries[i].row);
-        tell_rows(kind, next, row, faults, out)?;
-        next = row + 1;
-    }
-    tell_rows(kind, next, end, faults, out)
-}
-
-/// Tells that no slot names a row, of each row from one up to another, which isn't among them.
-#[tactic(auto, using(crate::proofs::NamedRows::rows_none))]
-fn tell_rows<O: Write>(
-    kind: &str,
-    first: u64,
-    end: u64,
-    faults: &mut Faults,
-    out: &mut O,
-) -> Result<(), Failure>
-    requires { first ≤ end }
-    ensures { Tells (Is (row_faults kind.now first end)) (so_far (O.contents out.old) faults.old)
-        (so_far (O.contents out.new) faults.new) result }
-{
-    for row in first..end {
-        let text = format!(in *faults.waiting.allocator(); "{kind} row {row}: no slot names it");
-        tell_of_package(text, faults, out)?;
+        tell_row(kind, row, faults, out)?;
     }
     Ok(())
+}
+
+/// Whether a slot names a row of an index, where none before a place names it or one behind it.
+/// Goes on to the first that does.
+fn is_named(is_types: bool, row: u64, entries: &[UnitEntry], from: &mut usize) -> bool
+    requires sorted { IsSortedByKey place_of_line nat_cmp entries.now }
+    requires past { ArePast is_types row entries.now from.old }
+    ensures past { ArePast is_types row entries.now from.new }
+    ensures named { result ≡ true → IsNamed entries.now is_types row }
+    ensures unnamed { result ≡ false → IsNamed entries.now is_types row → ⊥ }
+{
+    for i in *from..entries.len() {
+        if is_from(is_types, row, entries[i]) {
+            *from = i;
+            return u64::from(entries[i].row) == row;
+        }
+    }
+    *from = entries.len();
+    false
+}
+
+/// Tells that no slot names a row of an index.
+#[tactic(auto, using(crate::proofs::Told::what_told), unfolding(crate::specs::Faults::row_text))]
+fn tell_row<O: Write>(kind: &str, row: u64, faults: &mut Faults, out: &mut O) -> Result<(), Failure>
+    ensures { Tells (IsFault (row_fault kind.now row)) (so_far (O.contents out.old) faults.old)
+        (so_far (O.contents out.new) faults.new) result }
+{
+    let text = format!(in *faults.waiting.allocator(); "{kind} row {row}: no slot names it");
+    tell_of_package(text, faults, out)
 }

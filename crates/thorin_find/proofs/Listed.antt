@@ -1,18 +1,17 @@
 -- The lines of a list, slot by slot: some are printed, the others wait. And what was listed.
-use Rattle.std.proofs.Common.{Bool, false, List, Ok, true, [], true≢false, ℕ, ◌++◌, ◌∙◌, ◌∷◌, ◌≡◌}
-use Rattle.std.proofs.Common.{append-nil, append_assoc, length, Option, Result, take-append-drop}
-use Rattle.std.proofs.Common.{ap, arith, drop, Err, inl, inr, refl, sym, take}
+use Rattle.std.proofs.Common.{append-nil, append_assoc, if◌then◌else◌, Ok, Option, take-append-drop}
+use Rattle.std.proofs.Common.{arith, Bool, drop, Err, false, length, List, refl, Result, take, true}
 use Rattle.thorin_find.specs.Listing.{AddsLine, behind_line, ListsPackage, PrintsFront, PrintsLines}
-use Rattle.thorin_find.specs.Listing.{answer_of, AreByRow, Begins, IsListedIn, slot_line, UnitLines}
-use Rattle.thorin_find.specs.Listing.{lines_of, Lists, ListView, view_of}
-use Rattle.std.{proofs.Math.Seq.take-append_seam, specs.Io.KnownBytes.Appends}
-use Rattle.std.proofs.KnownBytes.{Appends-nil, Appends-trans, Keeps-refl}
-use Rattle.dwp_index.specs.Package.{found, FoundUnit, Package, package_of}
-use Rattle.dwp_index.specs.declared.error.PackageError.{PackageError}
-use Rattle.dwp_index.specs.declared.units.UnitEntry.{UnitEntry}
 use Rattle.thorin_find.specs.{declared.listing.ListForm.ListForm, Files.FailsToRead, Files.Offer}
+use Rattle.dwp_index.specs.declared.{error.PackageError.PackageError, units.UnitEntry.UnitEntry}
+use Rattle.thorin_find.specs.Listing.{answer_of, IsListedIn, ListsBytes, slot_line, UnitLines}
+use Rattle.thorin_find.specs.Listing.{AreByRow, Begins, lines_of, Lists, ListView, view_of}
 use Rattle.thorin_print.{proofs.Printed.nothing, specs.declared.output.Failure.Failure}
+use Rattle.std.proofs.Common.{[], ap, inl, inr, sym, ℕ, ◌&&◌, ◌++◌, ◌∙◌, ◌∷◌, ◌≡◌}
 use Rattle.thorin_print.specs.Answers.{Answer, Comes, HasBeginning, IsOfPrinting}
+use Rattle.std.{proofs.Math.Seq.take-append_seam, specs.Io.KnownBytes.Appends}
+use Rattle.dwp_index.specs.Package.{found, FoundUnit, Package, package_of}
+use Rattle.std.proofs.KnownBytes.{Appends-nil, Appends-trans, Keeps-refl}
 use Rattle.thorin_print.specs.declared.output.Failure.TheVariants as failures
 
 -- ---- a text that waits
@@ -31,13 +30,13 @@ pub not_printed : (failure : Failure) (text : List ℕ) (old new : Option (List 
     → Begins failure text old new
 not_printed failure text old new h = grind (arith)
 
--- more of it waited, of which some was printed
-front_next : (old middle new : Option (List ℕ)) (all waiting more next rest : List ℕ)
-    → PrintsFront old middle all waiting → next ≡ waiting ++ more
-    → PrintsFront middle new next rest → PrintsFront old new (all ++ more) rest
-front_next old middle new all waiting more next rest p added q = record {
+-- of what waits before the rest some was printed
+front_more : (old middle new : Option (List ℕ)) (all next still more : List ℕ)
+    → PrintsFront old middle all (next ++ more) → PrintsFront middle new next still
+    → PrintsFront old new all (still ++ more)
+front_more old middle new all next still more p q = record {
   front = p.front ++ q.front;
-  split = rw (p.split, append_assoc, ← added, q.split, append_assoc) refl;
+  split = rw (p.split, q.split, append_assoc, append_assoc) refl;
   printed = Appends-trans old middle new p.front q.front p.printed q.printed;
 }
 
@@ -54,36 +53,39 @@ begun_behind old middle new front rest more printed h =
 
 -- ---- slot by slot
 
--- some text, and the lines behind it
-abbrev behind : List ℕ → UnitLines → UnitLines
-behind text lines = record { printed = text ++ lines.printed; is_all = lines.is_all }
-
 -- of the lines of all slots, those up to the rest were added: some are printed, the others wait
 pub record PrintedSoFar (view : ListView) (pack : Package) (all rest : List UnitEntry)
     (old new : Option (List ℕ)) (waiting : List ℕ) : Type 0 where
-  pub done : List ℕ
-  pub split : lines_of view pack all ≡ behind done (lines_of view pack rest)
-  pub front : PrintsFront old new done waiting
+  pub is_all : (lines_of view pack rest).is_all ≡ (lines_of view pack all).is_all
+  pub front : PrintsFront old new (lines_of view pack all).printed
+      (waiting ++ (lines_of view pack rest).printed)
+
+-- the lines from a slot on, whose line was added where its unit was looked up
+line_added : (view : ListView) (entry : UnitEntry) (looked : Result (Option FoundUnit) PackageError)
+    (lines : UnitLines) (waiting next : List ℕ) (is_found : Bool)
+    → AddsLine view entry looked waiting next is_found
+    → ((behind_line view entry looked lines).is_all ≡ (is_found && lines.is_all))
+    × (waiting ++ (behind_line view entry looked lines).printed
+    ≡ next ++ (if is_found then lines.printed else []))
+line_added view entry (Err cause) lines waiting next is_found h = rw (h.0, h.1) (refl, refl)
+line_added view entry (Ok unit) lines waiting next is_found h =
+    rw (h.0, h.1) (refl, sym (append_assoc waiting (slot_line view entry unit) lines.printed))
 
 module _ (view : ListView) (pack : Package) (all : List UnitEntry) (old : Option (List ℕ)) where
   -- of what waits a beginning was printed
-  begun_waiting : (failure : Failure) (rest : List UnitEntry) (middle new : Option (List ℕ))
-      (waiting : List ℕ) → PrintedSoFar view pack all rest old middle waiting
+  begun_waiting : (failure : Failure) (middle new : Option (List ℕ)) (waiting more : List ℕ)
+      → PrintsFront old middle (lines_of view pack all).printed (waiting ++ more)
       → Begins failure waiting middle new → Begins failure (lines_of view pack all).printed old new
-  begun_waiting failure rest middle new waiting s b =
-      let more = (lines_of view pack rest).printed in
-      let behind_front = begun_behind old middle new s.front.front waiting more s.front.printed
-      b.begun in
-      record {
-        cause = b.cause;
-        begun = rw (s.split, s.front.split, append_assoc) behind_front;
-      }
+  begun_waiting failure middle new waiting more p b = record {
+    cause = b.cause;
+    begun = rw p.split (begun_behind old middle new p.front waiting more p.printed b.begun);
+  }
 
   -- what is printed so far is a beginning
   pub begun : (failure : Failure) (rest : List UnitEntry) (new : Option (List ℕ))
       (waiting : List ℕ) → IsOfPrinting failure → PrintedSoFar view pack all rest old new waiting
       → Begins failure (lines_of view pack all).printed old new
-  begun failure rest new waiting cause s = begun_waiting failure rest new new waiting s
+  begun failure rest new waiting cause s = begun_waiting failure new new waiting _ s.front
       (record { cause = cause; begun = nothing new waiting })
 
   -- no slot is left
@@ -92,57 +94,40 @@ module _ (view : ListView) (pack : Package) (all : List UnitEntry) (old : Option
       → PrintsLines (lines_of view pack all) true old new waiting
   all_found rest new waiting none s =
       let so_far = rw none at s in
-      record {
-        all = rw so_far.split refl;
-        front = rw (so_far.split, append-nil) so_far.front;
-      }
+      record { all = so_far.is_all; front = rw append-nil at so_far.front }
 
   module _ (entry : UnitEntry) (rest : List UnitEntry) (middle : Option (List ℕ))
-      (waiting next : List ℕ) where
-    -- the lines of all, from a slot on
-    abbrev IsBehind : Result (Option FoundUnit) PackageError → List ℕ → Type 0
-    IsBehind looked done = lines_of view pack all
-        ≡ behind done (behind_line view entry looked (lines_of view pack rest))
+      (waiting next : List ℕ) (left : List UnitEntry) (is_found : Bool)
+      (is_left : left ≡ entry ∷ rest)
+      (added : AddsLine view entry (found pack entry.object) waiting next is_found)
+      (s : PrintedSoFar view pack all left old middle waiting) where
+    -- its line waits, where its unit was found; and no more, where it can't be looked up
+    waits : ((is_found && (lines_of view pack rest).is_all) ≡ (lines_of view pack all).is_all)
+        × PrintsFront old middle (lines_of view pack all).printed
+        (next ++ (if is_found then (lines_of view pack rest).printed else []))
+    waits =
+        let here = line_added view entry (found pack entry.object) (lines_of view pack rest) waiting
+        next is_found added in
+        let so_far = rw is_left at s in
+        (rw (← here.0) so_far.is_all, rw (← here.1) so_far.front)
 
-    more : (looked : Result (Option FoundUnit) PackageError) (done still : List ℕ)
-        (new : Option (List ℕ)) → AddsLine view entry looked waiting next true
-        → IsBehind looked done → PrintsFront old middle done waiting
+    -- its unit was found, and what waits was printed or not
+    pub printed_next : (still : List ℕ) (new : Option (List ℕ)) → is_found ≡ true
         → PrintsFront middle new next still → PrintedSoFar view pack all rest old new still
-    more (Err cause) done still new h split p q = absurd (true≢false h.0)
-    more (Ok unit) done still new h split p q = record {
-      done = done ++ slot_line view entry unit;
-      split = rw append_assoc split;
-      front = front_next old middle new done waiting (slot_line view entry unit) next still p h.1 q;
-    }
+    printed_next still new is q =
+        let so_far = rw is at waits in
+        record { is_all = so_far.0; front = front_more old middle new _ next still _ so_far.1 q }
 
-    no_more : (looked : Result (Option FoundUnit) PackageError) (done : List ℕ)
-        → AddsLine view entry looked waiting next false → IsBehind looked done
-        → PrintsFront old middle done waiting
-        → PrintsLines (lines_of view pack all) false old middle next
-    no_more (Err cause) done h split p =
-        record { all = rw split refl; front = rw (split, append-nil, h.1) p }
-    no_more (Ok unit) done h split p = absurd (true≢false (sym h.0))
+    -- it can't be looked up
+    pub not_found : is_found ≡ false → PrintsLines (lines_of view pack all) false old middle next
+    not_found is =
+        let so_far = rw is at waits in
+        record { all = so_far.0; front = rw append-nil at so_far.1 }
 
-    module _ (left : List UnitEntry) (is_found : Bool) (is_left : left ≡ entry ∷ rest)
-        (added : AddsLine view entry (found pack entry.object) waiting next is_found)
-        (s : PrintedSoFar view pack all left old middle waiting) where
-      -- its unit was found, and what waits was printed or not
-      pub printed_next : (still : List ℕ) (new : Option (List ℕ)) → is_found ≡ true
-          → PrintsFront middle new next still → PrintedSoFar view pack all rest old new still
-      printed_next still new is q =
-          more (found pack entry.object) s.done still new (rw is at added)
-          (rw is_left at s.split) s.front q
-
-      -- it can't be looked up
-      pub not_found : is_found ≡ false → PrintsLines (lines_of view pack all) false old middle next
-      not_found is =
-          no_more (found pack entry.object) s.done (rw is at added) (rw is_left at s.split) s.front
-
-      -- its line wasn't printed whole
-      pub begun_next : (failure : Failure) (new : Option (List ℕ)) → is_found ≡ true
-          → Begins failure next middle new → Begins failure (lines_of view pack all).printed old new
-      begun_next failure new is b = begun_waiting failure rest middle new next
-          (printed_next next middle is (none_waits middle next)) b
+    -- its line wasn't printed whole
+    pub begun_next : (failure : Failure) (new : Option (List ℕ))
+        → Begins failure next middle new → Begins failure (lines_of view pack all).printed old new
+    begun_next failure new b = begun_waiting failure middle new next _ waits.1 b
 
 -- ---- what stands behind the lines
 
@@ -236,48 +221,39 @@ module _ (form : ListForm) (pack : Package) (entries : List UnitEntry)
     comes = grind (arith, b.cause, b.begun);
   }
 
-  module _ (is_all : Bool) (middle : Option (List ℕ)) (waiting : List ℕ)
-      (p : PrintsLines Lines is_all old middle waiting) where
-    -- there was no memory for what stands behind them
-    pub rest_begun : ListsPackage form pack old middle (Err failures.Memory)
-    rest_begun =
-        let b = begun_front old middle middle p.front.front waiting p.front.printed
-        (nothing middle waiting) in
-        begun_listing failures.Memory middle (record { cause = tt; begun = rw p.front.split b })
+  -- there was no memory for what stands behind them
+  pub rest_begun : (middle : Option (List ℕ)) (waiting : List ℕ)
+      → PrintsFront old middle Lines.printed waiting
+      → ListsPackage form pack old middle (Err failures.Memory)
+  rest_begun middle waiting p =
+      let b = begun_front old middle middle p.front waiting p.printed (nothing middle waiting) in
+      begun_listing failures.Memory middle (record { cause = tt; begun = rw p.split b })
 
-    -- the rest was printed behind them
-    pub whole_listing : (new : Option (List ℕ)) (text : List ℕ) (given result : Result ℕ Failure)
-        → IsListedIn form.columns form (record { printed = waiting; is_all = is_all })
-        (record { printed = text; answer = given })
-        → Comes result (record { printed = text; answer = given }) middle new
-        → ListsPackage form pack old new result
-    whole_listing new text given result listed comes = record {
-      entries = entries;
-      by_row = by_row;
-      meant = record { printed = p.front.front ++ text; answer = given };
-      listed = listed_behind form.columns form Lines is_all p.front.front waiting text given p.all
-          p.front.split listed;
-      comes = comes_behind result given p.front.front text old middle new p.front.printed comes;
-    }
+  -- the rest was printed behind them
+  pub whole_listing : (is_all : Bool) (middle : Option (List ℕ)) (waiting : List ℕ)
+      → PrintsLines Lines is_all old middle waiting → (new : Option (List ℕ)) (text : List ℕ)
+      (given result : Result ℕ Failure)
+      → IsListedIn form.columns form (record { printed = waiting; is_all = is_all })
+      (record { printed = text; answer = given })
+      → Comes result (record { printed = text; answer = given }) middle new
+      → ListsPackage form pack old new result
+  whole_listing is_all middle waiting p new text given result listed comes = record {
+    entries = entries;
+    by_row = by_row;
+    meant = record { printed = p.front.front ++ text; answer = given };
+    listed = listed_behind form.columns form Lines is_all p.front.front waiting text given p.all
+        p.front.split listed;
+    comes = comes_behind result given p.front.front text old middle new p.front.printed comes;
+  }
 
 -- ---- what came of it
 
--- the file was read and listed
-pub file_listed : (offer : Offer) (path bytes lent : List ℕ) (form : ListForm) (pack : Package)
+-- the file was read
+pub file_read : (offer : Offer) (path bytes lent : List ℕ) (form : ListForm)
     (old new : Option (List ℕ)) (result : Result ℕ Failure) → offer path (Ok bytes) → lent ≡ bytes
-    → package_of lent ≡ Ok pack → ListsPackage form pack old new result
-    → Lists offer path form old new result
+    → ListsBytes form (package_of lent) old new result → Lists offer path form old new result
 unfolding Lists
-file_listed offer path bytes lent form pack old new result read same e h =
-    inl (bytes, read, rw (← same, e) h)
-
--- it is no package
-pub file_malformed : (offer : Offer) (path bytes lent : List ℕ) (form : ListForm)
-    (cause : PackageError) (a : Option (List ℕ)) → offer path (Ok bytes) → lent ≡ bytes
-    → package_of lent ≡ Err cause → Lists offer path form a a (Err failures.Malformed)
-unfolding Lists
-file_malformed offer path bytes lent form cause a read same e =
-    inl (bytes, read, rw (← same, e) (refl, Appends-nil a))
+file_read offer path bytes lent form old new result read same h = inl (bytes, read, rw same at h)
 
 -- it can't be read, or there is no memory to do so
 pub not_listed : (offer : Offer) (path : List ℕ) (form : ListForm) (a : Option (List ℕ))

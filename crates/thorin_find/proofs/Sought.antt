@@ -1,14 +1,14 @@
 -- What words ask for, and what came of a command that reads a file.
-use Rattle.std.proofs.Common.{codes, Err, get_or, List, None, Ok, Option, refl, Result, ℕ, ◌≡◌, ◌≢◌}
-use Rattle.std.proofs.Common.{arith, inl, inr, MatchResult}
 use Rattle.thorin_find.specs.Finding.{AsksFor, find_answer, Finds, FindsAsked, HasDigits, IsNumber}
-use Rattle.std.specs.Str.Parse.{digits_value, ParsesUnsigned}
-use Rattle.std.specs.Str.Pattern.{FindsTextPrefix, StripsPrefix}
+use Rattle.std.proofs.Common.{arith, codes, get_or, List, MatchResult, None, Option, refl, Result}
 use Rattle.std.proofs.{KnownBytes.Keeps-refl, lemmas.Str.Parse.without_leading_plus_none}
+use Rattle.thorin_find.specs.{declared.finding.Wanted.Wanted, Files.Offer, Files.Reads}
 use Rattle.dwp_table.specs.declared.object.DwarfObject.{DwarfObject}
-use Rattle.thorin_print.specs.{Answers.Comes, declared.output.Failure.Failure}
-use Rattle.thorin_find.specs.Files.{FailsToRead, Offer, Reads}
-use Rattle.thorin_find.specs.{declared.finding.Wanted.Wanted, Finding.Asks, Finding.Words}
+use Rattle.std.specs.Str.Pattern.{FindsTextPrefix, StripsPrefix}
+use Rattle.thorin_print.specs.declared.output.Failure.{Failure}
+use Rattle.std.proofs.Common.{Err, inl, inr, Ok, ℕ, ◌≡◌, ◌≢◌}
+use Rattle.std.specs.Str.Parse.{digits_value, ParsesUnsigned}
+use Rattle.thorin_find.specs.Finding.{Asks, Words}
 
 -- the digits behind `0x`
 pub digits_behind : (text digits : List ℕ) → StripsPrefix (FindsTextPrefix (codes "0x")) text digits
@@ -45,19 +45,9 @@ module _ (offer : Offer) (path : List ℕ) (words : Words) (a : Option (List ℕ
     none_wanted failure result e f =
         found a result (rw (is_asked, e, f) (grind (arith, Keeps-refl a)))
 
-    module _ (want : Wanted) (is_wanted : wanted ≡ Ok want) where
-      -- the file can't be read
-      pub unread : (failure : Failure) (result : Result ℕ Failure) → FailsToRead offer path failure
-          → result ≡ Err failure → Finds offer path words a a result
-      unfolding Reads
-      unread failure result h e =
-          found a result (rw (is_asked, is_wanted, e) (inr (h, Keeps-refl a)))
-
-      -- it was read
-      pub was_read : (b : Option (List ℕ)) (bytes lent : List ℕ) (result : Result ℕ Failure)
-          → offer path (Ok bytes) → lent ≡ bytes
-          → Comes result (find_answer words.form want object lent) a b
-          → Finds offer path words a b result
-      unfolding Reads
-      was_read b bytes lent result read same h =
-          found b result (rw (is_asked, is_wanted) (inl (bytes, read, rw same at h)))
+    -- the file was read, or can't be
+    pub was_read : (want : Wanted) → wanted ≡ Ok want → (b : Option (List ℕ))
+        (result : Result ℕ Failure)
+        → Reads offer path (find_answer words.form want object) a b result
+        → Finds offer path words a b result
+    was_read want is_wanted b result h = found b result (rw (is_asked, is_wanted) h)

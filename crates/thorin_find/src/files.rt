@@ -1,10 +1,9 @@
 //! The files that a command line names, and what they are to the commands that read packages.
 
-ghost use Rattle.std.specs.Prelude.{◌≡◌, ℕ, List, Result, Ok, Err, IfOk, IfErr};
-ghost use Rattle.std.specs.declared.io.Error.{Error as IoError};
-ghost use Rattle.dwp_index.specs.Package.{package_of};
-ghost use Rattle.thorin_find.specs.Files.{anything, FailsToRead};
+ghost use Rattle.{dwp_index.specs.Package.package_of, std.specs.declared.io.Error.Error as IoError};
+ghost use Rattle.std.specs.Prelude.{Err, IfErr, IfOk, List, Ok, Result, ℕ, ◌≡◌};
 ghost use Rattle.thorin_find.specs.Listing.{has_no_index, kind_of};
+ghost use Rattle.thorin_find.specs.Files.{anything, FailsToRead};
 
 use dwp_base::SectionKind;
 use dwp_index::{PackageError, PackageFile};

@@ -1,14 +1,13 @@
 //! `thorin find`: what it is asked for, and what it tells of a unit, plain and in JSON.
 
 ghost use Rattle.thorin_print.specs.declared.output.Failure.TheVariants as failures;
-ghost use Rattle.std.specs.Prelude.{codes, MatchResult, OnOk, string_bytes, ◌++◌, ◌≡◌};
-ghost use Rattle.thorin_find.specs.Finding.{find_answer, range_texts, string_count, string_line};
 ghost use Rattle.thorin_find.specs.Finding.{all_text, AsksFor, range_text, words_of, WritesNone};
+ghost use Rattle.thorin_find.specs.Finding.{find_answer, range_texts, string_count, string_line};
+ghost use Rattle.{dwp_table.specs.Objects.identifier_of, std.specs.Option.option_copied};
+ghost use Rattle.std.specs.Prelude.{codes, MatchResult, OnOk, string_bytes, ◌++◌, ◌≡◌};
 ghost use Rattle.thorin_find.specs.Finding.{Asks, Finds, Writes};
-ghost use Rattle.std.specs.Option.{option_copied};
-ghost use Rattle.dwp_table.specs.Objects.{identifier_of};
-ghost use Rattle.thorin_print.specs.{Answers.Comes, Lines.hex16};
 ghost use Rattle.thorin_find.specs.Lines.{json_unit, short_kind};
+ghost use Rattle.thorin_print.specs.{Answers.Comes, Lines.hex16};
 
 use crate::files::{FileReader, read_named};
 use dwp_base::{Contribution, SectionKind};

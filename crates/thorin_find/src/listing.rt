@@ -1,10 +1,9 @@
 //! `thorin list`.
 
+ghost use Rattle.thorin_find.specs.Listing.{AddsLine, AreByRow, range_size, unit_line, unit_names};
+ghost use Rattle.thorin_find.specs.Listing.{Begins, front_of, lines_of, Lists, place_by, view_of};
+ghost use Rattle.thorin_find.specs.Listing.{IsListedIn, PrintsFront, PrintsLines, range_sizes};
 ghost use Rattle.std.specs.Prelude.{IfErr, IfOk, OnOk, string_bytes, [], ◌++◌, ◌≡◌};
-ghost use Rattle.thorin_find.specs.Listing.{IsListedIn, range_size, unit_line, unit_names, view_of};
-ghost use Rattle.thorin_find.specs.Listing.{PrintsFront, PrintsLines, range_sizes};
-ghost use Rattle.thorin_find.specs.Listing.{AddsLine, AreByRow, front_of, lines_of, place_by};
-ghost use Rattle.thorin_find.specs.Listing.{Begins, Lists};
 ghost use Rattle.dwp_index.specs.{Entries.entries_from, Package.found};
 
 use crate::files::{FileReader, read_named};

@@ -1,13 +1,12 @@
 //! The names that a unit's own bytes give: of its source, and of its object.
 
 ghost use Rattle.thorin_find.specs.Names as spec;
-ghost use Rattle.std.specs.Prelude.{option_map, ◌≡◌};
 ghost use Rattle.thorin_find.specs.Names.{object_name, short_string_at, source_name, string_number};
-ghost use Rattle.thorin_find.specs.Names.{die_of, header_in, named, object_in, string_of};
-ghost use Rattle.std.specs.{Option.option_and_then, Option.option_copied, Result.result_ok};
-ghost use Rattle.dwp_bytes.specs.Input.{front};
-ghost use Rattle.dwp_index.specs.Contents.{content};
 ghost use Rattle.dwp_dwarf.specs.Attributes.{attribute_of, attributes_left, entry_of, root_of};
+ghost use Rattle.std.specs.{Option.option_and_then, Option.option_copied, Result.result_ok};
+ghost use Rattle.thorin_find.specs.Names.{die_of, header_in, named, object_in, string_of};
+ghost use Rattle.{dwp_bytes.specs.Input.front, dwp_index.specs.Contents.content};
+ghost use Rattle.std.specs.Prelude.{option_map, ◌≡◌};
 ghost use Rattle.dwp_units.specs.Units.{unit_of};
 
 use dwp_base::{Endianness, SectionKind};

@@ -1,10 +1,11 @@
-use Rattle.thorin_check.proofs.{Own.abbreviations_inside, Own.own_read, Own.own_unread, Terms.sym}
+use Rattle.thorin_check.proofs.{Own.own_read, Own.own_unread, Own.row_of_found, Terms.sym}
+use Rattle.thorin_check.proofs.Terms.{Abbrev}
 use Rattle.thorin_check.proofs.abbreviations.read.Goals as goal
 
 pub read_behind-requires : goal.read_behind-requires
 read_behind-requires c = record {
-  inside = abbreviations_inside c.args.pack.now c.args.object c.args.unit.now c.requires.is_found _
-      c.requires.tables;
+  inside = rw c.requires.tables
+      ((row_of_found c.args.pack.now c.args.object c.args.unit.now c.requires.is_found).inside Abbrev);
 }
 
 pub returns-in-Ok-clause-own : goal.returns-in-Ok-clause-own

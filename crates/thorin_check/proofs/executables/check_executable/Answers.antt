@@ -1,6 +1,6 @@
-use Rattle.thorin_check.proofs.Terms.{rules, ◌≡◌}
-use Rattle.thorin_check.{proofs.Told.exit_is, specs.Faults.room_of}
-use Rattle.thorin_check.proofs.Checked.{executable_read, executable_unread, named_broken}
+use Rattle.thorin_check.proofs.Checked.{broken_left, executable_read, executable_unread}
+use Rattle.thorin_check.proofs.{Terms.rules, Terms.◌≡◌, Told.exit_is}
+use Rattle.thorin_check.{proofs.Terms.true, specs.Faults.room_of}
 use Rattle.thorin_check.proofs.executables.check_executable.Goals as goal
 
 pub returns-in_err-read : goal.returns-in_err-read
@@ -17,5 +17,5 @@ returns-in-Ok g c =
 pub returns : goal.returns
 returns g c =
     executable_read _ _ _ _ _ _ c.tell_error.result _ _ c.in_ok-read.ensures.read
-    c.as_slice-bytes.ensures.value (named_broken _ _ _ _ _ _ _ c.tell_error.result
+    c.as_slice-bytes.ensures.value (broken_left _ _ true _ _ _ _ _ c.tell_error.result
     c.in-Err.ensures.opened c.tell_error.ensures.known c.tell_error.ensures.told)

@@ -1,8 +1,8 @@
-use Rattle.thorin_check.proofs.Terms.{All, IsOfUnit, none_grown, Ok, sym, ◌∙◌}
-use Rattle.thorin_check.proofs.Distinct.{first_again, first_more, first_none, listed_before}
 use Rattle.thorin_check.proofs.Told.{exit_is, none_told, stopped_behind, told_as, told_then}
-use Rattle.thorin_check.proofs.{Distinct.first_all, SharedStrings.same_range}
+use Rattle.thorin_check.proofs.Distinct.{first_again, first_all, first_more, first_none}
+use Rattle.thorin_check.proofs.Terms.{All, IsOfUnit, none_grown, sym, ◌∙◌}
 use Rattle.std.proofs.lemmas.List.Sorted.{All-permutation}
+use Rattle.thorin_check.proofs.SharedStrings.{same_range}
 use Rattle.thorin_check.proofs.strings.check_strings.Goals as goal
 
 pub loop-i-init : goal.loop-i-init
@@ -29,9 +29,8 @@ returns-in_err-check_strings_of g c =
 
 pub returns : goal.returns
 returns g c =
-    let told = told_as c.loop-i.invariant (first_all _ _ c.loop-i.i _ c.loop-i-test.false) in
-    listed_before c.args.pack.now _ _ c.sort_by_key.ensures.permutation _ _ (Ok tt)
-    (rw c.as_slice-listed.ensures.value at told)
+    let same = rw (← c.as_slice-listed.ensures.value) at c.sort_by_key.ensures.permutation in
+    told_as c.loop-i.invariant (first_all _ _ _ same c.loop-i.i _ c.loop-i-test.false)
 
 pub returns-then-not-comes_behind : goal.returns-then-not-comes_behind
 returns-then-not-comes_behind g c = stopped_behind _ c.loop-i.invariant (tt, none_grown _)

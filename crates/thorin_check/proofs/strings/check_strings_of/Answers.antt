@@ -1,7 +1,6 @@
-use Rattle.thorin_check.proofs.Told.{exit_is, for_each_more, none_told, strings_some, text_stopped}
-use Rattle.thorin_check.proofs.Terms.{arith, List, Ok, Option, ReadError, refl, Result}
-use Rattle.thorin_check.proofs.Terms.{string_of, ℕ}
-use Rattle.thorin_check.proofs.{SharedStrings.of_found, Told.text_told, Told.told_then}
+use Rattle.thorin_check.proofs.Told.{exit_is, for_each_more, none_told, text_stopped}
+use Rattle.thorin_check.proofs.Terms.{arith, List, Ok, Option, ReadError, refl, Result, string_of}
+use Rattle.thorin_check.proofs.{SharedStrings.of_found, Terms.ℕ, Told.text_told, Told.told_then}
 use Rattle.std.proofs.lemmas.List.FromFn.{map-range_with_len_more}
 use Rattle.thorin_check.specs.Faults.{TellsNumbered}
 use Rattle.thorin_check.proofs.strings.check_strings_of.Goals as goal
@@ -34,5 +33,4 @@ returns-in_err-tell g c =
 
 pub returns : goal.returns
 returns g c =
-    strings_some _ _ _ _ (Ok tt) _ (rw c.in-Ok-Some.field-0-is at c.in-Ok-Some.ensures)
-    (grind (arith, none_told))
+    rw (rw c.in-Ok-Some.field-0-is at c.in-Ok-Some.ensures) (grind (arith, none_told))

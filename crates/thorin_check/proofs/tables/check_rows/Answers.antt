@@ -1,22 +1,50 @@
-use Rattle.thorin_check.proofs.Terms.{sym, ◌∙◌}
-use Rattle.thorin_check.proofs.Told.{exit_is, none_told, stopped_behind, then_or}
-use Rattle.thorin_check.proofs.NamedRows.{covers_all, covers_none, covers_told}
+use Rattle.thorin_check.proofs.Told.{exit_is, none_told, stopped_behind, told_then}
+use Rattle.std.proofs.lemmas.List.Elements.{All-cons, All-nil, Contains-push}
+use Rattle.thorin_check.proofs.Terms.{[], arith, inl, inr, refl, ◌∷◌, ◌≡◌}
 use Rattle.thorin_check.proofs.tables.check_rows.Goals as goal
 
-pub loop-i-init : goal.loop-i-init
-loop-i-init g c = none_told _ (covers_none _ _ _ _ c.requires.some) _
+pub loop-row-init : goal.loop-row-init
+loop-row-init g c = record {
+  told = none_told _ (record {
+    rows = [];
+    are = refl;
+    unnamed = All-nil _;
+    others = λ row some lt. absurd (omega arith);
+  }) _;
+  past = record { past = λ k d lt. absurd (omega arith) };
+}
 
-pub loop-i-preserved : goal.loop-i-preserved
-loop-i-preserved g c = covers_told _ _ _ _ c.requires.sorted c.loop-i.i _ _ _ c.loop-i-test.true
-    (sym c.is_next.ensures ∙ c.if-not-is_next.false) c.from-row.ensures c.loop-i.invariant
-    c.in_ok-tell_rows.ensures
+pub loop-row-preserved-then-is_named : goal.loop-row-preserved-then-is_named
+loop-row-preserved-then-is_named g c = record {
+  told = told_then (λ ls ms. row_more c.args.kind.now c.args.is_types c.args.entries.now
+      c.loop-row.row [] ls ms (All-nil _) (inr (c.is_named.ensures.named c.if-is_named.true)))
+      c.loop-row.invariant.told (none_told _ refl _);
+  past = record {
+    past = λ k d lt is. let h = c.is_named.ensures.past.past k d lt is in omega arith;
+  };
+}
 
-pub returns-in_err-tell_rows : goal.returns-in_err-tell_rows
-returns-in_err-tell_rows g c =
+pub loop-row-preserved : goal.loop-row-preserved
+loop-row-preserved g c = record {
+  told = told_then (λ ls ms. row_more c.args.kind.now c.args.is_types c.args.entries.now
+      c.loop-row.row (c.loop-row.row ∷ []) ls ms (All-cons _ _ []
+      (omega arith, omega arith, c.is_named.ensures.unnamed c.if-is_named.false) (All-nil _))
+      (inl (Contains-push [] c.loop-row.row)))
+      c.loop-row.invariant.told c.in_ok-tell_row.ensures;
+  past = record {
+    past = λ k d lt is. let h = c.is_named.ensures.past.past k d lt is in omega arith;
+  };
+}
+
+pub returns-in_err-tell_row : goal.returns-in_err-tell_row
+returns-in_err-tell_row g c =
     rw (exit_is c.from_residual.result c.from_residual.ensures.1) (stopped_behind _
-    c.loop-i.invariant c.in_err-tell_rows.ensures)
+    c.loop-row.invariant.told c.in_err-tell_row.ensures)
+
+pub is_named-requires-clause-past : goal.is_named-requires-clause-past
+is_named-requires-clause-past g c = c.loop-row.invariant.past
 
 pub returns : goal.returns
 returns g c =
-    then_or _ _ _ _ _ _ _ (λ ls ms. covers_all _ _ _ _ _ _ ls ms c.loop-i-test.false)
-    c.tell_rows-2.result c.loop-i.invariant c.tell_rows-2.ensures
+    let all : c.loop-row.row ≡ c.args.end = omega arith in
+    rw all at c.loop-row.invariant.told

@@ -1,8 +1,12 @@
-use Rattle.thorin_check.proofs.{NamedRows.Covers, Terms.so_far, Terms.Told}
+use Rattle.thorin_check.specs.Faults.{ArePast, TellsRowsOf}
+use Rattle.thorin_check.proofs.Terms.{so_far, Told}
 use Rattle.thorin_check.proofs.tables.check_rows.Given as goal
 
--- the faults of the rows before the next
-abbrev pub invariant-loop-i : goal.invariant-loop-i
-invariant-loop-i g l = Told (Covers l.kind l.is_types l.end l.entries l.i l.next)
-    (so_far (g.O.Write.contents l.initial.out) l.initial.faults)
-    (so_far (g.O.Write.contents l.out) l.faults)
+-- the faults of the rows so far, and the slots that don't name the next one
+abbrev pub invariant-loop-row : goal.invariant-loop-row
+invariant-loop-row g l = record {
+  told : Told (TellsRowsOf l.kind l.is_types l.row l.entries)
+      (so_far (g.O.Write.contents l.initial.out) l.initial.faults)
+      (so_far (g.O.Write.contents l.out) l.faults);
+  past : ArePast l.is_types l.row l.entries l.from;
+}

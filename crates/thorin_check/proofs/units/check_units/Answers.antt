@@ -1,15 +1,15 @@
 use Rattle.thorin_check.proofs.Told.{exit_is, text_stopped, then_or, told_all}
-use Rattle.thorin_check.proofs.Distinct.{seen_next, text_made, text_seen, units_apart, units_then}
+use Rattle.thorin_check.proofs.Distinct.{seen_next, text_seen, units_apart, units_then}
 use Rattle.thorin_check.proofs.units.check_units.Goals as goal
 
 pub loop-i-preserved : goal.loop-i-preserved
 loop-i-preserved g c =
     let text = c.text_of-text.ensures in
-    let on = text_made _ _ _ _ text.on c.in_ok-tell.ensures in
+    let seen = text_seen _ _ _ _ _ _ _ text.text text.on text.gathered c.in_ok-tell.ensures in
     record {
-      told = seen_next _ _ _ on.kept _ c.loop-i.i _ c.loop-i-test.true c.loop-i.invariant.told
-          (text_seen _ _ _ _ _ _ text.text text.gathered c.in_ok-tell.ensures);
-      seen = on.seen;
+      told = seen_next _ _ _ seen.0.kept _ c.loop-i.i _ c.loop-i-test.true
+          c.loop-i.invariant.told seen.1;
+      seen = seen.0.seen;
     }
 
 pub returns-in_err-tell : goal.returns-in_err-tell

@@ -1,6 +1,6 @@
-use Rattle.std.proofs.lemmas.Result.{err_from_is_err_and}
-use Rattle.thorin_find.proofs.Listed.{begun_listing, file_listed, file_malformed, not_listed}
-use Rattle.thorin_find.proofs.Listed.{rest_begun, whole_listing}
+use Rattle.std.proofs.{Common.refl, KnownBytes.Appends-nil, lemmas.Result.err_from_is_err_and}
+use Rattle.thorin_find.proofs.Listed.{begun_listing, not_listed, rest_begun, whole_listing}
+use Rattle.thorin_find.proofs.Listed.{file_read}
 use Rattle.thorin_find.proofs.listing.list_by.Goals as goal
 
 pub returns-in_err-bytes : goal.returns-in_err-bytes
@@ -10,31 +10,32 @@ returns-in_err-bytes g c =
 
 pub returns-in_default : goal.returns-in_default
 returns-in_default g c =
-    file_malformed _ _ _ _ _ _ _ c.in_ok-bytes.ensures.read c.as_slice.ensures.value
-    c.in_default.ensures
+    file_read _ _ _ _ _ _ _ _ c.in_ok-bytes.ensures.read c.as_slice.ensures.value
+    (rw c.in_default.ensures (refl, Appends-nil _))
 
 pub returns-in_err-is_all : goal.returns-in_err-is_all
 returns-in_err-is_all g c =
     let exit = c.from_residual-in_err-is_all in
     let p = err_from_is_err_and exit.result exit.ensures.1 in
-    rw (p.1, p.2) (file_listed _ _ _ _ _ _ _ _ _ c.in_ok-bytes.ensures.read
-    c.as_slice.ensures.value c.in-Ok.ensures (begun_listing _ _ c.as_slice-entries.result.now
+    rw (p.1, p.2) (file_read _ _ _ _ _ _ _ _ c.in_ok-bytes.ensures.read c.as_slice.ensures.value
+    (rw c.in-Ok.ensures (begun_listing _ _ c.as_slice-entries.result.now
     (rw c.as_slice-entries.ensures.value c.in_ok-entries.ensures) _ _ _
-    c.in_err-is_all.ensures.part))
+    c.in_err-is_all.ensures.part)))
 
 pub returns-in_err-given : goal.returns-in_err-given
 returns-in_err-given g c =
     let exit = c.from_residual-in_err-given in
     let p = err_from_is_err_and exit.result exit.ensures.1 in
-    rw (p.1, p.2) (file_listed _ _ _ _ _ _ _ _ _ c.in_ok-bytes.ensures.read
-    c.as_slice.ensures.value c.in-Ok.ensures (rest_begun _ _ c.as_slice-entries.result.now
-    (rw c.as_slice-entries.ensures.value c.in_ok-entries.ensures) _ _ _ _
-    c.in_ok-is_all.ensures.lines))
+    rw (p.1, p.2) (file_read _ _ _ _ _ _ _ _ c.in_ok-bytes.ensures.read c.as_slice.ensures.value
+    (rw c.in-Ok.ensures (rest_begun _ _ c.as_slice-entries.result.now
+    (rw c.as_slice-entries.ensures.value c.in_ok-entries.ensures) _ _ _
+    c.in_ok-is_all.ensures.lines.front)))
 
 pub returns : goal.returns
 returns g c =
-    file_listed _ _ _ _ _ _ _ _ c.answer.result c.in_ok-bytes.ensures.read
-    c.as_slice.ensures.value c.in-Ok.ensures (whole_listing _ _ c.as_slice-entries.result.now
+    let listed = whole_listing _ _ c.as_slice-entries.result.now
     (rw c.as_slice-entries.ensures.value c.in_ok-entries.ensures) _ _ _ _
-    c.in_ok-is_all.ensures.lines _ _ _ _ c.in_ok-given.ensures
-    (rw c.as_bytes.ensures.value at c.answer.ensures))
+    c.in_ok-is_all.ensures.lines _ _ _ c.answer.result c.in_ok-given.ensures
+    (rw c.as_bytes.ensures.value at c.answer.ensures) in
+    file_read _ _ _ _ _ _ _ c.answer.result c.in_ok-bytes.ensures.read c.as_slice.ensures.value
+    (rw c.in-Ok.ensures listed)

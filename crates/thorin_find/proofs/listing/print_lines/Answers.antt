@@ -16,4 +16,4 @@ returns-in_err-print_much-clause-part g c =
     let p = err_from_is_err_and exit.result exit.ensures.1 in
     rw (p.1, p.2) (begun_next _ _ _ _ _ (drop (i + 1) c.args.entries.now) _ _ _ _ _
     (drop_next c.args.entries.now i _ c.loop-entry-test.true) c.in_ok-put_slot.ensures
-    c.loop-entry.invariant _ _ c.if-not-branch.false c.in_err-print_much.ensures.part)
+    c.loop-entry.invariant _ _ c.in_err-print_much.ensures.part)

@@ -4,7 +4,7 @@ use Rattle.thorin_check.proofs.overlaps.Overlaps.find.Goals as goal
 pub loop-kind-preserved : goal.loop-kind-preserved
 loop-kind-preserved c =
     apart_on c.args.pack.now c.args.entries.now _ c.loop-kind.kind-index _ c.loop-kind-test.true _ _
-    _ _ c.as_slice.ensures.value c.loop-kind.invariant c.in_ok-ranges.ensures c.mark_twins.ensures
+    _ _ c.as_slice.ensures.value c.loop-kind.invariant c.in_ok-ranges.ensures c.are_apart.ensures
 
 pub returns : goal.returns
 returns c = rw (take_all c.loop-kind.kind-index contribution_kinds c.loop-kind-test.false)

@@ -1,6 +1,6 @@
-use Rattle.thorin_check.proofs.Terms.{arith, refl, sym, ◌∙◌}
-use Rattle.thorin_check.proofs.SharedStrings.{last_added, listed_added, of_found, read_added}
-use Rattle.thorin_check.proofs.SharedStrings.{same_range}
+use Rattle.thorin_check.proofs.SharedStrings.{last_added, listed_added, range_ends, same_range}
+use Rattle.thorin_check.proofs.SharedStrings.{gathered, of_found}
+use Rattle.thorin_check.proofs.Terms.{arith, inl, refl, sym, ◌∙◌}
 use Rattle.thorin_check.proofs.strings.UnreadStrings.add.Goals as goal
 
 pub returns-then-eq : goal.returns-then-eq
@@ -10,9 +10,11 @@ returns-then-eq c = λ pack g is.
 
 pub returns-then-all_end : goal.returns-then-all_end
 returns-then-all_end c = λ pack g is.
-    read_added pack c.args.self.now c.args.unit.now c.args.object g is _ c.in-Some.ensures _ refl
-    refl refl (c.all_end.ensures c.if-all_end.true
-    (of_found pack c.args.object c.args.unit.now c.args.self.now.ends g.ends is))
+    let all = c.all_end.ensures c.if-all_end.true
+    (of_found pack c.args.object c.args.unit.now c.args.self.now.ends g.ends is) in
+    gathered pack c.args.self.now c.args.unit.now c.args.object g is _ c.in-Some.ensures _ refl
+    refl g.are (λ other there. there)
+    (inl (range_ends pack c.args.object c.args.unit.now is _ (sym c.in-Some.ensures) all))
 
 pub returns : goal.returns
 returns c = λ pack g is.
