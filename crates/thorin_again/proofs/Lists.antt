@@ -3,37 +3,38 @@
 -- have one encoding, the header of each unit has the encoding that is recorded of it, wherever its
 -- bytes are read again, each has its strings, and what is written has the encoding, as an input.
 use Rattle.thorin_again.proofs.Terms
-use Terms.{All, All-cons, All-head, All-map, All-nil, All-tail, All-weaker, all_there, AllOf, ap}
-use Terms.{AreRowsOf, arith, bind-was, content_of, Contents, DwarfObject, each-all, EachRow, Elf}
-use Terms.{elf_of, Encoding, encoding_in, encoding_of, Endianness, File, file_encoding, file_text}
-use Terms.{finished-is, finished-order, finished-own, first_encoding, found_counted, Header}
-use Terms.{header_at, HoldsOwn, HoldsPlain, IfSome, IndexEntry, inl, InProgress, Input, input-keeps}
+use Terms.{All, All-cons, All-from_recursion, All-head, All-map, All-nil, All-tail, All-weaker}
+use Terms.{all_there, AllOf, ap, arith, bind-was, content_of, DwarfObject, each-all, Elf, elf_of}
+use Terms.{Encoding, encoding_in, encoding_of, Endianness, File, file_encoding, file_text}
+use Terms.{finished-is, finished-order, finished-own, first_encoding, found_counted, HasNamedUnits}
+use Terms.{Header, header_at, HoldsOwn, HoldsPlain, IndexEntry, inl, InProgress, Input, input-keeps}
 use Terms.{input_encoding, inr, IsSound, IsSoundBegun, Joins, kind_of, KindsDiffer, length}
 use Terms.{length-append, length-map, List, list_all, lookup, made-order, map, Meaning, meaning_at}
-use Terms.{Members, members, NamesItself, None, Ok, older_at, opened, Option, own_encoding, Package}
-use Terms.{package_of, package_or_new, place_of, ReadError, Reads, refl, same-begun, same-ok}
-use Terms.{same_name, section, section_has, sections-are, slice_get-get_or, Some, Source}
-use Terms.{source-made, source_units, subst, sym, takes, TakesUnits, true, unit_at, unit_at_row}
-use Terms.{unit_bytes, unit_in, units, units_begun, units_in, units_of, units_within, UnitSection}
-use Terms.{WasRead, with_input, written_elf, written_object, [], ℕ, ◌+◌, ◌<◌, ◌↔◌, ◌∙◌, ◌∷◌, ◌≡◌}
-use Rattle.thorin_again.proofs.Kept.OneEncoding.{taken-holds, taken-plain, units-hold, units-names}
-use Rattle.thorin_again.proofs.Kept.OneEncoding.{Before, begun-all, begun-now, CanMean, own-adds}
+use Terms.{Members, members, None, Ok, older_at, opened, Option, own_encoding, Package, package_of}
+use Terms.{package_or_new, place_of, ReadError, Reads, refl, same-begun, same-ok, same_name}
+use Terms.{section, section_has, sections-are, slice_get-get_or, Some, Source, source-made}
+use Terms.{source_units, subst, sym, takes, TakesUnits, true, unit_at, unit_at_row, unit_bytes}
+use Terms.{unit_in, units, units_begun, units_in, units_of, units_within, UnitSection, WasRead}
+use Terms.{with_input, written_elf, written_object, [], ℕ, ◌+◌, ◌<◌, ◌↔◌, ◌∙◌, ◌∷◌, ◌≡◌}
+use Rattle.thorin_again.proofs.Kept.OneEncoding.{Before, begun-now, CanMean, own-adds, taken-holds}
 use Rattle.thorin_again.specs.InFormat.{AreInFormat, HasEncodingOfOne, HaveEncodingsOf, IsInFormat}
-use Rattle.thorin_again.specs.OneEncoding.{AnswersOnceWritten, GivesWhole, HaveEncodingOnceWritten}
-use Rattle.thorin_again.specs.OneEncoding.{AnswersAs, IsOfEncoding, IsOfOneEncoding}
 use Rattle.thorin_join.specs.Builder.{finish_test, IsFinished, IsFinishedState, names_in, order_of}
-use Rattle.thorin_join.specs.Builder.{start, State, taken}
-use Rattle.std.proofs.Common.{MatchOption, unwrap_or}
-use Rattle.thorin_again.specs.{InFormat.IsOneOf, Own.has_sections, Own.packs_again}
-use Rattle.thorin_again.proofs.Kept.EachUnit.{input-rows, of-one, OfOne, order-added}
-use Rattle.std.proofs.lemmas.Map.Views.{IfSome-lookup_from_All}
-use Rattle.thorin_again.proofs.Opened.Sections.{first-written, input-encoding}
-use Rattle.thorin_again.proofs.Kept.Names.{HasInfo, info-there}
-use Rattle.thorin_again.proofs.Meant.RowByRow.{of-section, read-alone}
-use Rattle.dwp_bytes.specs.declared.encoding.Format.TheVariants.{Dwarf32}
-use Rattle.dwp_units.proofs.Readings.{one_answer}
+use Rattle.thorin_again.specs.OneEncoding.{HaveEncodingOnceWritten, IsOfEncoding, IsOfOneEncoding}
 use Rattle.thorin_again.specs.PlainInputs.{AreTaken, EachAdds, IsOfPlainObjects, IsPlainOf}
+use Rattle.thorin_again.proofs.Kept.OneEncoding.{taken-plain, units-hold, units-names}
+use Rattle.thorin_again.specs.OneEncoding.{AnswersAs, AnswersOnceWritten, GivesWhole}
+use Rattle.thorin_again.proofs.Kept.EachUnit.{input-rows, of-one, OfOne, order-added}
+use Rattle.thorin_again.specs.{InFormat.IsOneOf, Own.has_sections, Own.packs_again}
+use Rattle.thorin_again.proofs.Opened.Sections.{first-written, input-encoding}
+use Rattle.dwp_bytes.specs.declared.encoding.Format.TheVariants.{Dwarf32}
+use Rattle.thorin_again.proofs.Meant.RowByRow.{of-section, read-alone}
 use Rattle.thorin_join.specs.Join.{GivesNone, GivesUnit, look_limit}
+use Rattle.thorin_again.proofs.Opened.Indexes.{IsOwnRow, OwnMade}
+use Rattle.std.proofs.lemmas.Map.Views.{IfSome-lookup_from_All}
+use Rattle.thorin_again.proofs.Kept.Names.{HasInfo, info-there}
+use Rattle.std.proofs.Common.{get_or, MatchOption, unwrap_or}
+use Rattle.thorin_join.specs.Builder.{start, State, taken}
+use Rattle.dwp_units.proofs.Readings.{one_answer}
 use Rattle.dwp_index.specs.Package as index
 use Rattle.dwp_units.specs.declared.unit.UnitSection.TheVariants as places
 
@@ -62,19 +63,13 @@ packages-in-order Q P step accepted state are all none =
     accepted start state are all (tt, none)
 
 -- what a builder holds
-pub record Holds (state : State) : Type 0 where
-  pub sound : IsSoundBegun state.begun
-  pub own : HoldsOwn state
-  pub plain : HoldsPlain state
-
 pub inputs-hold : (accepted : List (List ℕ)) (state : State) → AreTaken accepted start state
-    → Holds state
-inputs-hold accepted state are =
-    in-order (λ bytes. Unit {0}) Holds (λ s targets h. assumption) (λ bytes old new q h took.
-    let own = taken-holds bytes old new h.sound h.own took in
-    let plain = taken-plain bytes old new h.sound h.plain took in
-    let keeps = input-keeps bytes old.begun new.begun h.sound (begun-now bytes old new took) in
-    assumption (keeps.sound, own, plain)) accepted start state are (λ k d within. tt) (grind arith)
+    → IsSoundBegun state.begun × HoldsOwn state × HoldsPlain state
+inputs-hold accepted state are = in-order (λ bytes. Unit {0}) (λ s. IsSoundBegun s.begun
+    × HoldsOwn s × HoldsPlain s) (λ s targets h. assumption) (λ bytes old new q h took.
+    let keeps = input-keeps bytes old.begun new.begun h.0 (begun-now bytes old new took) in
+    (keeps.sound, taken-holds bytes old new h.0 h.1 took, taken-plain bytes old new h.0 h.2 took))
+    accepted start state are (λ k d within. tt) (grind arith)
 
 -- plain objects of one encoding
 plain-is : (bytes : List ℕ) (e : Encoding) → (own_encoding bytes ≡ Ok (Some e)) ↔ IsPlainOf e bytes
@@ -217,24 +212,20 @@ input-order bytes file begun now order opens h =
 
 -- the header of each unit has the encoding that is recorded of it, in the package's byte order
 abbrev Encoded : Option InProgress → Type 0
-Encoded begun = (made : InProgress) → begun ≡ Some made → AreEncoded made.file.order (units_of made)
+Encoded begun = (order : Endianness) → AreEncoded (order_of begun order) (units_begun begun)
 
 input-encoded : (bytes : List ℕ) (begun now : Option InProgress)
     → IsOfOneEncoding bytes → Joins bytes (units_begun begun) (units_begun now)
     → with_input bytes begun ≡ Ok now → Encoded begun → Encoded now
-input-encoded bytes begun now one j h before made is =
+input-encoded bytes begun now one j h before order =
     let t = takes bytes begun now h in
-    let order = made.file.order in
-    let own : order_of begun t.file.order ≡ order =
-    sym (input-order bytes t.file begun now t.file.order t.opens h)
-    ∙ ap (λ b. order_of b t.file.order) is in
-    subst (λ b. AreEncoded order (units_begun b)) is (units-hold (IsEncoded order) j t
-    (λ u all read. subst (λ o. CanMean (IsEncoded o) u.source all)
-    (made-order t.file u.source.object begun u.object_is u.order_is ∙ new-order t.file begun ∙ own)
+    rw (input-order bytes t.file begun now order t.opens h) (units-hold
+    (IsEncoded (order_of begun t.file.order)) j t (λ u all read.
+    subst (λ o. CanMean (IsEncoded o) u.source all)
+    (made-order t.file u.source.object begun u.object_is u.order_is ∙ new-order t.file begun)
     (read-encoded u.source all
     (one t.file u.source.object u.source.encoding t.opens u.object_is u.encoding_is) read))
-    (begun-all (IsEncoded order) begun (λ old was. subst (λ o. AreEncoded o (units_of old))
-    (ap (λ b. order_of b t.file.order) (sym was) ∙ own) (before old was))))
+    (before t.file.order))
 
 -- the header of a unit that was found
 found-header : (pack : Package) (name : DwarfObject) (found : index.FoundUnit) (count : ℕ)
@@ -254,65 +245,54 @@ pub answers-whole : (order : Endianness) (units : Members) (file : File)
     → AreEncoded order units → (pack : Package) → package_of (file_text file) ≡ Ok pack
     → Finds pack units → AnswersAs units (file_text file)
 unfolding encoding_in package_of
-answers-whole order units file back same are pack parsed finds = record {
-  pack = pack;
-  parsed = parsed;
-  finds = λ name. by name (lookup (same_name name) units) (IfSome-lookup_from_All (IsEncoded order)
-      (same_name name) units (All-map (IsEncoded order) (λ (u : DwarfObject × Meaning). u.1) units
-      are)) (finds name);
-}
-  where
-    by : (name : DwarfObject) (found : Option Meaning) → IfSome found (IsEncoded order)
-        → MatchOption found (GivesNone pack name (look_limit units name))
-        (GivesUnit pack name (look_limit units name)) → MatchOption found
-        (GivesNone pack name (look_limit units name)) (GivesWhole pack name (look_limit units name))
-    by name None is h = h
-    by name (Some unit) is g =
-        let p = found-header pack name g.found g.count g.counted in
-        let order_is : pack.order ≡ order = grind (arith, back, parsed, same) in
-        let u = bind-was (unit_at p.0 (section order unit.bytes)) _ g.found.encoding
-        ((λ i. encoding_in (sym order_is i) p.0 (sym g.is.bytes i)) ∙ p.1) in
-        let encoding : g.found.encoding ≡ unit.encoding =
-        sym (same-ok {E = ReadError} _ _ u.2) ∙ is p.0 u.0.0 u.0.1 u.1 in
-        record { gives = g; encoding = encoding; string = g.is.string encoding }
+answers-whole order units file back same are pack parsed finds =
+    let whole = λ (name : DwarfObject) (unit : Meaning) (is : IsEncoded order unit)
+    (g : GivesUnit pack name (look_limit units name) unit).
+    let p = found-header pack name g.found g.count g.counted in
+    let order_is : pack.order ≡ order = grind (arith, back, parsed, same) in
+    let u = bind-was (unit_at p.0 (section order unit.bytes)) _ g.found.encoding
+    ((λ i. encoding_in (sym order_is i) p.0 (sym g.is.bytes i)) ∙ p.1) in
+    let encoding : g.found.encoding ≡ unit.encoding =
+    sym (same-ok {E = ReadError} _ _ u.2) ∙ is p.0 u.0.0 u.0.1 u.1 in
+    let made : GivesWhole pack name (look_limit units name) unit =
+    record { gives = g; encoding = encoding; string = g.is.string encoding } in made in
+    record {
+      pack = pack;
+      parsed = parsed;
+      finds = λ name. let is = IfSome-lookup_from_All (IsEncoded order) (same_name name) units
+          (All-map (IsEncoded order) (λ (u : DwarfObject × Meaning). u.1) units are) in
+          grind (arith, finds name, is, whole name);
+    }
 
 pub inputs-whole : (accepted : List (List ℕ)) (state : State) → AreTaken accepted start state
     → All IsOfOneEncoding accepted → (file : File) → finish_test state ≡ Ok tt
     → IsFinishedState state file → AnswersOnceWritten (units_in state) file
 inputs-whole accepted state are one file tested f differ back =
     let is = packages-in-order IsOfOneEncoding Encoded input-encoded accepted state are one
-    (λ made none. absurd cc) in
+    (λ order. All-nil (λ (u : DwarfObject × Meaning). IsEncoded order u.1)) in
     let p = finished-is state file is.0 tested f differ back in
-    answers-whole f.made.file.order (units_in state) file back
-    (finished-order f.made file f.finished) (rw f.begun (is.1 f.made f.begun)) p.pack p.parsed
-    p.finds
+    answers-whole _ (units_in state) file back (finished-order f.made file f.finished
+    ∙ ap (λ b. order_of b file.order) (sym f.begun)) (is.1 file.order) p.pack p.parsed p.finds
 
--- own packages
-module _ (order : Endianness) (encoding : Encoding) (contents : Contents)
-    (strings : List (List ℕ)) where
-  abbrev unit_of : IndexEntry → DwarfObject × Meaning
-  unit_of row = (row.id, meaning_at order contents strings row)
-
-  abbrev Is : DwarfObject × Meaning → Type 0
-  Is u = IsEncoded order u.1
-
-  pub rows-encoded : (rows : List IndexEntry)
-      → AreRowsOf order contents strings rows (map {B = DwarfObject × Meaning} unit_of rows)
-      → EachRow (NamesItself order encoding contents) rows → AllOf encoding (map {B = DwarfObject
-      × Meaning} unit_of rows) → All Is (map {B = DwarfObject × Meaning} unit_of rows)
-  unfolding encoding_in
-  rows-encoded [] are names all = All-nil Is
-  rows-encoded (r ∷ rs) are names all =
-      let owns = are.0.owns in
-      let bytes = unit_bytes contents r in
-      let u = bind-was (unit_at owns.place (section order bytes)) _ owns.encoding owns.header in
-      let named = names.0 u.0.0 u.0.1 (ap (λ p. unit_at p (section order bytes))
-      (sym owns.place_is) ∙ u.1) in
-      let has = λ (u : DwarfObject × Meaning). u.1.encoding ≡ encoding in
-      let units = map {B = DwarfObject × Meaning} unit_of rs in
-      All-cons Is (unit_of r) units (λ place found rest is. places-encoding place owns.place
-      (section order bytes) (found, rest) u.0 is u.1 ∙ named.0 ∙ sym (All-head has
-      (unit_of r) units all)) (rows-encoded rs are.1 names.1 (All-tail has (unit_of r) units all))
+-- so are those of an own package
+pub rows-encoded : {encoding : Encoding} {made : InProgress} → OwnMade encoding made
+    → HasNamedUnits encoding made → AreEncoded made.file.order (units_of made)
+unfolding encoding_in
+rows-encoded {encoding} {made} own names =
+    let order = made.file.order in
+    let c = made.file.contents in
+    let mean = meaning_at order c made.strings in
+    All-map (λ (u : DwarfObject × Meaning). IsEncoded order u.1)
+    (λ (row : IndexEntry). (row.id, mean row)) made.rows (λ k d within.
+    let row = get_or made.rows k d in
+    let owns = (All-from_recursion (IsOwnRow made) made.rows own.rows k d within).owns in
+    let bytes = unit_bytes c row in
+    let u = bind-was (unit_at owns.place (section order bytes)) _ owns.encoding owns.header in
+    let named = All-from_recursion _ made.rows names k d within u.0.0 u.0.1
+    (ap (λ p. unit_at p (section order bytes)) (sym owns.place_is) ∙ u.1) in
+    let all = All-from_recursion (λ row. row.encoding ≡ encoding) made.rows own.all k d within in
+    λ place found rest is. places-encoding place owns.place (section order bytes) (found, rest) u.0
+    is u.1 ∙ named.0 ∙ sym all)
 
 -- a unit is encoded, and has the encoding
 abbrev pub IsAlike : Endianness → Encoding → DwarfObject × Meaning → Type 0
@@ -372,14 +352,17 @@ inputs-alike e accepted state are one file f differ back k d within =
     let units = All-nil (λ (u : DwarfObject × Meaning). u.1.encoding ≡ e) in
     let is = packages-in-order (IsOfEncoding e) (λ begun. Encoded begun × Filled e begun)
     (λ bytes begun now q j h before. let encoded = input-encoded bytes begun now q.0 j h before.0 in
-    (encoded, input-filled e bytes begun now q j h before.1)) accepted state are one
-    (λ made none. absurd cc, (units, λ made none. absurd cc)) in
+    (encoded, input-filled e bytes begun now q j h before.1)) accepted state are one (
+      λ order. All-nil (λ (u : DwarfObject × Meaning). IsEncoded order u.1),
+      (units, λ made none. absurd cc),
+    ) in
     let made = f.made in
     let filled = is.1.1 in
     let all : AllOf e (units_of made) = subst (AllOf e) (ap units_begun f.begun) filled.0 in
+    let encoded = rw f.begun at (is.1.0 file.order) in
     let long = ap (λ b. length (units_begun b)) f.begun ∙ length-map made.rows _ in
     let some = filled.1 made f.begun (omega (arith, long, within)) in
     let first = first-of made file e (subst IsSoundBegun f.begun is.0) f.finished differ
-    (λ k d within. (is.1.0 made f.begun k d within, all k d within))
+    (λ k d within. (encoded k d within, all k d within))
     (subst (λ l. 0 < length l) (sym (finished-own made file f.finished places.Info)) some) in
     input-encoding file differ back ∙ first ∙ ap Ok (sym (filled.0 k d within))

@@ -8,33 +8,34 @@ use Terms.{DwarfObject, EachRow, Encoding, eqb-false, ErrorValue, false, File, f
 use Terms.{get_or-map, get_or_from_slice_get, HasRows, Header, identifier_of, identity-shifted}
 use Terms.{Index, IndexEntry, Indexes, InProgress, is_at, is_chosen, is_shared, is_used, IsPlain}
 use Terms.{IsTable, joined_parts, kind-place, kind_of, KindsDiffer, length, length-append}
-use Terms.{length-map, LieInside, List, lookup, map, moved, name_for, NamesItself, New, new_units}
-use Terms.{NewUnit, None, Ok, Option, own_source, part-there, parts_of, place-put, place_of}
-use Terms.{range-none, range_in, ReadError, refl, Result, row_of, row_test, rows_of, same-self}
-use Terms.{same_name, same_name-sym, same_place, section, SectionKind, slice_get, slice_get_within}
-use Terms.{Some, sound-inside, Source, StrOffsets, subst, sym, true, unit_section, units}
-use Terms.{UnitSection, Used, written_used, [], ℕ, ◌++◌, ◌+◌, ◌<◌, ◌>>=◌, ◌∙◌, ◌∷◌, ◌≡◌, ◌≤◌, ◌⊎◌}
-use Rattle.std.proofs.Common.{Bool, eqb, is_some, le-leb, ◌||◌, ◌≢◌}
-use Rattle.thorin_input.specs.Adjusting.{has_column_for, moved_range, other_index, without_column}
-use Rattle.thorin_again.proofs.Opened.Sections.{and-then, rest-differ, section_of, then-fares}
-use Rattle.thorin_again.proofs.Opened.Sections.{answered, behind, Fares, front, Unless}
-use Rattle.thorin_input.specs.NewUnits.{is_met, with_each_section, with_section_at, with_section_in}
-use Rattle.thorin_input.specs.NewUnits.{kept_bytes, SeenSections, with_each_read, with_section}
-use Rattle.thorin_input.specs.NewUnits.{none_met, once_test, with_first, with_read, with_unit}
-use Rattle.thorin_again.proofs.Meant.RowByRow.{IsUnitOf, of-section, read-alone, row-there}
-use Rattle.thorin_again.proofs.Meant.RowByRow.{place-eq, place-is}
-use Rattle.thorin_again.proofs.Meant.OneRow.{found-range, found-row, named-again, parts, row-tested}
-use Rattle.thorin_join.proofs.Rows.OfUnits.{adjustor, own-index, some-index, whole-part}
+use Terms.{length-map, LieInside, List, map, moved, name_for, NamesItself, New, new_units, NewUnit}
+use Terms.{None, Ok, Option, own_source, part-there, parts_of, place-put, place_of, range-none}
+use Terms.{range_in, ReadError, refl, Result, row_of, row_test, rows_of, same-self, same_name}
+use Terms.{same_name-sym, same_place, section, SectionKind, slice_get, slice_get_within, Some}
+use Terms.{sound-inside, Source, StrOffsets, subst, sym, true, unit_section, units, UnitSection}
+use Terms.{Used, written_used, [], ℕ, ◌++◌, ◌+◌, ◌<◌, ◌>>=◌, ◌∙◌, ◌∷◌, ◌≡◌, ◌≤◌, ◌⊎◌}
+use Rattle.thorin_again.proofs.Meant.RowByRow.{IsUnitOf, of-section, place-eq, place-is, read-alone}
+use Rattle.thorin_input.specs.NewUnits.{with_read, with_section, with_section_at, with_section_in}
+use Rattle.thorin_again.proofs.Meant.OneRow.{found-range, found-row, named-again, parts, row-lies}
+use Rattle.thorin_input.specs.{Adjusting.own_index, Adjusting.without_column, NewUnits.with_unit}
+use Rattle.thorin_input.specs.NewUnits.{with_each_read, with_each_section, with_first, with_met}
+use Rattle.thorin_input.specs.NewUnits.{is_met, kept_bytes, none_met, once_test, SeenSections}
+use Rattle.std.proofs.{ByRecursion.All-append, lemmas.Map.lookup-none, lemmas.Map.NonePasses}
+use Rattle.thorin_input.specs.Adjusting.{Adjustor, has_column_for, moved_range, other_index}
+use Rattle.thorin_again.proofs.Opened.Sections.{rest-differ, section_of, then-fares, Unless}
 use Rattle.thorin_join.proofs.{Files.Finished.finished-grows, Parts.Added.copied-or-offsets}
-use Rattle.dwp_base.specs.Reading.{read_each}
-use Rattle.thorin_input.specs.{Adjusting.Adjustor, Adjusting.own_index, NewUnits.with_met}
+use Rattle.thorin_again.proofs.Opened.Sections.{and-then, answered, behind, Fares, front}
+use Rattle.thorin_join.proofs.Rows.OfUnits.{adjustor, own-index, some-index, whole-part}
 use Rattle.thorin_input.specs.Rows.{adjusted_contribution, unit_contribution, unit_row}
-use Rattle.thorin_again.proofs.Offsets.RewrittenAgain.{at-row, by-passing, used-chosen}
+use Rattle.thorin_again.proofs.Offsets.RewrittenAgain.{any-chosen, at-row, by-passing}
 use Rattle.thorin_again.proofs.Opened.Indexes.{finished-shared, IsReadOf, lie-kept}
-use Rattle.thorin_again.proofs.{Kept.Names.keep-names, Meant.OneRow.row-lies}
+use Rattle.thorin_again.proofs.Meant.{OneRow.row-tested, RowByRow.row-there}
 use Rattle.thorin_join.proofs.Parts.ReadAlike.{parts-first, rows-read}
-use Rattle.std.proofs.Math.Bool.{and-false}
+use Rattle.std.proofs.Common.{Bool, eqb, is_some, le-leb, ◌||◌, ◌≢◌}
+use Rattle.thorin_again.proofs.Kept.Names.{keep-names}
 use Rattle.thorin_errors.specs.Errors.{DuplicateUnit}
+use Rattle.dwp_base.specs.Reading.{read_each}
+use Rattle.std.proofs.Math.Bool.{and-false}
 
 -- a unit's part is moved
 abbrev Fine : {X : Type 0} → Result X ErrorValue → Type 0
@@ -87,7 +88,8 @@ module _ {encoding : Encoding} {file : File} {indexes : Indexes} {made : InProgr
       let moved = moved-fine kind (identifier_of row.id) range x before (λ r e.
       let there = sym (found-range is u kind) ∙ e in
       let i = inside.inside kind r there in (omega (arith, i, long), inside.some kind r there)) in
-      let used = λ (some : 0 < length x). used-chosen kind made.rows (plain.named kind shared
+      let used = λ (some : 0 < length x). any-chosen (λ row. is_some (contribution_to kind row))
+      made.rows (plain.named kind shared
       (rw (← finished-shared made file is.finished kind shared) (omega (arith, some, long)))) in
       let compilations = column-there kind true a.compilation is.compilations in
       let types = column-there kind false a.types is.types in
@@ -111,14 +113,7 @@ module _ {encoding : Encoding} {file : File} {indexes : Indexes} {made : InProgr
 
 -- none of the units has the name
 abbrev pub Free : DwarfObject → New → Type 0
-Free name new = lookup (same_name name) new.units ≡ None
-
--- with a unit of another name it stays so
-pub free-more : (name other : DwarfObject) (units : List (DwarfObject × NewUnit)) (u : NewUnit)
-    → lookup (same_name name) units ≡ None → same_name name other ≡ false → lookup (same_name name)
-    (units ++ (other, u) ∷ []) ≡ None
-free-more name other [] u h e = rw e refl
-free-more name other (x ∷ xs) u h e = grind (arith, free-more name other xs u)
+Free name new = NonePasses (same_name name) new.units
 
 pub flips : (a b : DwarfObject) → same_name a b ≡ same_name b a
 flips a b = both_ways (same_name a b) (same_name b a) (same_name-sym a b) (same_name-sym b a)
@@ -223,13 +218,13 @@ module _ (Fresh : Type 0) (E : ErrorValue → Type 0)
         ∙ unmet) (λ here. omega (arith, long)) in
         then-fares E (Added r.id new) _ (with_read add from new (Ok h))
         (λ next. with_each_read add from next reads) (rw named (unit-fares h new given.0
-        (kept_bytes add.held new.units r.id) r.id (λ f. rw (none_there f, free f) refl)
+        (kept_bytes add.held new.units r.id) r.id (λ f. rw (none_there f, lookup-none _ _ (free f)) refl)
         (rw from_is (row-tested is u)) given.1))
         (λ next more. later next (λ f n row there to_come last.
         let other : n ≢ place_at = λ same. grind (arith, last, there, at, u.here, long) in
-        rw (more f).1 (free-more row.id r.id new.units (more f).0
+        rw (more f).1 (All-append (λ u. same_name row.id u.0 ≡ false) new.units (_ ∷ [])
         (left f n row there to_come (λ here. omega (arith, last here)))
-        (rows-differ made.rows is.own.sound.apart n place_at row r there at other))))
+        (rows-differ made.rows is.own.sound.apart n place_at row r there at other, tt))))
 
     -- all of the section
     section-taken : (new : New) → Open met new → Fares E (Open (with_met place met))
@@ -285,4 +280,4 @@ module _ (Fresh : Type 0) (E : ErrorValue → Type 0)
   unfolding new_units
   taken-all = then-fares E (λ next. Unit {0}) (λ new. Unit {0}) _ _
       (each-taken file.contents is.kinds (λ kind some. refl) none_met _
-      (λ place some. grind arith) (λ fresh n row at unmet. refl)) (λ all h. tt)
+      (λ place some. grind arith) (λ fresh n row at unmet. tt)) (λ all h. tt)

@@ -4,35 +4,34 @@ use Rattle.thorin_again.proofs.Terms
 use Terms.{abbreviations_test, adding, All-from_recursion, AllOf, ap, append_assoc, arith, both}
 use Terms.{content_of, counts_once, data_of, DwarfObject, elf_of, Encoding, ErrorValue, false, File}
 use Terms.{file_encoding, file_text, finished-is, finished-order, finished-own, finished-strings}
-use Terms.{HoldsOwn, HoldsPlain, Indexes, indexes_of, inl, InProgress, input-keeps, input_meaning}
-use Terms.{inr, is_used, IsEquivalence, IsForeseen, IsOwn, IsPermutation-map, IsPlain, IsSoundBegun}
-use Terms.{joining, Joins, keys, keys-units, KindsDiffer, length, length-append, length-map, List}
-use Terms.{list_any-append, list_any_none, lookup, Meaning, Members, nat_tests, new-sound}
-use Terms.{new_units, None, Ok, Option, own_encoding, own_source, package_or_new, Parts, parts_of}
-use Terms.{refl, rewritten, same_name, same_name-self, same_name-true, SectionKind, Some, subst}
-use Terms.{sym, true, units_begun, units_in, units_of, with_source, written_elf, written_object, []}
-use Terms.{IsSound, ℕ, ◌++◌, ◌<◌, ◌∙◌, ◌∷◌, ◌≡◌}
-use Rattle.thorin_again.proofs.Lists.{answers-whole, AreEncoded, Finds, input-order, rows-encoded}
+use Terms.{HoldsOwn, HoldsPlain, Indexes, indexes_of, inl, input-keeps, inr, is_used, IsEquivalence}
+use Terms.{IsForeseen, IsOwn, IsPermutation-map, IsPlain, IsSoundBegun, joining, keys, keys-units}
+use Terms.{KindsDiffer, length, length-append, length-map, List, list_any-append, list_any_none}
+use Terms.{lookup, nat_tests, new-sound, new_units, None, Ok, own_encoding, own_source}
+use Terms.{package_or_new, Parts, parts_of, refl, rewritten, same_name, same_name-self}
+use Terms.{same_name-true, SectionKind, Some, subst, sym, take-length, true, units_begun, units_in}
+use Terms.{units_of, with_source, written_elf, written_object, [], ℕ, ◌++◌, ◌<◌, ◌∙◌, ◌∷◌, ◌≡◌}
+use Rattle.thorin_again.proofs.Opened.Indexes.{offsets-are, own-made, own-offsets, OwnMade, read-of}
+use Rattle.thorin_again.proofs.Opened.Sections.{and-then, answered, info-written, input-encoding}
+use Rattle.thorin_again.proofs.Lists.{answers-whole, AreEncoded, first-of, input-order, meant_or}
+use Rattle.thorin_again.proofs.{Lists.rows-encoded, Lists.there-back, Opened.Indexes.up-to-parts}
+use Rattle.thorin_again.proofs.Opened.Indexes.{finished-shared, in-format, lie-kept, lie-used}
+use Rattle.thorin_join.specs.Builder.{begun_by, finish_test, IsFinishedState, order_of, start}
 use Rattle.std.proofs.Common.{Bool, cond, filter, IsPermutation, ltb-true, nat_lt, not, ◌||◌}
-use Rattle.thorin_join.specs.Builder.{begun_by, finish_test, IsFinishedState, with_source_or_new}
-use Rattle.thorin_join.specs.Builder.{order_of, start, State, taken}
-use Rattle.thorin_again.proofs.Opened.Indexes.{in-format, lie-kept, lie-used, own-made, up-to-parts}
-use Rattle.thorin_again.proofs.Opened.Indexes.{finished-shared, own-offsets, own-offsets-alone}
-use Rattle.thorin_again.proofs.Opened.Sections.{and-then, info-written, object-written, opened-elf}
-use Rattle.thorin_again.proofs.Opened.Sections.{input-encoding, own-parts-tried, present-written}
-use Rattle.thorin_again.proofs.{Accepted.OwnUnits.taken-all, Kept.OneEncoding.begun-now}
-use Rattle.thorin_again.proofs.{Accepted.OwnUnits.flips, Lists.there-back, Opened.Sections.answered}
-use Rattle.thorin_again.proofs.{Lists.first-of, Opened.Indexes.OwnMade, Opened.Indexes.read-of}
-use Rattle.thorin_again.proofs.{Lists.meant_or, Meant.Package.again-is, Opened.Sections.Unless}
-use Rattle.std.proofs.lemmas.List.Sorted.{IsPermutation-middle, sum_by-IsPermutation}
-use Rattle.std.specs.List.{IsDistinct}
-use Rattle.std.proofs.{lemmas.List.Sums.length-filter, lemmas.Simd.map-map}
+use Rattle.thorin_again.proofs.Opened.Sections.{object-written, opened-elf, own-parts-tried}
 use Rattle.std.proofs.lemmas.Map.Keys.{IsDistinct-from_apart, IsDistinct-IsPermutation}
-use Rattle.indexmap.proofs.MapLemmas.{lookup_permutation}
-use Rattle.thorin_join.specs.Join.{IsPackageOf, limit_of, look_limit, same_sort}
-use Rattle.thorin_again.specs.OwnAccepted.{IsAccepted, IsAcceptedByNew}
-use Rattle.thorin_again.specs.Again.{all_meant, HaveEncodingOf}
+use Rattle.std.proofs.lemmas.List.Sorted.{IsPermutation-middle, sum_by-IsPermutation}
+use Rattle.thorin_again.proofs.{Kept.OneEncoding.begun-now, Meant.Package.again-is}
 use Rattle.thorin_again.specs.Own.{has_content, has_sections, packs_again}
+use Rattle.thorin_again.proofs.Opened.Sections.{present-written, Unless}
+use Rattle.thorin_join.specs.Builder.{State, taken, with_source_or_new}
+use Rattle.thorin_again.specs.OwnAccepted.{IsAccepted, IsAcceptedByNew}
+use Rattle.std.proofs.lemmas.{List.Sums.length-filter, Simd.map-map}
+use Rattle.thorin_join.specs.Join.{limit_of, look_limit, same_sort}
+use Rattle.thorin_again.proofs.Accepted.OwnUnits.{flips, taken-all}
+use Rattle.thorin_again.specs.Again.{all_meant, HaveEncodingOf}
+use Rattle.indexmap.proofs.MapLemmas.{lookup_permutation}
+use Rattle.std.specs.List.{IsDistinct}
 use Rattle.dwp_base.specs.declared.section.SectionKind.TheVariants as kinds
 use Rattle.dwp_units.specs.declared.unit.UnitSection.TheVariants as places
 
@@ -76,25 +75,6 @@ joining-apart names (u ∷ us) h =
     let rest = joining-apart (names ++ u.0 ∷ []) us in
     grind (arith, new, there, h, rest, append_assoc names (u.0 ∷ []) (keys us))
 
--- the units that were joined alone are those that the input means
-alone-units : (bytes : List ℕ) (us now : Members) → IsDistinct same_name (keys us)
-    → Joins bytes [] now → ((meant : List (DwarfObject × Option Meaning))
-    → input_meaning bytes ≡ Ok meant → IsPermutation (all_meant us) meant) → IsPermutation us now
-alone-units bytes us now distinct joins means =
-    let perm = means joins.units joins.meaning in
-    let units : joins.units ≡ all_meant joins.added = sym (joining-apart [] joins.units (apart-again
-    (all_meant us) joins.units perm (rw map-map distinct))) ∙ joins.joined in
-    let full = IsPermutation-map meant_or (all_meant us) _ (rw units at perm) in
-    rw joins.is (rw (there-back us, there-back joins.added) at full)
-
--- look-ups in a package of these units find them, in whatever order
-alone-finds : (us vs : Members) (bytes : List ℕ) → IsPermutation us vs → IsDistinct same_name
-    (keys us) → (p : IsPackageOf vs bytes) → Finds p.pack us
-alone-finds us vs bytes perm distinct p name =
-    let limit : look_limit us name ≡ look_limit vs name =
-    ap limit_of (count-again (λ u. same_sort name u.0) us vs perm) in
-    rw (limit, found-again us vs distinct perm name) (p.finds name)
-
 -- what the state of a written file has
 data-there : (strings : List (List ℕ)) → 0 < length strings → 0 < length (data_of strings)
 data-there [] h = absurd (omega (arith, h))
@@ -124,20 +104,17 @@ module _ (state : State) (file : File) (sound : IsSoundBegun state.begun) (holds
   all : AllOf encoding (units_of f.made)
   all = subst (λ b. AllOf encoding (units_begun b)) f.begun (holds.all encoding there.1)
 
+  has : OwnMade encoding f.made
+  has = own-made sound tested f (holds.some encoding there.1) (holds.all encoding there.1)
+
   encoded : AreEncoded f.made.file.order (units_of f.made)
-  encoded =
-      let fine : IsSound f.made = rw f.begun at sound in
-      rows-encoded f.made.file.order encoding f.made.file.contents f.made.strings f.made.rows
-      fine.units.rows plain.units all
+  encoded = rows-encoded has plain.units
 
   abbrev own : IsOwn state encoding file
   own =
-      let first = first-of _ file encoding (rw f.begun at sound) f.finished differ
+      let first = first-of _ file encoding has.sound f.finished differ
       (λ k d within. (encoded k d within, all k d within)) info in
       assumption (holds.some encoding there.1, holds.all encoding there.1, info, first)
-
-  has : OwnMade encoding f.made
-  has = own-made own
 
   has-both : (has_content kinds.Abbrev f.made ≡ true)
       × ((not (has_content kinds.StrOffsets f.made) || nat_lt 0 (length f.made.strings)) ≡ true)
@@ -167,25 +144,21 @@ module _ (state : State) (file : File) (sound : IsSoundBegun state.begun) (holds
       grind (arith, plain.named kind, finished-shared f.made file f.finished kind)
 
   -- they are, or refused with an error of some sort, where its string offsets and its units are
-  abbrev TakesUnless : (ErrorValue → Type 0) → Indexes → InProgress → Type 0
-  TakesUnless E indexes before = let source = own_source file encoding indexes in
-      Unless E (rewritten source (content_of kinds.StrOffsets file.contents) before.strings)
-      × ((p : Parts) → parts_of source before.strings ≡ Ok p
-      → Unless E (new_units (adding source before p.0)))
-
   taken-unless : (E : ErrorValue → Type 0) (before : State)
       → order_of before.begun file.order ≡ file.order
-      → ((indexes : Indexes) → indexes_of (written_object file) encoding ≡ Ok indexes
-      → TakesUnless E indexes (package_or_new (written_elf file) before.begun))
-      → Unless E (taken (file_text file) before)
+      → ((indexes : Indexes) → indexes_of (written_object file) encoding ≡ Ok indexes →
+      let source = own_source file encoding indexes in
+      let now = package_or_new (written_elf file) before.begun in
+      Unless E (rewritten source (content_of kinds.StrOffsets file.contents) now.strings)
+      × ((p : Parts) → parts_of source now.strings ≡ Ok p
+      → Unless E (new_units (adding source now p.0)))) → Unless E (taken (file_text file) before)
   unfolding taken with_source_or_new with_source own_encoding file_encoding
   taken-unless E before same takes =
       let t = up-to-parts state encoding file own before.begun same in
       let given = takes t.indexes t.read in
       let parts = own-parts-tried E (own_source file encoding t.indexes) file.contents
       (package_or_new (written_elf file) before.begun).strings refl differ (record {
-        format = λ kind some. in-format encoding f.made.rows has.version has.tests.compilation_rows
-            has.tests.type_rows kind (kind-used kind some);
+        format = λ kind some. in-format has kind (kind-used kind some);
         offsets = λ some. (strings-there some, given.0);
       }) in
       let opens = opened-elf (file_text file) (written_elf file) back in
@@ -212,7 +185,8 @@ module _ (state : State) (file : File) (sound : IsSoundBegun state.begun) (holds
       let table = (new-sound (written_elf file) None tt).units.table in
       let units = taken-all (Unit {0}) (λ e. ⊥) (inl tt) is plain (begun_by (written_elf file))
       (λ fresh. refl) in
-      (rw (own-offsets-alone is plain).1 tt, λ p e. units p.0 p.1 table e)))
+      let given = plain.offsets.strings _ has.sound.units.table (take-length f.made.strings) in
+      (rw (offsets-are is plain [], given.1) tt, λ p e. units p.0 p.1 table e)))
 
   -- and has their units then
   pub own-by-new : IsAcceptedByNew (units_in state) file
@@ -225,8 +199,14 @@ module _ (state : State) (file : File) (sound : IsSoundBegun state.begun) (holds
       input-encoding file differ back ∙ own.first ∙ ap Ok (sym (own.all k d within)) in
       let distinct = subst (λ b. IsDistinct same_name (keys (units_begun b))) (sym f.begun)
       (rw (keys-units f.made) (IsDistinct-from_apart same_name _ has.sound.apart)) in
-      let perm = alone-units bytes (units_in state) (units_in after) distinct keeps.joins
-      (again-is state file sound tested f differ back encodings start after new-accepted.1) in
+      let j = keeps.joins in
+      let means = again-is state file sound tested f differ back encodings start after
+      new-accepted.1 j.units j.meaning in
+      let units : j.units ≡ all_meant j.added = sym (joining-apart [] j.units (apart-again
+      (all_meant (units_in state)) j.units means (rw map-map distinct))) ∙ j.joined in
+      let perm : IsPermutation (units_in state) (units_in after) =
+      let full = IsPermutation-map meant_or (all_meant (units_in state)) _ (rw units at means) in
+      rw j.is (rw (there-back (units_in state), there-back j.added) at full) in
       record {
         after = after;
         is = new-accepted.1;
@@ -238,6 +218,8 @@ module _ (state : State) (file : File) (sound : IsSoundBegun state.begun) (holds
             ∙ input-order bytes (written_elf file) None after.begun file.order
             (opened-elf bytes (written_elf file) back) input ∙ finished-order _ _ f.finished in
             answers-whole f.made.file.order (units_in state) alone read same (rw f.begun encoded)
-            p.pack p.parsed (alone-finds (units_in state) (units_in after) (file_text alone) perm
-            distinct p);
+            p.pack p.parsed (λ name.
+            let limit : look_limit (units_in state) name ≡ look_limit (units_in after) name =
+            ap limit_of (count-again (λ u. same_sort name u.0) (units_in state) _ perm) in
+            rw (limit, found-again (units_in state) _ distinct perm name) (p.finds name));
       }

@@ -13,16 +13,16 @@ use Terms.{recursion_from_All, refl, row_at, rows_begun, same-begun, same-ok, sa
 use Terms.{section, section_has, SectionKind, sections-are, slice_get_within, Source, source-made}
 use Terms.{subst, sym, takes, true, UnitRead, units, UnitSection, Used, WasRead, with_all_parts}
 use Terms.{with_input, with_new_units, with_unit_added, [], ℕ, ◌++◌, ◌<◌, ◌∙◌, ◌∷◌, ◌≡◌}
-use Rattle.thorin_join.proofs.Parts.Added.{content-with_bytes, each-unit as unit-by-unit, step}
-use Rattle.thorin_join.proofs.Parts.Added.{content-with_parts, joined_parts-other}
-use Rattle.thorin_join.proofs.Rows.OfUnits.{adjusted-plain, is-unit_row, whole-else, whole-part}
 use Rattle.thorin_join.proofs.Units.ReadInTurn.{AllSo, IsAdded, News, units-joined, UnitsJoined}
-use Rattle.thorin_join.proofs.{Rows.OfUnits.IsUnitRow, Rows.OneAdded.row-part}
-use Rattle.std.proofs.{ByRecursion.All-append, lemmas.List.Sums.AllPass-from_list_all}
-use Rattle.std.proofs.Common.{eqb, eqb-true, is_some}
+use Rattle.thorin_join.proofs.Parts.Added.{each-unit as unit-by-unit, joined_parts-other, step}
+use Rattle.thorin_join.proofs.Rows.OfUnits.{adjusted-plain, is-unit_row, IsUnitRow, whole-else}
+use Rattle.std.proofs.{ByRecursion.All-append, Common.eqb, Common.eqb-true, Common.is_some}
+use Rattle.thorin_join.proofs.Parts.Added.{content-with_bytes, content-with_parts}
 use Rattle.thorin_join.proofs.Units.Whole.{Goes, IsKnown, known-in, units-go}
-use Rattle.thorin_again.specs.InFormat.{IsInFormat}
+use Rattle.thorin_join.proofs.Rows.{OfUnits.whole-part, OneAdded.row-part}
 use Rattle.thorin_input.specs.Parts.{with_each_part, with_part}
+use Rattle.std.proofs.lemmas.List.Sums.{AllPass-from_list_all}
+use Rattle.thorin_again.specs.InFormat.{IsInFormat}
 
 -- encodings that are alike are one
 pub encoding-eq : (a b : Encoding) → same_encoding a b ≡ true → a ≡ b

@@ -16,24 +16,25 @@ use Terms.{same_kind, same_name, same_name-self, same_name-true, section, sectio
 use Terms.{slice_get, Some, sound-inside, Source, subst, sym, true, type_signature, unit_at}
 use Terms.{unit_bytes, unit_section, UnitRead, units, units_within, Used, WasRead, with_bytes}
 use Terms.{with_new_units, with_unit_added, [], ℕ, ◌++◌, ◌<◌, ◌∙◌, ◌∷◌, ◌≡◌, ◌⊎◌}
-use Rattle.thorin_join.proofs.Rows.OneAdded.{content-put, grows-with_bytes, keep-part, whole_behind}
-use Rattle.thorin_join.proofs.Rows.OneAdded.{front-long, grows-trans, own-place, row-name, row-own}
-use Rattle.thorin_again.proofs.Kept.EachUnit.{InFormat, news-are, shared-row, with-any, with-each}
-use Rattle.thorin_again.proofs.Kept.EachUnit.{each-added, each-format, order-added, plain-part}
-use Rattle.thorin_again.proofs.Kept.EachUnit.{joined, of-one, OfOne, parted}
-use Rattle.dwp_units.{proofs.Readings.more, proofs.Readings.takes_more, specs.Units.older_type_at}
-use Rattle.thorin_join.{proofs.Rows.OneAdded.Grows, specs.State.names_of, specs.State.with_new_unit}
+use Rattle.thorin_again.proofs.Kept.EachUnit.{each-added, each-format, InFormat, joined, news-are}
 use Rattle.dwp_dwarf.proofs.{Offsets.from_is, Offsets.from_within, Tables.next_takes, Tables.said}
-use Rattle.dwp_dwarf.specs.{Grammar.DeclarationsLie, Grammar.IsBehindOthers, Offsets.from_at}
-use Rattle.dwp_dwarf.specs.Abbreviations.{Declaration, declaration}
-use Rattle.thorin_join.specs.Meaning.{joined_content, named_at, named_each, named_sections}
-use Rattle.thorin_join.proofs.Units.ReadInTurn.{added-keys, each-named, IsAdded, Listed, News}
-use Rattle.thorin_again.proofs.Meant.RowByRow.{part-middle}
-use Rattle.thorin_join.proofs.Rows.AllAdded.{AllNew, can-lie, joined-new, names-added}
-use Rattle.std.proofs.ByRecursion.{All-append}
-use Rattle.thorin_input.specs.Parts.{with_parts}
-use Rattle.thorin_join.proofs.Units.Whole.{Goes, goes-alone, identity-sort, known-in}
+use Rattle.dwp_dwarf.specs.{Abbreviations.Declaration, Abbreviations.declaration, Offsets.from_at}
+use Rattle.dwp_units.{proofs.Readings.more, proofs.Readings.takes_more, specs.Units.older_type_at}
 use Rattle.thorin_join.proofs.Parts.Added.{content-with_bytes, content-with_parts, parts-copied}
+use Rattle.thorin_join.proofs.Rows.OneAdded.{grows-with_bytes, keep-part, own-place, row-name}
+use Rattle.thorin_join.proofs.Units.ReadInTurn.{added-keys, each-named, IsAdded, Listed, News}
+use Rattle.thorin_again.proofs.Kept.EachUnit.{of-one, OfOne, order-added, parted, plain-part}
+use Rattle.thorin_join.specs.Meaning.{joined_content, named_at, named_each, named_sections}
+use Rattle.thorin_join.proofs.Rows.OneAdded.{content-put, front-long, Grows, grows-trans}
+use Rattle.thorin_join.proofs.Rows.AllAdded.{AllNew, can-lie, joined-new, names-added}
+use Rattle.thorin_join.proofs.Units.Whole.{Goes, goes-alone, identity-sort, known-in}
+use Rattle.thorin_again.proofs.Kept.EachUnit.{shared-row, with-any, with-each}
+use Rattle.dwp_dwarf.specs.Grammar.{DeclarationsLie, IsBehindOthers}
+use Rattle.thorin_join.proofs.Rows.OneAdded.{row-own, whole_behind}
+use Rattle.thorin_join.specs.State.{names_of, with_new_unit}
+use Rattle.thorin_again.proofs.Meant.RowByRow.{part-middle}
+use Rattle.thorin_input.specs.Parts.{with_parts}
+use Rattle.std.proofs.ByRecursion.{All-append}
 use Rattle.dwp_base.specs.declared.section.SectionKind.TheVariants as kinds
 use Rattle.dwp_units.specs.declared.unit.UnitSection.TheVariants as places
 
@@ -65,16 +66,12 @@ module _ (rest : List ℕ) where
       let front = drop-append-le offset i.bytes rest in
       grind (arith, from_is offset i, fits, length-append i.bytes rest, front)
 
-  root-stays : (section : Input) (unit : Header) (name : Option DwarfObject)
-      → root_identity section unit ≡ Ok name → root_identity (more section rest) unit ≡ Ok name
-  unfolding root_identity
-  root-stays section unit name h = grind (arith, from-stays unit.abbrev_offset section, found-stays)
-
 -- the identity that a unit has by a table of abbreviations it has too where bytes follow the table
 pub identity-stays : (section : Input) (rest : List ℕ) (unit : Header) (name : Option DwarfObject)
     → identity section unit ≡ Ok name → identity (more section rest) unit ≡ Ok name
-unfolding identity
-identity-stays section rest unit name h = grind (arith, root-stays rest section unit name)
+unfolding identity root_identity
+identity-stays section rest unit name h =
+    grind (arith, from-stays rest unit.abbrev_offset section, found-stays rest)
 
 -- the abbreviations of a row begin with those of the first section
 first-front : (kind : SectionKind) (sections : List Used)

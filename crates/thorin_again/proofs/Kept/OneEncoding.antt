@@ -11,10 +11,10 @@ use Terms.{Meaning, meaning_by, Members, nat_tests, new-sound, new-units, None, 
 use Terms.{own_encoding, package_or_new, Ranges, Reads, refl, same-ok, same_Some, section_has, Some}
 use Terms.{Source, source-made, source_units, subst, sym, Takes, takes, TakesUnits, true, TuIndex}
 use Terms.{UnitRead, units_begun, units_of, Used, with_input, [], ℕ, ◌<◌, ◌↔◌, ◌∙◌, ◌∷◌, ◌≡◌}
+use Rattle.thorin_join.specs.Meaning.{meant, object_meaning, source_meaning, unit_meaning}
+use Rattle.thorin_again.proofs.Offsets.{RewrittenAgain.no-turn, Tiled.tiled-kept}
 use Rattle.thorin_again.proofs.Kept.EachUnit.{encoding-eq, named-kept}
 use Rattle.thorin_again.proofs.Kept.Names.{info-there, names-kept}
-use Rattle.thorin_again.proofs.{Offsets.RewrittenAgain.no-turn, Offsets.Tiled.tiled-kept}
-use Rattle.thorin_join.specs.Meaning.{meant, object_meaning, source_meaning, unit_meaning}
 use Rattle.thorin_join.specs.Builder.{names_in, State, taken}
 
 -- a unit has the encoding of its input, and the bytes that were read

@@ -1,25 +1,26 @@
 -- What a unit of a written package means as an input: just what was joined.
 use Rattle.thorin_again.proofs.Terms
-use Terms.{abbreviations_for, All-filter, AllOf, ap, AreRowsOf, arith, by-bool, content_of}
-use Terms.{Contents, Contribution, contribution_to, DwarfObject, Encoding, Endianness, entry_ids}
-use Terms.{false, File, filter-append, first, get_or_append_left, HasContributions, HasEntries}
-use Terms.{HasRows, Header, id-at, identifier_of, identity, Index, index_for, IndexEntry, Indexes}
-use Terms.{InProgress, Input, is_chosen, is_compilation, is_outside, IsRowOf, kind_of, length}
-use Terms.{LieInside, List, looked_up, Meaning, meaning_at, meaning_by, members, name-identity}
-use Terms.{name_for, name_signature, nat_tests, None, none-some, not-outside, Ok, Option}
-use Terms.{own_source, part-there, part_of, range_in, Ranges, refl, row_in, row_of, row_test}
-use Terms.{rows_of, section, SectionKind, slice_get, slice_get-get_or, slice_get_within, Some}
-use Terms.{Source, strings-are, strings_of, suc, sym, take-length, true, UnitSection, zero, [], ℕ}
-use Terms.{◌++◌, ◌+◌, ◌<◌, ◌∙◌, ◌∷◌, ◌≡◌, ◌≤◌}
-use Rattle.std.proofs.Common.{ap₂, Bool, eqb-true, find, get_or, is_none, nat_eq, ◌≢◌}
-use Rattle.thorin_join.specs.Meaning.{lie_inside, meaning_with, shared_kinds, unit_meaning}
-use Rattle.dwp_table.specs.{Probing.found_row, Probing.look_count, Table.FindsExactly}
-use Rattle.thorin_package_input.{proofs.FirstRow.first_found, specs.RowPlaces.row_by_place}
+use Terms.{abbreviations_for, All-filter, ap, arith, by-bool, content_of, Contribution}
+use Terms.{contribution_to, DwarfObject, Encoding, entry_ids, false, File, filter-append}
+use Terms.{finished-order, first, get_or_append_left, HasContributions, HasEntries, HasRows, Header}
+use Terms.{id-at, identifier_of, identity, Index, index_for, IndexEntry, Indexes, InProgress, Input}
+use Terms.{is_chosen, is_compilation, is_outside, IsRowOf, keep-rows, kind_of, length, LieInside}
+use Terms.{List, looked_up, Meaning, meaning_at, meaning_by, name-identity, name_for}
+use Terms.{name_signature, nat_tests, None, none-some, not-outside, Ok, Option, own_source}
+use Terms.{part-there, part_of, range_in, Ranges, refl, row_in, row_of, row_test, rows_of, section}
+use Terms.{SectionKind, slice_get, slice_get-get_or, slice_get_within, Some, Source, strings-are}
+use Terms.{strings_of, suc, sym, take-length, true, UnitSection, zero, [], ℕ, ◌++◌, ◌+◌, ◌<◌, ◌∙◌}
+use Terms.{◌∷◌, ◌≡◌, ◌≤◌}
 use Rattle.thorin_input.specs.Rows.{numbered_abbreviations, own_contribution, row_abbreviations}
 use Rattle.thorin_again.proofs.Meant.RowByRow.{at-seam, bytes-own, IsBelow, IsUnitOf, range_at}
+use Rattle.thorin_join.specs.Meaning.{lie_inside, meaning_with, shared_kinds, unit_meaning}
+use Rattle.thorin_package_input.{proofs.FirstRow.first_found, specs.RowPlaces.row_by_place}
+use Rattle.thorin_again.proofs.{Meant.RowByRow.row-there, Offsets.RewrittenAgain.at-row}
+use Rattle.thorin_join.proofs.{Files.Finished.finished-grows, Units.Whole.identity-sort}
+use Rattle.std.proofs.Common.{ap₂, Bool, eqb-true, find, get_or, is_none, nat_eq, ◌≢◌}
+use Rattle.dwp_table.specs.{Probing.found_row, Probing.look_count, Table.FindsExactly}
+use Rattle.thorin_again.proofs.Opened.Indexes.{IsOwnRow, IsReadOf}
 use Rattle.dwp_table.proofs.Tables.{finds_exactly}
-use Rattle.thorin_again.proofs.Opened.Indexes.{IsReadOf, rows-kept}
-use Rattle.thorin_join.proofs.Units.Whole.{identity-sort}
 use Rattle.dwp_base.specs.declared.section.SectionKind.TheVariants as kinds
 
 -- names of one sort, and of type units of one signature, are one where compilations of one index
@@ -36,18 +37,6 @@ some-index : (index : Option Index) (rows : List IndexEntry) (row : IndexEntry) 
 some-index None rows row n has at = grind arith
 some-index (Some i) rows row n has at = (i, refl, (has.0, has.1))
 
--- the unit of a row, and its encoding
-unit-of : (order : Endianness) (contents : Contents) (strings : List (List ℕ)) (encoding : Encoding)
-    (mean : IndexEntry → Meaning) (before later : List IndexEntry) (row : IndexEntry)
-    → AreRowsOf order contents strings (before ++ row ∷ later) (members mean
-    (before ++ row ∷ later)) → AllOf encoding (members mean (before ++ row ∷ later))
-    → IsRowOf order contents strings row (row.id, mean row) × (encoding ≡ (mean row).encoding)
-unit-of order contents strings encoding mean [] later row are all =
-    (are.0, sym (all 0 (row.id, mean row) (omega arith)))
-unit-of order contents strings encoding mean (b ∷ bs) later row are all =
-    unit-of order contents strings encoding mean bs later row are.1
-    (λ k d within. all (suc k) d (omega (arith, within)))
-
 -- a unit that is read of a written package
 module _ {encoding : Encoding} {file : File} {indexes : Indexes} {made : InProgress}
     (read : IsReadOf encoding file indexes made) {place : UnitSection} {row : IndexEntry}
@@ -61,12 +50,14 @@ module _ {encoding : Encoding} {file : File} {indexes : Indexes} {made : InProgr
   mean r = meaning_at made.file.order made.file.contents made.strings r
 
   joined : IsRowOf file.order file.contents made.strings row (row.id, mean row)
-      × (encoding ≡ (mean row).encoding)
-  joined = unit-of _ _ _ encoding mean u.before later row (rw u.split at (rows-kept made file
-      read.own.sound read.finished)) (rw u.split at read.own.all)
+  joined =
+      let is = at-row (IsOwnRow made) made.rows _ row read.own.rows (row-there u) in
+      rw (finished-order made file read.finished) (keep-rows _ _ _ _ made.strings (row ∷ [])
+      ((row.id, mean row) ∷ []) (finished-grows made file read.finished)
+      (take-length made.strings) (is, tt)).0
 
   pub row-lies : LieInside file.contents row
-  row-lies = joined.0.lie
+  row-lies = joined.lie
 
   abbrev kind : SectionKind
   kind = kind_of place
@@ -147,12 +138,14 @@ module _ {encoding : Encoding} {file : File} {indexes : Indexes} {made : InProgr
   means : meaning_by source u.own (Some parts.row) ≡ Some (mean row)
   unfolding meaning_by
   means =
-      let is = joined.0 in
+      let is = joined in
+      let encoding_is = sym (at-row (λ row. row.encoding ≡ encoding) made.rows _ row read.own.all
+      (row-there u)) in
       let own_is : u.own ≡ (mean row).bytes =
       grind (arith, bytes-own u, is.owns.place_is, is.owns.bytes) in
       let inside : lie_inside source (Some parts.row) ≡ true = λ i. is_none (find (λ k. outside k i)
       shared_kinds) in
-      let strings_are = (λ i. strings_of file.order (joined.1 i)
+      let strings_are = (λ i. strings_of file.order (encoding_is i)
       ((read.held kinds.Str ∙ read.strings_are) i) (bytes-are kinds.StrOffsets i))
       ∙ strings-are _ _ _ _ _
       (is.shares.string made.strings read.own.sound.units.table (take-length made.strings)) in
@@ -161,7 +154,7 @@ module _ {encoding : Encoding} {file : File} {indexes : Indexes} {made : InProgr
         bytes = own_is i;
         contributions = λ k copied. (bytes-are k ∙ is.shares.content k copied) i;
         strings = (mean row).strings;
-        encoding = joined.1 i;
+        encoding = encoding_is i;
       })))
 
   -- the row of its identifier

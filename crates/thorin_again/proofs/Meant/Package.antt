@@ -6,27 +6,27 @@ use Terms.{content_of, Contents, DwarfObject, Each, elf_of, Encoding, encoding_o
 use Terms.{file_text, first, has_info, IndexEntry, Indexes, indexes_of, InProgress, input_meaning}
 use Terms.{is_at, is_compilation, IsOwn, IsPermutation-map, IsSound, IsSoundBegun, joining, kind_of}
 use Terms.{KindsDiffer, length, length-map, List, map, map-append, Meaning, meaning_at, Members}
-use Terms.{members, name_for, NewUnit, nil_from_length, Ok, opened, Option, own_source}
+use Terms.{members, name_for, nat_tests, NewUnit, nil_from_length, Ok, opened, Option, own_source}
 use Terms.{package_or_new, Reads, refl, Result, row_test, rows_at, same-ok, section, SectionKind}
 use Terms.{Source, source-made, source_for, source_units, subst, sym, true, unit_section, UnitRead}
 use Terms.{units, units_in, units_of, units_within, UnitSection, with_input, with_source}
 use Terms.{with_units, written_elf, written_object, written_used, [], ℕ, ◌++◌, ◌<◌, ◌∙◌, ◌∷◌, ◌≡◌}
 use Rattle.std.proofs.lemmas.List.Sorted.{IsPermutation-append_comm, IsPermutation-append_right}
-use Rattle.std.proofs.lemmas.List.Sorted.{IsPermutation-filter_both, IsPermutation-trans}
-use Rattle.std.proofs.lemmas.List.Sorted.{IsPermutation-refl, IsPermutation-sym}
-use Rattle.thorin_join.specs.Meaning.{named_each, named_sections, object_meaning, source_meaning}
-use Rattle.thorin_join.specs.Meaning.{can_join, meant, named_at, named_unit}
-use Rattle.thorin_again.proofs.Opened.Sections.{empty-first, none-behind, opened-elf, rest-differ}
-use Rattle.thorin_again.proofs.Opened.Sections.{first-written, input-encoding, object-written}
-use Rattle.thorin_again.proofs.Opened.Sections.{no-info, section_of}
-use Rattle.thorin_join.specs.Builder.{finish_test, IsFinishedState, order_test, with_source_or_new}
-use Rattle.thorin_join.specs.Builder.{order_of, State, taken}
-use Rattle.std.proofs.Common.{ap₂, IsPermutation, ◌≢◌}
-use Rattle.thorin_again.proofs.{Meant.OneRow.row-means-again, Meant.RowByRow.of-section}
+use Rattle.thorin_join.specs.Builder.{finish_test, IsFinishedState, order_of, order_test, State}
+use Rattle.thorin_again.proofs.Opened.Sections.{input-encoding, none-behind, object-written}
+use Rattle.thorin_join.specs.Meaning.{can_join, meant, named_at, named_each, named_sections}
+use Rattle.thorin_again.proofs.Opened.Sections.{empty-first, first-written, info-written}
+use Rattle.std.proofs.Math.{Dec.eqb-suc-zero, Seq.drop-append_seam, Seq.take-append_seam}
+use Rattle.std.proofs.lemmas.List.Sorted.{IsPermutation-filter_both, IsPermutation-refl}
 use Rattle.thorin_again.proofs.Opened.Indexes.{IsReadOf, lie-kept, lie-used, read-of}
-use Rattle.thorin_again.proofs.Kept.EachUnit.{joined}
-use Rattle.std.proofs.{Math.Dec.eqb-suc-zero, Math.Seq.drop-append_seam, Math.Seq.take-append_seam}
+use Rattle.thorin_again.proofs.Opened.Sections.{opened-elf, rest-differ, section_of}
+use Rattle.thorin_again.proofs.Meant.{OneRow.row-means-again, RowByRow.of-section}
+use Rattle.std.proofs.lemmas.List.Sorted.{IsPermutation-sym, IsPermutation-trans}
+use Rattle.thorin_join.specs.Meaning.{named_unit, object_meaning, source_meaning}
 use Rattle.thorin_again.specs.Again.{all_meant, HaveEncodingOf, MeansWhereTaken}
+use Rattle.thorin_join.specs.Builder.{taken, with_source_or_new}
+use Rattle.std.proofs.Common.{ap₂, IsPermutation, ◌≢◌}
+use Rattle.thorin_again.proofs.Kept.EachUnit.{joined}
 use Rattle.dwp_base.specs.declared.section.SectionKind.TheVariants as kinds
 use Rattle.dwp_units.specs.declared.unit.UnitSection.TheVariants as places
 
@@ -217,5 +217,7 @@ module _ (state : State) (file : File) (begun : IsSoundBegun state.begun)
       rw fin.begun (by-bool _ (has_info (written_elf file))
       (λ info. units-again before.begun now.0 info now.1 meaning means) (λ none.
       let no_units : meaning ≡ [] = same-ok _ _ (sym (rw (opens, none) at means)) in
-      rw (no_units, none-joined (units_of fin.made) (rw fin.begun at one) (no-info file none))
+      let no_info : content_of kinds.Info file.contents ≡ [] =
+      grind (arith, nat_tests, none, info-written file, nil_from_length {X = ℕ}) in
+      rw (no_units, none-joined (units_of fin.made) (rw fin.begun at one) no_info)
       (IsPermutation-refl [])))

@@ -4,28 +4,27 @@
 -- from the same strings on, give the same strings.
 use Rattle.thorin_again.proofs.Terms
 use Terms.{All-from_recursion, all_kept_by, Any-from_list_any, arith, bind-was, Contribution}
-use Terms.{contribution_to, count-again, drop-append-le, Each, EachRow, Encoding, Endianness, false}
+use Terms.{count-again, drop-append-le, Each, EachRow, Encoding, Endianness, false}
 use Terms.{get_or_from_slice_get, HasContributions, HasOneOf, HasRows, Index, IndexEntry, inl, inr}
-use Terms.{is_chosen, is_used, IsAmong, IsOfSome, IsWholeRange, length, length-append, List}
-use Terms.{list_any, list_any-append, map, nat_tests, no_header, None, number_front, offset_size}
-use Terms.{Ok, Option, range-front, range_bytes, range_with_len, recursion_from_All, refl, rows_of}
-use Terms.{SectionKind, slice_get, slice_get_within, Some, StrOffsets, subst, suc, sym, Tile, true}
-use Terms.{UnlessStringOffset, zero, [], ℕ, ◌++◌, ◌+◌, ◌<◌, ◌>>=◌, ◌∙◌, ◌∷◌, ◌≡◌, ◌≤◌, ◌⊎◌}
-use Rattle.std.proofs.Common.{add-mul, Bool, drop, is_some, length-drop, slice_range, ⊎_elim, ◌*◌}
-use Rattle.thorin_package_input.specs.PackagedOffsets.{offset_ranges, ranges_test, rewritten_from}
-use Rattle.thorin_package_input.specs.PackagedOffsets.{place_cmp, with_ranges, with_rows}
-use Rattle.thorin_strings.specs.StringOffsets.{fitting_offset, remapped_entries, remapped_entry}
-use Rattle.thorin_strings.specs.StringOffsets.{entry_bytes, named_at, offset_at, remapped}
-use Rattle.std.specs.BTreeSet.{insert_key}
+use Terms.{is_chosen, IsAmong, IsOfSome, IsWholeRange, length, length-append, List, list_any}
+use Terms.{list_any-append, map, nat_tests, no_header, None, number_front, offset_size, Ok, Option}
+use Terms.{range-front, range_bytes, range_with_len, recursion_from_All, refl, rows_of, slice_get}
+use Terms.{slice_get_within, Some, StrOffsets, subst, suc, sym, Tile, true, UnlessStringOffset}
+use Terms.{zero, [], ℕ, ◌++◌, ◌+◌, ◌<◌, ◌>>=◌, ◌∙◌, ◌∷◌, ◌≡◌, ◌≤◌, ◌⊎◌}
+use Rattle.thorin_strings.specs.StringOffsets.{entry_bytes, fitting_offset, named_at, offset_at}
 use Rattle.std.proofs.lemmas.List.FromFn.{get_or-map-range_with_len, length-map-range_with_len}
+use Rattle.thorin_package_input.specs.PackagedOffsets.{rewritten_from, with_ranges, with_rows}
+use Rattle.thorin_package_input.specs.PackagedOffsets.{offset_ranges, place_cmp, ranges_test}
 use Rattle.std.proofs.lemmas.List.Sorted.{IsPermutation-filter_both, list_any-IsPermutation}
-use Rattle.thorin_package_input.specs.RowPlaces.{is_range, range_of_row, ranges_of}
-use Rattle.thorin_package_input.proofs.FirstRow.{range_is, range_of_found}
-use Rattle.thorin_package_input.proofs.RowRanges.{compilation_there, type_there}
-use Rattle.std.proofs.{lemmas.Nat.row_fits, Math.Seq.drop-append-add}
-use Rattle.dwp_base.specs.Numbers.{number}
+use Rattle.thorin_strings.specs.StringOffsets.{remapped, remapped_entries, remapped_entry}
+use Rattle.std.proofs.lemmas.{Nat.row_fits, Option.slice_get_cases, Option.slice_get_read}
+use Rattle.std.proofs.Common.{add-mul, Bool, drop, length-drop, slice_range, ⊎_elim, ◌*◌}
 use Rattle.dwp_bytes.specs.StringOffsets.{entry_in, header_size, string_at, string_in}
-use Rattle.std.proofs.lemmas.Option.{slice_get_cases, slice_get_read}
+use Rattle.thorin_package_input.specs.RowPlaces.{is_range, range_of_row, ranges_of}
+use Rattle.thorin_package_input.proofs.RowRanges.{compilation_there, type_there}
+use Rattle.std.{proofs.Math.Seq.drop-append-add, specs.BTreeSet.insert_key}
+use Rattle.thorin_package_input.proofs.FirstRow.{range_is, range_of_found}
+use Rattle.dwp_base.specs.Numbers.{number}
 
 -- the rows of compilation units and those of type units
 pub at-row : (P : IndexEntry → Type 0) (rows : List IndexEntry) (n : ℕ) (row : IndexEntry)
@@ -42,9 +41,11 @@ any-chosen test rows h =
     (is_chosen false) (λ row. refl) rows)) ∙ h in
     grind (arith, nat_tests, list_any-append test (rows_of true rows) (rows_of false rows))
 
-pub used-chosen : (kind : SectionKind) (rows : List IndexEntry) → is_used rows kind ≡ true
-    → (is_used (rows_of true rows) kind ≡ true) ⊎ (is_used (rows_of false rows) kind ≡ true)
-used-chosen kind = any-chosen (λ row. is_some (contribution_to kind row))
+-- a row that passes
+pub passing : (test : IndexEntry → Bool) (rows : List IndexEntry) → list_any test rows ≡ true
+    → (n : ℕ) × (row : IndexEntry) × (slice_get rows n ≡ Some row) × (test row ≡ true)
+passing test rows h = let any = Any-from_list_any test rows h in
+    (any.0, any.1, slice_get_read rows _ any.0 any.1 refl any.2 (sym any.3), any.4)
 
 -- what follows from a row that passes, and its parts in the index of these rows
 pub by-passing : (P : Type 0) (test : IndexEntry → Bool) (read : Option Index)
@@ -53,15 +54,13 @@ pub by-passing : (P : Type 0) (test : IndexEntry → Bool) (read : Option Index)
     → test row ≡ true → HasContributions index (n + 1) row → P) → P
 by-passing P test None rows has h f = let none = rw has at h in absurd cc
 by-passing P test (Some index) rows has h f =
-    let any = Any-from_list_any test rows h in
-    let at = slice_get_read rows (length rows) any.0 any.1 refl any.2 (sym any.3) in
-    f index any.0 any.1 refl at any.4 (has.1.each any.0 any.1 at)
+    let p = passing test rows h in f index p.0 p.1 refl p.2 p.3 (has.1.each p.0 p.1 p.2)
 
 -- each range that some row has is there
-abbrev has-range : Contribution → IndexEntry → Bool
+abbrev pub has-range : Contribution → IndexEntry → Bool
 has-range r row = is_range r row.debug_str_offsets
 
-some-has : (r : Contribution) (rows : List IndexEntry) → IsOfSome r rows
+pub some-has : (r : Contribution) (rows : List IndexEntry) → IsOfSome r rows
     → list_any (has-range r) rows ≡ true
 some-has r [] h = absurd h
 some-has r (row ∷ rows) h = grind (arith, nat_tests, some-has r rows)

@@ -5,23 +5,23 @@ use Terms.{Added, All-weaker, ap, arith, by-bool, content_of, Contents, Contribu
 use Terms.{contribution_put, count-again, data_of, EachRow, Encoding, Endianness, entry_count}
 use Terms.{eqb-false, false, first, GiveStrings, has_part, HasOneOf, HasTiledOffsets, IndexEntry}
 use Terms.{inl, InProgress, inr, is-same, is_package, IsAmong, IsOfSome, IsTable, IsWholeRange}
-use Terms.{joined_parts, length, length-append, List, no_header, none-some, offset_size}
-use Terms.{Ok, own-bytes, Parts, parts_of, place-put, range-of, range_for, refl, same_Some, Some}
-use Terms.{Source, source-made, stands_once, Str, StrOffsets, subst, sym, take-length, Tile, true}
-use Terms.{Used, with_source, [], ℕ, ◌++◌, ◌+◌, ◌<◌, ◌∙◌, ◌∷◌, ◌≡◌, ◌⊎◌}
-use Rattle.std.proofs.Common.{add-mul, Bool, eqb, eqb-true, leb, leb-false, lt-ltb, take}
-use Rattle.std.proofs.Common.{true≢false, zero-mul, ⊎_elim, ◌&&◌, ◌*◌}
-use Rattle.thorin_strings.specs.StringOffsets.{entry_bytes, header_of, remapped, remapped_entries}
-use Rattle.thorin_again.proofs.Offsets.RewrittenAgain.{entries-alike, grown, InTurn, Lead}
+use Terms.{joined_parts, length, length-append, List, no_header, none-some, offset_size, Ok}
+use Terms.{own-bytes, Parts, parts_of, place-put, range-of, range_for, refl, same_Some, Some}
+use Terms.{Source, source-made, Str, StrOffsets, subst, sym, take-length, Tile, true, with_source}
+use Terms.{[], ℕ, ◌++◌, ◌+◌, ◌<◌, ◌∙◌, ◌∷◌, ◌≡◌, ◌⊎◌}
 use Rattle.thorin_again.proofs.Offsets.RewrittenAgain.{leads-joined, no-turn, turn, whole-remapped}
-use Rattle.thorin_join.proofs.Parts.Added.{Adds, each-part, joined_parts-more, joined_parts-other}
+use Rattle.thorin_strings.specs.StringOffsets.{entry_bytes, header_of, remapped, remapped_entries}
 use Rattle.thorin_join.proofs.Parts.Added.{no-entries, Rewritten, rewritten-plain, units-strings}
-use Rattle.thorin_join.proofs.Parts.ReadAlike.{has-more, has-other}
-use Rattle.thorin_again.proofs.Kept.EachUnit.{content-added, once-more, order-added, parted}
 use Rattle.thorin_again.proofs.Kept.EachUnit.{row_with, RowHas, rows-share, with-any, with-each}
-use Rattle.std.proofs.ByRecursion.{All-append}
+use Rattle.thorin_join.proofs.Parts.Added.{each-part, joined_parts-more, joined_parts-other}
+use Rattle.thorin_again.proofs.Kept.EachUnit.{content-added, once-more, order-added, parted}
+use Rattle.thorin_again.proofs.Offsets.RewrittenAgain.{entries-alike, grown, InTurn, Lead}
+use Rattle.std.proofs.Common.{add-mul, Bool, eqb, eqb-true, leb, leb-false, lt-ltb, take}
 use Rattle.thorin_strings.proofs.{NamedEntries.range_named, RemapLemmas.kept_more}
+use Rattle.thorin_join.proofs.Parts.ReadAlike.{has-more, has-other}
+use Rattle.std.proofs.Common.{true≢false, zero-mul, ⊎_elim, ◌*◌}
 use Rattle.dwp_bytes.specs.StringOffsets.{header_size}
+use Rattle.std.proofs.ByRecursion.{All-append}
 
 -- the part of string offsets that a plain object makes is whole
 module _ (source : Source) (plain : is_package source.indexes ≡ false) (start : List (List ℕ)) where
@@ -121,25 +121,20 @@ module _ (source : Source) (plain : is_package source.indexes ≡ false) (start 
         again = all.2;
       })
 
-  made-step : (before : Parts) (s : Used) (next : Parts) → MadeBy before
-      → (stands_once source s.kind && has_part s.kind before.0) ≡ false → Adds source before s
-      next → MadeBy next
-  made-step before s next so_far once (inl (o, w)) =
-      made-rewritten before s.bytes next so_far
-      (λ standard. grind (arith, once, is-same s.kind StrOffsets o)) w
-  made-step before s next so_far once (inr (inl (o, c, is))) =
-      let joined = joined_parts-other StrOffsets before.0 s.kind s.bytes o in
-      rw (is, has-other before.0 s.kind s.bytes o, joined) so_far
-  made-step before s next so_far once (inr (inr (o, c, is))) = rw is so_far
-
   -- the part of an input gives the strings after it
   part-made : (parts : Contents) (after : List (List ℕ)) → IsTable start
       → parts_of source start ≡ Ok (parts, after) → MadeBy (parts, after)
   unfolding remapped_entries
   part-made parts after table h = each-part source (λ before ss now. MadeBy before → MadeBy now)
       (λ now so_far. so_far) (λ before s next ss now made rest later so_far.
-      later (made-step before s next so_far made.once made.adds))
-      source.object.sections ([], start) (parts, after) h (record {
+      elim made.adds [
+        | inl (o, w) ↦ later (made-rewritten before s.bytes next so_far
+            (λ standard. grind (arith, made.once, is-same s.kind StrOffsets o)) w)
+        | inr (inl (o, c, is)) ↦
+            let joined = joined_parts-other StrOffsets before.0 s.kind s.bytes o in
+            later (rw (is, has-other before.0 s.kind s.bytes o, joined) so_far)
+        | inr (inr (o, c, is)) ↦ later (rw is so_far)
+      ]) source.object.sections ([], start) (parts, after) h (record {
         table = table;
         fresh = λ none. (refl, refl);
         count = 0;

@@ -2,37 +2,40 @@
 -- sections are in the format of its units. A written package of plain objects is read again: its
 -- indexes, and its string offsets.
 use Rattle.thorin_again.proofs.Terms
-use Terms.{All, All-filter, All-tail, AllOf, ap, AreRowsOf, arith, chosen-fit, content_of, Contents}
-use Terms.{Contribution, counts_once, data_of, DwarfObject, Encoding, Endianness, entry_ids, false}
-use Terms.{File, file_text, finished-order, finished-own, finished-strings, first, get_or-map}
-use Terms.{HasRows, HasTiledOffsets, Index, index_in, index_tests, index_version_of, IndexEntry}
-use Terms.{Indexes, indexes_of, inl, InProgress, inr, is_chosen, is_in_format, is_of_units}
-use Terms.{is_package, is_shared, is_used, IsIndexOf, IsLaid, IsOfSome, IsOwn, IsPlain, IsSound}
-use Terms.{IsTable, IsWholeRange, keep-rows, kind_of, KindsDiffer, length, length-map, Lie, List}
-use Terms.{Meaning, meaning_at, Members, nat_tests, nil_from_length, no-bytes, None, Ok, Option}
-use Terms.{own_source, part-inside, range_bytes, refl, rewritten, rows_at, rows_of, same-each}
-use Terms.{same-ok, same_Some, SectionKind, slice_get, Some, source_for, subst, sym, take-length}
-use Terms.{TakesUpToParts, true, units_of, UnitSection, UnlessStringOffset, version_test}
+use Terms.{all_kept_by, AllOf, ap, AreRowsOf, arith, chosen-fit, content_of, Contents}
+use Terms.{contribution_to, counts_once, data_of, DwarfObject, EachRow, Encoding, Endianness}
+use Terms.{entry_ids, false, File, file_text, finished-order, finished-own, finished-strings, first}
+use Terms.{get_or-map, HasRows, HasTiledOffsets, Index, index_in, index_tests, index_version_of}
+use Terms.{IndexEntry, Indexes, indexes_of, InProgress, is_chosen, is_in_format, is_of_units}
+use Terms.{is_package, is_shared, is_used, IsIndexOf, IsLaid, IsOwn, IsPlain, IsRowOf, IsSound}
+use Terms.{IsSoundBegun, kind_of, KindsDiffer, length, length-map, Lie, List, Meaning, meaning_at}
+use Terms.{members, nat_tests, nil_from_length, no-bytes, None, Ok, Option, own_source, part-inside}
+use Terms.{range_bytes, recursion_from_All, refl, rewritten, rows_at, rows_of, same-each, same-ok}
+use Terms.{same_Some, SectionKind, slice_get, Some, source_for, subst, sym, take-length}
+use Terms.{TakesUpToParts, true, units_in, units_of, UnitSection, UnlessStringOffset, version_test}
 use Terms.{with_input, with_units, written_elf, written_object, [], ℕ, ◌<◌, ◌∙◌, ◌∷◌, ◌≡◌}
-use Rattle.thorin_join.proofs.Files.Finished.{finished-content, finished-grows, tested-state}
-use Rattle.std.proofs.Common.{Bool, cond, is_some, not, slice_index, ◌^◌, ◌||◌}
+use Rattle.thorin_again.proofs.Offsets.RewrittenAgain.{all-rewritten, any-chosen, are-named, at-row}
+use Rattle.thorin_again.proofs.Offsets.RewrittenAgain.{has-range, passing, ranges-are, some-has}
 use Rattle.thorin_again.proofs.Opened.Sections.{first-written, info-written, object-written}
-use Rattle.thorin_again.proofs.Opened.Sections.{opened-elf}
-use Rattle.thorin_again.proofs.Offsets.RewrittenAgain.{are-named, CanRewrite, ranges-are, tile-lies}
-use Rattle.thorin_again.proofs.Offsets.RewrittenAgain.{all-rewritten, tile-tested, used-chosen}
-use Rattle.thorin_join.proofs.{Files.Finished.Tested, Units.InRows.distinct_chosen}
-use Rattle.thorin_join.specs.Builder.{IsFinished, order_of, order_test, same_order, State}
-use Rattle.thorin_index.proofs.Each.{have_passed, used_known}
-use Rattle.thorin_index.proofs.ReadAgain.{index_is_read, written_rows}
-use Rattle.dwp_table.specs.{Columns.column_of, Table.AreDistinct}
+use Rattle.thorin_join.specs.Builder.{finish_test, IsFinished, IsFinishedState, order_of}
 use Rattle.thorin_package_input.specs.PackagedOffsets.{packaged_offsets, rewritten_from}
+use Rattle.thorin_join.proofs.Files.Finished.{finished-content, Tested, tested-state}
+use Rattle.std.proofs.Common.{Bool, cond, is_some, not, slice_index, ◌^◌, ◌||◌}
+use Rattle.thorin_again.proofs.Offsets.RewrittenAgain.{tile-lies, tile-tested}
 use Rattle.thorin_join.proofs.Parts.Added.{rewritten-package, slice-long}
+use Rattle.thorin_index.proofs.ReadAgain.{index_is_read, written_rows}
+use Rattle.thorin_join.specs.Builder.{order_test, same_order, State}
+use Rattle.dwp_table.specs.{Columns.column_of, Table.AreDistinct}
+use Rattle.thorin_index.proofs.Each.{have_passed, used_known}
+use Rattle.thorin_join.proofs.Units.InRows.{distinct_chosen}
+use Rattle.thorin_again.proofs.Opened.Sections.{opened-elf}
+use Rattle.thorin_package_input.proofs.FirstRow.{range_is}
 use Rattle.dwp_base.specs.declared.section.SectionKind.TheVariants as kinds
 use Rattle.dwp_units.specs.declared.unit.UnitSection.TheVariants as places
 
--- rows come from inputs of this version
-abbrev pub HaveVersion : ℕ → List IndexEntry → Type 0
-HaveVersion version rows = All (λ row. row.encoding.version ≡ version) rows
+-- rows come from inputs of this encoding
+abbrev pub HaveEncoding : Encoding → List IndexEntry → Type 0
+HaveEncoding encoding = EachRow (λ row. row.encoding ≡ encoding)
 
 -- it is read from these bytes, has these rows, and goes with inputs of this encoding
 pub record IndexTaken (order : Endianness) (encoding : Encoding) (rows : List IndexEntry)
@@ -45,7 +48,7 @@ pub record IndexTaken (order : Endianness) (encoding : Encoding) (rows : List In
 index-taken : (order : Endianness) (encoding : Encoding) (rows : List IndexEntry) (bytes : List ℕ)
     → IsIndexOf order rows bytes → index_tests rows ≡ Ok tt
     → ((r : ℕ) → slice_index (entry_ids rows) r < 2 ^ 64) → AreDistinct (entry_ids rows)
-    → HaveVersion encoding.version rows → IndexTaken order encoding rows bytes
+    → HaveEncoding encoding rows → IndexTaken order encoding rows bytes
 unfolding index_in
 index-taken order encoding [] bytes text tested fit distinct have =
     record { index = None; taken = λ kind. rw text refl; fits = λ kind. refl; has = refl }
@@ -56,7 +59,7 @@ index-taken order encoding (row ∷ rows) bytes text tested fit distinct have =
     record {
       index = Some _;
       taken = λ kind. grind (arith, nat_tests, read, no-bytes order, nil_from_length bytes);
-      fits = λ kind. grind (arith, nat_tests, have 0 row (omega arith));
+      fits = λ kind. grind (arith, nat_tests, have.0);
       has = (index_version_of row.encoding.version, entries, omega arith);
     }
 
@@ -67,22 +70,28 @@ one-is-there : (compilations types : Option Index) (rows : List IndexEntry)
 one-is-there c t [] of_c of_t some = absurd (some refl)
 one-is-there c t (row ∷ rows) of_c of_t some = grind arith
 
+-- a row is that of a unit of a package
+abbrev pub IsOwnRow : InProgress → IndexEntry → Type 0
+IsOwnRow made row =
+    let mean = meaning_at made.file.order made.file.contents made.strings in
+    IsRowOf made.file.order made.file.contents made.strings row (row.id, mean row)
+
+each-row : (order : Endianness) (c : Contents) (strings : List (List ℕ))
+    (mean : IndexEntry → Meaning) (rows : List IndexEntry)
+    → AreRowsOf order c strings rows (members mean rows)
+    → EachRow (λ row. IsRowOf order c strings row (row.id, mean row)) rows
+each-row order c strings mean [] are = tt
+each-row order c strings mean (r ∷ rs) are = (are.0, each-row order c strings mean rs are.1)
+
 -- what it has
 pub record OwnMade (encoding : Encoding) (made : InProgress) : Type 0 where
   pub sound : IsSound made
   pub tests : Tested made
-  pub all : AllOf encoding (units_of made)
+  pub all : HaveEncoding encoding made.rows
   pub some : made.rows ≡ [] → ⊥
-  pub version : HaveVersion encoding.version made.rows
+  pub rows : EachRow (IsOwnRow made) made.rows
 
--- its rows are those of its units
-pub rows-kept : (made : InProgress) (file : File) → IsSound made → IsFinished made file
-    → AreRowsOf file.order file.contents made.strings made.rows (units_of made)
-rows-kept made file sound f =
-    rw (finished-order made file f) (keep-rows _ _ _ _ _ made.rows _ (finished-grows made file f)
-    (take-length made.strings) sound.units.rows)
-
--- and they lie in turn
+-- its units lie in turn
 pub lie-kept : (made : InProgress) (file : File) → IsLaid made → IsFinished made file
     → (place : UnitSection) → Lie file.order place 0 (rows_at place made.rows)
     (content_of (kind_of place) file.contents)
@@ -104,6 +113,27 @@ pub record IsReadOf (encoding : Encoding) (file : File) (indexes : Indexes)
   pub kinds : KindsDiffer file.contents
   pub own : OwnMade encoding made
 
+pub own-made : {state : State} {encoding : Encoding} {file : File} → IsSoundBegun state.begun
+    → finish_test state ≡ Ok tt → (fin : IsFinishedState state file) → 0 < length (units_in state)
+    → AllOf encoding (units_in state) → OwnMade encoding fin.made
+own-made {state} {encoding} sound_begun tested fin some all =
+    let made = fin.made in
+    let have : AllOf encoding (units_of made) = rw fin.begun at all in
+    let there : 0 < length (units_of made) = rw fin.begun at some in
+    let mean = meaning_at made.file.order made.file.contents made.strings in
+    let unit : IndexEntry → DwarfObject × Meaning = λ row. (row.id, mean row) in
+    let long : length (units_of made) ≡ length made.rows = length-map made.rows unit in
+    let sound : IsSound made = rw fin.begun at sound_begun in
+    record {
+      sound = sound;
+      tests = tested-state state made fin.begun tested;
+      all = recursion_from_All (λ row. row.encoding ≡ encoding) made.rows (λ k d within.
+          let is = have k (unit d) (omega (arith, within, long)) in
+          grind (arith, is, get_or-map unit made.rows k d));
+      some = λ none. omega (arith, there, long, ap length none);
+      rows = each-row _ _ _ mean made.rows sound.units.rows;
+    }
+
 module _ {state : State} {encoding : Encoding} {file : File} (own : IsOwn state encoding file) where
   abbrev made : InProgress
   made = own.finished.made
@@ -111,22 +141,8 @@ module _ {state : State} {encoding : Encoding} {file : File} (own : IsOwn state 
   abbrev f : IsFinished made file
   f = own.finished.finished
 
-  pub own-made : OwnMade encoding made
-  own-made =
-      let begun = own.finished.begun in
-      let all : AllOf encoding (units_of made) = rw begun at own.all in
-      let some : 0 < length (units_of made) = rw begun at own.some in
-      let mean = meaning_at made.file.order made.file.contents made.strings in
-      let unit : IndexEntry → DwarfObject × Meaning = λ row. (row.id, mean row) in
-      let long : length (units_of made) ≡ length made.rows = length-map made.rows unit in
-      record {
-        sound = rw begun at own.sound;
-        tests = tested-state state made begun own.tested;
-        all = all;
-        some = λ none. omega (arith, some, long, ap length none);
-        version = λ k d within. let is = all k (unit d) (omega (arith, within, long)) in
-            grind (arith, is, get_or-map unit made.rows k d);
-      }
+  has : OwnMade encoding made
+  has = own-made own.sound own.tested own.finished own.some own.all
 
   pub own-plain : {other : InProgress} → state.begun ≡ Some other → IsPlain encoding other
       → IsPlain encoding made
@@ -142,22 +158,21 @@ module _ {state : State} {encoding : Encoding} {file : File} (own : IsOwn state 
       (first kind (written_object file).sections)) (sym (finished-order made file f))
       (rw (first-written kind file.contents own.kinds) (index-taken _ encoding _ _ text tested
       (chosen-fit b made.rows own.finished.identifiers)
-      (distinct_chosen b made.rows own-made.sound.apart)
-      (All-filter (is_chosen b) (λ row. row.encoding.version ≡ encoding.version) made.rows
-      own-made.version)))
+      (distinct_chosen b made.rows has.sound.apart)
+      (all_kept_by (is_chosen b) (λ row. row.encoding ≡ encoding) made.rows has.all)))
 
   taken : (b : Bool) → IndexTaken file.order encoding (rows_of b made.rows)
       (first (cond b kinds.CuIndex kinds.TuIndex) (written_object file).sections)
-  taken true = sort-taken true kinds.CuIndex (rw (rw own-made.sound.units.no_compilations at
-      (finished-content made file f kinds.CuIndex)) f.compilations) own-made.tests.compilation_rows
-  taken false = sort-taken false kinds.TuIndex (rw (rw own-made.sound.units.no_types at
-      (finished-content made file f kinds.TuIndex)) f.types) own-made.tests.type_rows
+  taken true = sort-taken true kinds.CuIndex (rw (rw has.sound.units.no_compilations at
+      (finished-content made file f kinds.CuIndex)) f.compilations) has.tests.compilation_rows
+  taken false = sort-taken false kinds.TuIndex (rw (rw has.sound.units.no_types at
+      (finished-content made file f kinds.TuIndex)) f.types) has.tests.type_rows
 
   abbrev indexes-taken : Indexes
   indexes-taken = record { compilations = (taken true).index; types = (taken false).index }
 
   indexes-packed : is_package indexes-taken ≡ true
-  indexes-packed = one-is-there _ _ made.rows (taken true).has (taken false).has own-made.some
+  indexes-packed = one-is-there _ _ made.rows (taken true).has (taken false).has has.some
 
   indexes-read : indexes_of (written_object file) encoding ≡ Ok indexes-taken
   unfolding indexes_of
@@ -172,10 +187,10 @@ module _ {state : State} {encoding : Encoding} {file : File} (own : IsOwn state 
   read-of indexes read =
       let same : indexes ≡ indexes-taken = same-ok _ _ (sym read ∙ indexes-read) in
       let held = λ (kind : SectionKind). first-written kind file.contents own.kinds in
-      let strings = finished-strings made file f own-made.sound.units.no_strings in
+      let strings = finished-strings made file f has.sound.units.no_strings in
       let c = (taken true).has in
       let t = (taken false).has in
-      rw same (assumption (own-made, indexes-packed, held, strings, c, t))
+      rw same (assumption (has, indexes-packed, held, strings, c, t))
 
 -- an own file is taken up to its parts
 pub up-to-parts : (state : State) (encoding : Encoding) (file : File)
@@ -195,23 +210,31 @@ up-to-parts state encoding file own before same =
     }
 
 -- a section that rows name has a column in their index
-column-of : (version : ℕ) (kind : SectionKind) (rows : List IndexEntry) → HaveVersion version rows
-    → index_tests rows ≡ Ok tt → is_used rows kind ≡ true
-    → is_some (column_of (index_version_of version) kind) ≡ true
-column-of version kind [] have h used = absurd cc
-column-of version kind (r ∷ rs) have h used = rw (← have 0 r (omega arith))
+column-of : (encoding : Encoding) (kind : SectionKind) (rows : List IndexEntry)
+    → HaveEncoding encoding rows → index_tests rows ≡ Ok tt → is_used rows kind ≡ true
+    → is_some (column_of (index_version_of encoding.version) kind) ≡ true
+column-of encoding kind [] have h used = absurd cc
+column-of encoding kind (r ∷ rs) have h used = rw (← have.0)
     (used_known _ (r ∷ rs) (have_passed r.encoding (r ∷ rs) h).known kind used)
 
 -- a section that has bytes is in the format, where rows name it
-pub in-format : (encoding : Encoding) (rows : List IndexEntry) → HaveVersion encoding.version rows
-    → index_tests (rows_of true rows) ≡ Ok tt → index_tests (rows_of false rows) ≡ Ok tt
-    → (kind : SectionKind) → (counts_once kind ≡ false → is_used rows kind ≡ true)
+pub in-format : {encoding : Encoding} {made : InProgress} → OwnMade encoding made
+    → (kind : SectionKind) → (counts_once kind ≡ false → is_used made.rows kind ≡ true)
     → is_in_format encoding kind ≡ true
-in-format encoding rows have c t kind used =
-    let column = λ (b : Bool). column-of encoding.version kind (rows_of b rows)
-    (All-filter (is_chosen b) (λ row. row.encoding.version ≡ encoding.version) rows have) in
+in-format {encoding} {made} own kind used =
+    let column = λ (b : Bool). column-of encoding kind (rows_of b made.rows)
+    (all_kept_by (is_chosen b) (λ row. row.encoding ≡ encoding) made.rows own.all) in
     let once = same-each counts_once (λ k. not (is_of_units k)) refl kind in
-    grind (arith, column true c, column false t, used-chosen kind rows, used, once)
+    let tests = own.tests in
+    let chosen = any-chosen (λ row. is_some (contribution_to kind row)) made.rows in
+    grind (
+      arith,
+      column true tests.compilation_rows,
+      column false tests.type_rows,
+      chosen,
+      used,
+      once,
+    )
 
 -- a section of units that has bytes is one that a row names
 pub lie-used : (order : Endianness) (place : UnitSection) (offset : ℕ) (rows : List IndexEntry)
@@ -227,28 +250,6 @@ pub finished-shared : (made : InProgress) (file : File) → IsFinished made file
     made.file.contents
 finished-shared made file f kind shared = grind (arith, finished-content made file f kind)
 
--- the range of some row can be rewritten
-module _ (order : Endianness) (encoding : Encoding) (c : Contents) (strings : List (List ℕ))
-    (table : IsTable strings) (range : Contribution)
-    (whole : IsWholeRange order encoding range.size) where
-  some-can : (rows : List IndexEntry) (ms : Members) → AreRowsOf order c strings rows ms
-      → AllOf encoding ms → IsOfSome range rows
-      → CanRewrite order encoding (data_of strings) (content_of kinds.StrOffsets c) range
-  some-can [] ms are all h = absurd h
-  some-can (row ∷ rows) [] are all h = absurd are
-  some-can (row ∷ rows) (m ∷ ms) are all (inl e) =
-      let bytes = content_of kinds.StrOffsets c in
-      let own = range_bytes bytes range in
-      let inside = are.0.lie.inside kinds.StrOffsets range e in
-      let part = part-inside bytes range inside in
-      let read = λ (k : ℕ). are.0.shares.string strings table (take-length strings) k in
-      let long = slice-long bytes range.offset.0 range.size inside in
-      let named = are-named order encoding (data_of strings) own range.size long whole
-      (slice_get m.1.strings) (λ k. grind (arith, e, part, all 0 m (omega arith), read k)) in
-      (whole, named)
-  some-can (row ∷ rows) (m ∷ ms) are all (inr h) = some-can rows ms are.1
-      (All-tail (λ (u : DwarfObject × Meaning). u.1.encoding ≡ encoding) m ms all) h
-
 -- a package of plain objects, read again of its file
 module _ {encoding : Encoding} {file : File} {indexes : Indexes} {made : InProgress}
     (is : IsReadOf encoding file indexes made) (plain : IsPlain encoding made) where
@@ -256,7 +257,7 @@ module _ {encoding : Encoding} {file : File} {indexes : Indexes} {made : InProgr
   tiled = plain.offsets
 
   -- its string offsets are rewritten range by range
-  offsets-are : (strings : List (List ℕ)) → rewritten (own_source file encoding indexes)
+  pub offsets-are : (strings : List (List ℕ)) → rewritten (own_source file encoding indexes)
       (content_of kinds.StrOffsets file.contents) strings ≡ rewritten_from made.file.order encoding
       (data_of made.strings) (content_of kinds.StrOffsets made.file.contents) 0 tiled.ranges strings
   unfolding packaged_offsets
@@ -276,15 +277,20 @@ module _ {encoding : Encoding} {file : File} {indexes : Indexes} {made : InProgr
       (rewritten (own_source file encoding indexes) (content_of kinds.StrOffsets file.contents)
       strings)
   own-offsets strings =
-      let units = is.own.sound.units in
       let bytes = content_of kinds.StrOffsets made.file.contents in
       rw (offsets-are strings) (all-rewritten _ _ _ bytes 0 tiled.ranges strings (λ r h.
-      some-can _ _ _ _ units.table r (tile-lies _ _ 0 _ tiled.ranges r tiled.tile h).1 made.rows _
-      units.rows is.own.all (tiled.named r h)))
-
-  -- where there are no strings they are, with the package's strings
-  pub own-offsets-alone : (w : List ℕ × List (List ℕ)) × (rewritten
-      (own_source file encoding indexes) (content_of kinds.StrOffsets file.contents) [] ≡ Ok w)
-  own-offsets-alone =
-      let given = tiled.strings made.strings is.own.sound.units.table (take-length made.strings) in
-      ((given.0, made.strings), offsets-are [] ∙ given.1)
+      let whole = (tile-lies _ _ 0 _ tiled.ranges r tiled.tile h).1 in
+      let p = passing (has-range r) made.rows (some-has r made.rows (tiled.named r h)) in
+      let e = range_is r p.1.debug_str_offsets p.3 in
+      let own = at-row (IsOwnRow made) made.rows p.0 p.1 is.own.rows p.2 in
+      let inside = own.lie.inside kinds.StrOffsets r e in
+      let part = part-inside bytes r inside in
+      let all = at-row (λ row. row.encoding ≡ encoding) made.rows p.0 p.1 is.own.all p.2 in
+      let mean = meaning_at made.file.order made.file.contents made.strings p.1 in
+      let table = is.own.sound.units.table in
+      let read = own.shares.string made.strings table (take-length made.strings) in (
+        whole,
+        are-named made.file.order encoding (data_of made.strings) (range_bytes bytes r) r.size
+            (slice-long bytes r.offset.0 r.size inside) whole (slice_get mean.strings)
+            (λ k. grind (arith, e, part, all, read k)),
+      )))

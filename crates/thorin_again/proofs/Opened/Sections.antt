@@ -9,15 +9,15 @@ use Terms.{list_any-append, name_of, name_table, nat_tests, nil_from_length, not
 use Terms.{or_right, Parts, parts_of, refl, Result, rewritten, same-self, same_kind, SectionKind}
 use Terms.{Source, StrOffsets, subst, sym, TakesParts, true, Used, used_kind, written_elf}
 use Terms.{written_object, written_used, [], ℕ, ◌++◌, ◌+◌, ◌<◌, ◌>>=◌, ◌∙◌, ◌∷◌, ◌≡◌, ◌≤◌}
+use Rattle.thorin_input.specs.Used.{has_kind, input_file_of, is_present, used_bytes, used_from}
 use Rattle.thorin_input.specs.Parts.{with_each_part, with_offsets, with_part}
-use Rattle.std.proofs.Common.{Bool, bytes_eq, cond, Err}
 use Rattle.dwp_base.proofs.EveryKind.{every, kind-named, not-older}
 use Rattle.dwp_elf_read.specs.Elf.{is_named, is_of, SectionMeaning}
-use Rattle.dwp_elf_read.specs.Identification.{identity_of}
-use Rattle.dwp_index.specs.Contents.{is_of_kind}
-use Rattle.thorin_input.specs.Used.{has_kind, input_file_of, is_present, used_bytes, used_from}
-use Rattle.thorin_input.proofs.Walking.{found-any}
 use Rattle.dwp_elf.specs.Written.{plain_section, written_sections}
+use Rattle.dwp_elf_read.specs.Identification.{identity_of}
+use Rattle.std.proofs.Common.{Bool, bytes_eq, cond, Err}
+use Rattle.thorin_input.proofs.Walking.{found-any}
+use Rattle.dwp_index.specs.Contents.{is_of_kind}
 use Rattle.dwp_index.specs.Contents as contents
 
 -- a written file is opened
@@ -46,9 +46,6 @@ empty-first kind k cs differ = grind (arith, none-behind kind (k, []) cs differ)
 -- those that were seen don't come, and each other comes once at most
 abbrev pub Fresh : (SectionKind → Bool) → Contents → Type 0
 Fresh seen cs = (kind : SectionKind) → cond (seen kind) 1 0 + count_of kind cs ≤ 1
-
-pub fresh-differ : (seen : SectionKind → Bool) (cs : Contents) → Fresh seen cs → KindsDiffer cs
-fresh-differ seen cs fresh kind = let all = fresh kind in omega arith
 
 pub fresh-rest : (seen : SectionKind → Bool) (c : SectionKind × List ℕ) (cs : Contents)
     → Fresh seen (c ∷ cs) → Fresh seen cs
@@ -131,10 +128,6 @@ pub info-written : (file : File) → 0 < length (content_of Info file.contents)
     → has_info (written_elf file) ≡ true
 info-written file h = in-file Info (is_of Info) (λ n bytes. refl) file h
 
--- where none are, there is no content of info
-pub no-info : (o : File) → has_info (written_elf o) ≡ false → content_of Info o.contents ≡ []
-no-info o h = grind (arith, nat_tests, info-written o, nil_from_length (content_of Info o.contents))
-
 -- an answer of which something holds, or an error of some sort
 abbrev pub Fares : {X : Type 0} → (ErrorValue → Type 0) → (X → Type 0) → Result X ErrorValue
     → Type 0
@@ -195,25 +188,21 @@ module _ (E : ErrorValue → Type 0) (source : Source) where
       → CanTry cs before.1 → Unless E (with_each_part source before (written_used cs))
   unfolding with_each_part with_part with_offsets
   parts-tried [] before fresh can = tt
-  parts-tried ((kind, []) ∷ cs) before fresh can = parts-tried cs before
-      (fresh-rest (Had before) (kind, []) cs fresh) (can-rest (kind, []) cs before.1 before.1
-      (fresh-differ (Had before) ((kind, []) ∷ cs) fresh) (λ s. refl) can)
-  parts-tried ((kind, b ∷ bs) ∷ cs) before fresh can =
-      let c : SectionKind × List ℕ = (kind, b ∷ bs) in
-      let differ = fresh-differ (Had before) (c ∷ cs) fresh in
+  parts-tried (c ∷ cs) before fresh can =
+      let differ : KindsDiffer (c ∷ cs) = λ k. let all = fresh k in omega arith in
       let same-strings = can-rest c cs before.1 before.1 differ (λ s. refl) can in
-      let more = λ (put : List ℕ) (k : SectionKind) (is : kind ≡ k).
+      let more = λ (put : List ℕ) (k : SectionKind) (is : c.0 ≡ k).
       fresh-more (λ j (part : SectionKind × List ℕ). same_kind part.0 j) before.0 (k, put) c cs
       (λ j. ap (λ l. same_kind l j) (sym is)) fresh in
-      let offsets = λ (w : List ℕ × List (List ℕ)) (same : same_kind kind StrOffsets ≡ true).
+      let offsets = λ (w : List ℕ × List (List ℕ)) (same : same_kind c.0 StrOffsets ≡ true).
       parts-tried cs (before.0 ++ (StrOffsets, w.0) ∷ [], w.1)
-      (more w.0 StrOffsets (is-same kind StrOffsets same)) (can-rest c cs before.1 w.1 differ
+      (more w.0 StrOffsets (is-same c.0 StrOffsets same)) (can-rest c cs before.1 w.1 differ
       (λ s. grind (arith, none-behind StrOffsets c cs differ same)) can) in
-      let copied = parts-tried cs (before.0 ++ c ∷ [], before.1) (more (b ∷ bs) kind refl)
+      let copied = parts-tried cs (before.0 ++ (c.0, c.1) ∷ [], before.1) (more c.1 c.0 refl)
       same-strings in
       let left = parts-tried cs before (fresh-rest (Had before) c cs fresh) same-strings in
       let new = not-seen (Had before) c cs fresh in
-      grind (arith, nat_tests, can.format kind, front c cs, new, can.offsets, offsets, copied, left)
+      grind (arith, nat_tests, can.format c.0, front c cs, new, can.offsets, offsets, copied, left)
 
   -- those of an input that has the sections of written contents
   pub own-parts-tried : (contents : Contents) (strings : List (List ℕ))
