@@ -1,42 +1,229 @@
--- What a new builder holds once it took some inputs, and what stays so as they are taken in order:
--- its one encoding, by these inputs; its rows are in the format; and where all units of each input
--- have one encoding, the header of each unit has the encoding that is recorded of it, wherever its
--- bytes are read again, each has its strings, and what is written has the encoding, as an input.
-use Rattle.thorin_again.proofs.Terms
-use Terms.{All, All-cons, All-from_recursion, All-head, All-map, All-nil, All-tail, All-weaker}
-use Terms.{all_there, AllOf, ap, arith, bind-was, content_of, DwarfObject, each-all, Elf, elf_of}
-use Terms.{Encoding, encoding_in, encoding_of, Endianness, File, file_encoding, file_text}
-use Terms.{finished-is, finished-order, finished-own, first_encoding, found_counted, HasNamedUnits}
-use Terms.{Header, header_at, HoldsOwn, HoldsPlain, IndexEntry, inl, InProgress, Input, input-keeps}
-use Terms.{input_encoding, inr, IsSound, IsSoundBegun, Joins, kind_of, KindsDiffer, length}
-use Terms.{length-append, length-map, List, list_all, lookup, made-order, map, Meaning, meaning_at}
-use Terms.{Members, members, None, Ok, older_at, opened, Option, own_encoding, Package, package_of}
-use Terms.{package_or_new, place_of, ReadError, Reads, refl, same-begun, same-ok, same_name}
-use Terms.{section, section_has, sections-are, slice_get-get_or, Some, Source, source-made}
-use Terms.{source_units, subst, sym, takes, TakesUnits, true, unit_at, unit_at_row, unit_bytes}
-use Terms.{unit_in, units, units_begun, units_in, units_of, units_within, UnitSection, WasRead}
-use Terms.{with_input, written_elf, written_object, [], ℕ, ◌+◌, ◌<◌, ◌↔◌, ◌∙◌, ◌∷◌, ◌≡◌}
-use Rattle.thorin_again.proofs.Kept.OneEncoding.{Before, begun-now, CanMean, own-adds, taken-holds}
+-- What holds of all units of a package once an input was taken; all units of plain objects of one
+-- encoding have it; and a builder's package stays one of such objects. What a new builder holds
+-- once it took some inputs, and what stays so as they are taken in order: its one encoding, by
+-- these inputs; its rows are in the format; and where all units of each input have one encoding,
+-- the header of each unit has the encoding that is recorded of it, wherever its bytes are read
+-- again, each has its strings, and what is written has the encoding, as an input.
+use Rattle.thorin_join.proofs.Terms as Joined
+use Joined.{All, All-weaker, ap, arith, bind-was, content_of, data_of, DwarfObject, Each, Elf}
+use Joined.{elf_of, Encoding, encoding_in, Endianness, ErrorValue, false, File, file_text, first}
+use Joined.{GivesNone, has_info, Header, IndexEntry, Indexes, inl, InProgress, Input, InputFile}
+use Joined.{inr, is_package, IsFinished, IsSound, IsSoundBegun, Joins, keys, kind_of, KindsDiffer}
+use Joined.{length, length-append, length-map, List, list_all, list_any, lookup, map, MatchOption}
+use Joined.{Meaning, meaning_at, Members, nat_tests, None, Ok, opened, Option, Package}
+use Joined.{package_or_new, place_of, Ranges, ReadError, refl, same-ok, same_name, same_Some}
+use Joined.{section, Some, Source, source_units, subst, sym, true, unit_bytes, UnitRead}
+use Joined.{units_begun, units_in, units_of, UnitSection, Used, with_input, [], ℕ, ◌+◌, ◌<◌, ◌∙◌}
+use Joined.{◌∷◌, ◌≡◌}
+use Rattle.thorin_again.specs.{Own.has_sections, Own.packs_again, OwnUnits.AllOf, OwnUnits.HoldsOwn}
+use Rattle.thorin_again.proofs.{Kept.of-one, Kept.order-added, Offsets.no-turn, Offsets.tiled-kept}
 use Rattle.thorin_again.specs.InFormat.{AreInFormat, HasEncodingOfOne, HaveEncodingsOf, IsInFormat}
-use Rattle.thorin_join.specs.Builder.{finish_test, IsFinished, IsFinishedState, names_in, order_of}
+use Rattle.std.proofs.{ByRecursion.All-map as each-mapped, lemmas.Map.Views.IfSome-lookup_from_All}
 use Rattle.thorin_again.specs.OneEncoding.{HaveEncodingOnceWritten, IsOfEncoding, IsOfOneEncoding}
+use Rattle.thorin_join.proofs.Files.Finished.{finished-is, finished-order, finished-own, members}
+use Rattle.thorin_again.proofs.{Kept.names-kept, Kept.OfOne, Meant.of-section, Meant.read-alone}
+use Rattle.thorin_join.proofs.Joined.{all_there, input-keeps, made-order, new-sound, new-units}
+use Rattle.std.proofs.lemmas.List.Elements.{All-append, All-cons, All-from_recursion, All-head}
+use Rattle.thorin_again.specs.{Again.input_encoding, InFormat.IsOneOf, OwnInput.written_object}
+use Rattle.thorin_join.specs.Builder.{finish_test, IsFinishedState, names_in, order_of, start}
+use Rattle.thorin_input.specs.Encodings.{encoding_of, file_encoding, first_encoding, is_index}
+use Rattle.thorin_again.proofs.Kept.{encoding-eq, HasInfo, info-there, input-rows, named-kept}
+use Rattle.thorin_join.proofs.Units.ReadInTurn.{each-all, each-joining, Reads, sections-are}
+use Rattle.thorin_join.specs.{Builder.State, Builder.taken, Join.GivesUnit, Join.look_limit}
 use Rattle.thorin_again.specs.PlainInputs.{AreTaken, EachAdds, IsOfPlainObjects, IsPlainOf}
-use Rattle.thorin_again.proofs.Kept.OneEncoding.{taken-plain, units-hold, units-names}
+use Rattle.thorin_again.specs.Plain.{HasNamedUnits, HasTiledOffsets, HoldsPlain, IsPlain}
+use Rattle.thorin_join.proofs.Joined.{same-begun, source-made, Takes, takes, TakesUnits}
+use Rattle.thorin_again.proofs.Opened.{first-written, input-encoding, IsOwnRow, OwnMade}
+use Rattle.thorin_join.specs.Meaning.{input_meaning, meaning_by, meant, object_meaning}
 use Rattle.thorin_again.specs.OneEncoding.{AnswersAs, AnswersOnceWritten, GivesWhole}
-use Rattle.thorin_again.proofs.Kept.EachUnit.{input-rows, of-one, OfOne, order-added}
-use Rattle.thorin_again.specs.{InFormat.IsOneOf, Own.has_sections, Own.packs_again}
-use Rattle.thorin_again.proofs.Opened.Sections.{first-written, input-encoding}
+use Rattle.dwp_base.specs.declared.section.SectionKind.TheVariants.{CuIndex, TuIndex}
+use Rattle.dwp_units.specs.Units.{header_at, older_at, unit_at, units, units_within}
+use Rattle.dwp_index.specs.Package.{found_counted, package_of, unit_at_row, unit_in}
+use Rattle.thorin_input.specs.Encodings.{is_plain, own_encoding, section_has}
 use Rattle.dwp_bytes.specs.declared.encoding.Format.TheVariants.{Dwarf32}
-use Rattle.thorin_again.proofs.Meant.RowByRow.{of-section, read-alone}
-use Rattle.thorin_join.specs.Join.{GivesNone, GivesUnit, look_limit}
-use Rattle.thorin_again.proofs.Opened.Indexes.{IsOwnRow, OwnMade}
-use Rattle.std.proofs.lemmas.Map.Views.{IfSome-lookup_from_All}
-use Rattle.thorin_again.proofs.Kept.Names.{HasInfo, info-there}
-use Rattle.std.proofs.Common.{get_or, MatchOption, unwrap_or}
-use Rattle.thorin_join.specs.Builder.{start, State, taken}
+use Rattle.std.proofs.lemmas.List.Elements.{All-map, All-nil, All-tail}
+use Rattle.thorin_join.specs.Meaning.{source_meaning, unit_meaning}
+use Rattle.std.proofs.lemmas.Option.{IfSome_then, slice_get-get_or}
+use Rattle.std.proofs.Common.{get_or, IfSome, unwrap_or, ◌↔◌}
+use Rattle.thorin_input.specs.Indexes.{index_in, indexes_of}
+use Rattle.thorin_join.proofs.Units.ReadInTurn.{WasRead}
 use Rattle.dwp_units.proofs.Readings.{one_answer}
+use Rattle.dwp_elf.specs.Written.{written_elf}
 use Rattle.dwp_index.specs.Package as index
 use Rattle.dwp_units.specs.declared.unit.UnitSection.TheVariants as places
+
+-- a unit has the encoding of its input, and the bytes that were read
+abbrev pub MadeOf : Source → List ℕ → Meaning → Type 0
+MadeOf source bytes unit = (unit.encoding ≡ source.encoding) × (unit.bytes ≡ bytes)
+
+by-made : (source : Source) (bytes : List ℕ) (row : Option Ranges)
+    → IfSome (meaning_by source bytes row) (MadeOf source bytes)
+unfolding meaning_by
+by-made source bytes row = grind arith
+
+unit-made : (source : Source) (read : DwarfObject × UnitRead)
+    → IfSome (unit_meaning source read) (MadeOf source read.1.unit.whole.bytes)
+unfolding unit_meaning
+unit-made source read = grind (arith, by-made)
+
+-- the units that an input adds
+module _ (P : Meaning → Type 0) where
+  -- it holds of units with all that belongs to each
+  abbrev pub HoldsOf : Members → Type 0
+  HoldsOf units = All (λ (u : DwarfObject × Meaning). P u.1) units
+
+  abbrev IfMeant : DwarfObject × Option Meaning → Type 0
+  IfMeant u = IfSome u.1 P
+
+  -- it holds of what a unit of these that were read can mean
+  abbrev pub CanMean : Source → Reads → Type 0
+  CanMean source reads = Each (λ r. (unit : Meaning) → MadeOf source r.1.unit.whole.bytes unit
+      → P unit) reads
+
+  all-of : (added : Members) → Each IfMeant (all_there added) → HoldsOf added
+  all-of [] h = All-nil (λ u. P u.1)
+  all-of (u ∷ us) h = All-cons (λ v. P v.1) u us h.0 (all-of us h.1)
+
+  -- what holds of the units of a package, if one has begun
+  pub begun-all : (begun : Option InProgress) → ((made : InProgress) → begun ≡ Some made
+      → HoldsOf (units_of made)) → HoldsOf (units_begun begun)
+  begun-all None all = All-nil (λ u. P u.1)
+  begun-all (Some made) all = all made refl
+
+  -- what holds of the units before an input, and of those that it adds
+  pub units-hold : {bytes : List ℕ} {begun now : Option InProgress}
+      → Joins bytes (units_begun begun) (units_begun now) → (t : Takes bytes begun now)
+      → ((u : TakesUnits t.file begun now) (all : Reads) → source_units u.source ≡ Ok all
+      → CanMean u.source all) → HoldsOf (units_begun begun) → HoldsOf (units_begun now)
+  unfolding input_meaning object_meaning source_meaning
+  units-hold {begun = begun} j t can before = elim t.does [
+    | inl w ↦
+        let u = w.1 in
+        let s = bind-was (source_units u.source) _ j.units
+        (rw (t.opens, w.0, u.object_is, u.encoding_is, u.indexes_are) at j.meaning) in
+        subst HoldsOf (sym j.is) (All-append (λ (u : DwarfObject × Meaning). P u.1)
+        (units_begun begun) j.added before (all-of j.added (subst (Each IfMeant) j.joined
+        (each-joining IfMeant (keys (units_begun begun)) j.units
+        (subst (Each IfMeant) (same-ok {E = ErrorValue} _ j.units s.2)
+        (each-mapped IfMeant (meant u.source) s.0 (All-weaker _ _ (λ r.
+        IfSome_then (unit_meaning u.source r) (unit-made u.source r)) s.0 (can u s.0 s.1))))))))
+    | inr none ↦ subst HoldsOf (sym (new-units t.file begun) ∙ ap units_begun none.1) before
+  ]
+
+-- the encoding of a builder's inputs
+pub begun-now : (bytes : List ℕ) (old new : State) → taken bytes old ≡ Ok new
+    → with_input bytes old.begun ≡ Ok new.begun
+unfolding taken
+begun-now bytes old new h = grind arith
+
+-- where something has begun, the builder's inputs have this encoding
+abbrev pub Before : Option InProgress → Option Encoding → Encoding → Type 0
+Before begun own e = (made : InProgress) → begun ≡ Some made → own ≡ Some e
+
+-- units of that encoding were taken, of a plain object
+pub record OwnUnits (object : InputFile) (encoding e : Encoding) : Type 0 where
+  pub is : encoding ≡ e
+  pub plain : is_plain object.sections ≡ true
+  pub all : list_all (section_has encoding object.order) object.sections ≡ true
+
+module _ {bytes : List ℕ} {e : Encoding} (found : own_encoding bytes ≡ Ok (Some e))
+    {begun now : Option InProgress} (t : Takes bytes begun now) where
+  pub own-units : (u : TakesUnits t.file begun now) → OwnUnits u.source.object u.source.encoding e
+  unfolding own_encoding file_encoding
+  own-units u = grind (arith, found, t.opens, u.object_is, u.encoding_is)
+
+  -- such an object has units
+  pub takes-units : (has_info t.file ≡ true) × TakesUnits t.file begun now
+  unfolding own_encoding
+  takes-units = grind (arith, found, t.opens, t.does)
+
+-- an input of that encoding was taken, which added a unit
+pub record AddsOwn (bytes : List ℕ) (old new : State) (e : Encoding) : Type 0 where
+  pub found : own_encoding bytes ≡ Ok (Some e)
+  pub more : length (names_in old.begun) < length (names_in new.begun)
+  pub before : Before old.begun old.own e
+
+pub own-adds : (bytes : List ℕ) (old new : State) (e : Encoding) → taken bytes old ≡ Ok new
+    → (new.own ≡ Some e) ↔ AddsOwn bytes old new e
+unfolding taken
+own-adds bytes old new e h =
+    (λ k. grind (arith, nat_tests, encoding-eq), λ a. grind (arith, nat_tests, a))
+
+pub units-names : (begun : Option InProgress) → length (units_begun begun) ≡ length (names_in begun)
+units-names begun = grind (arith, length-map)
+
+-- an input that is taken keeps it so
+pub taken-holds : (bytes : List ℕ) (old new : State) → IsSoundBegun old.begun
+    → HoldsOwn old → taken bytes old ≡ Ok new → HoldsOwn new
+taken-holds bytes old new sound holds h = record {
+  some = λ e k. omega (arith, ((own-adds bytes old new e h).0 k).more, units-names new.begun);
+  all = λ e k.
+      let now = begun-now bytes old new h in
+      let t = takes bytes old.begun new.begun now in
+      let a = (own-adds bytes old new e h).0 k in
+      units-hold (λ unit. unit.encoding ≡ e) (input-keeps bytes old.begun new.begun sound now).joins
+      t (λ u all read. each-all _ (λ r unit made. made.0 ∙ (own-units a.found t u).is) all)
+      (begun-all (λ unit. unit.encoding ≡ e) old.begun
+      (λ made is. rw is at (holds.all e (a.before made is))));
+}
+
+-- a plain object has no index
+none-found : (ss : List Used) → list_any is_index ss ≡ false → (first CuIndex ss ≡ [])
+    × (first TuIndex ss ≡ [])
+none-found [] h = (refl, refl)
+none-found (s ∷ ss) h = grind (arith, none-found ss)
+
+plain-indexes : (object : InputFile) (encoding : Encoding) (indexes : Indexes)
+    → is_plain object.sections ≡ true → indexes_of object encoding ≡ Ok indexes
+    → is_package indexes ≡ false
+unfolding indexes_of index_in
+plain-indexes object encoding indexes plain h = grind (arith, none-found object.sections)
+
+-- the package before it is of such objects, or a new one
+plain-before : (encoding : Encoding) (file : Elf) (begun : Option InProgress)
+    (own : Option Encoding) → Before begun own encoding → ((made : InProgress) → own ≡ Some encoding
+    → begun ≡ Some made → IsPlain encoding made) → IsPlain encoding (package_or_new file begun)
+plain-before encoding file None own before holds =
+    let none : HasTiledOffsets encoding (package_or_new file None) = record {
+      ranges = [];
+      tile = refl;
+      rows = tt;
+      named = λ range there. absurd there;
+      strings = λ final table front. no-turn file.order encoding (data_of final) [] 0 [];
+    } in
+    grind (arith, none)
+plain-before encoding file (Some made) own before holds = holds made (before made refl) refl
+
+-- an input that is taken keeps a package of such objects
+pub taken-plain : (bytes : List ℕ) (old new : State) → IsSoundBegun old.begun
+    → HoldsPlain old → taken bytes old ≡ Ok new → HoldsPlain new
+taken-plain bytes old new sound holds h = record {
+  made = λ encoding made own begun.
+      let a = (own-adds bytes old new encoding h).0 own in
+      let t = takes bytes old.begun new.begun (begun-now bytes old new h) in
+      let u = (takes-units a.found t).1 in
+      let source = u.source in
+      let is = own-units a.found t u in
+      let before = package_or_new t.file old.begun in
+      let plain = plain-indexes source.object source.encoding source.indexes is.plain
+      u.indexes_are in
+      let added = source-made source before u.made u.with in
+      let order = made-order t.file source.object old.begun u.object_is u.order_is in
+      let before_sound = new-sound t.file old.begun sound in
+      let now : u.made ≡ made = same_Some u.made made (u.is ∙ begun) in
+      let long = λ (p : InProgress). length-map p.rows (λ (row : IndexEntry). row.id) in
+      let more : length before.rows < length u.made.rows =
+      grind (arith, a.more, u.is, long before, long u.made) in
+      let was : IsPlain source.encoding before = subst (λ e. IsPlain e before) (sym is.is)
+      (plain-before encoding t.file old.begun old.own a.before (holds.made encoding)) in
+      subst (IsPlain encoding) now (subst (λ e. IsPlain e u.made) is.is (record {
+        named = named-kept added plain more was.named;
+        offsets = tiled-kept source before u.made plain before_sound.units.table order u.with more
+            was.offsets;
+        units = names-kept plain added is.all before_sound order was.units;
+        info = λ some. info-there added u.encoding_is was.info;
+      }));
+}
 
 -- what stays so of a builder, whatever executables refer to, as inputs of this kind are taken
 in-order : (Q : List ℕ → Type 0) (P : State → Type 0)
@@ -96,14 +283,14 @@ joins-more bytes old now before same j =
     grind (arith, j.is, long, units-names old.begun, units-names now)
 
 -- inputs in order
-record Each (e : Encoding) (accepted : List (List ℕ)) (old new : State) : Type 0 where
+record InOrder (e : Encoding) (accepted : List (List ℕ)) (old new : State) : Type 0 where
   plain : All (IsPlainOf e) accepted
   adds : EachAdds accepted (units_in old) (units_in new)
   before : Before old.begun old.own e
 
 -- what holds at the end says what each input was, and the other way round
 exactly : (e : Encoding) (accepted : List (List ℕ)) (old new : State) → IsSoundBegun old.begun
-    → AreTaken accepted old new → Before new.begun new.own e ↔ Each e accepted old new
+    → AreTaken accepted old new → Before new.begun new.own e ↔ InOrder e accepted old new
 exactly e [] old new fine are =
     let none = All-nil (IsPlainOf e) in
     (λ h. assumption (none, ap units_in are.1, rw are.1 at h), λ each. rw are.1 each.before)
@@ -147,7 +334,7 @@ again-exactly accepted state are = (
       let each = (exactly own.0 accepted start state tt are).0 (λ made is. own.1) in
       record { encoding = own.0; plain = each.plain; adds = each.adds; sections = own.2 },
   λ is.
-      let each : Each is.encoding accepted start state =
+      let each : InOrder is.encoding accepted start state =
       record { plain = is.plain; adds = is.adds; before = λ made none. absurd cc } in
       grind (arith, (exactly is.encoding accepted start state tt are).1 each, is.sections),
 )

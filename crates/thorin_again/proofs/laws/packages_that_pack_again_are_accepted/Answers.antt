@@ -1,5 +1,4 @@
-use Rattle.thorin_again.proofs.Accepted.Written.{own-all, own-by-new}
-use Rattle.thorin_again.proofs.Lists.{inputs-hold}
+use Rattle.thorin_again.proofs.{Accepted.own-all, Accepted.own-by-new, Lists.inputs-hold}
 use Rattle.thorin_again.proofs.laws.packages_that_pack_again_are_accepted.Goals as goal
 
 pub returns-clause-accepted : goal.returns-clause-accepted
