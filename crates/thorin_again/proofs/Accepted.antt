@@ -21,17 +21,17 @@ use Rattle.thorin_again.proofs.Opened.{in-format, info-written, input-encoding, 
 use Rattle.thorin_again.proofs.Opened.{lie-used, object-written, offsets-are, opened-elf, own-made}
 use Rattle.thorin_join.proofs.{Joined.input-keeps, Joined.new-sound, Parts.Added.copied-or-offsets}
 use Rattle.thorin_again.proofs.Meant.{of-section, parts, place-eq, place-is, read-alone, row-lies}
+use Rattle.thorin_join.specs.Builder.{finish_test, IsFinishedState, order_of, start, State, taken}
 use Rattle.thorin_again.proofs.Lists.{answers-whole, AreEncoded, begun-now, first-of, input-order}
 use Rattle.thorin_input.specs.NewUnits.{is_met, none_met, once_test, SeenSections, with_each_read}
-use Rattle.thorin_join.specs.Builder.{finish_test, IsFinishedState, order_of, start, State, taken}
 use Rattle.thorin_again.proofs.Opened.{and-then, answered, behind, Fares, finished-shared, front}
 use Rattle.thorin_input.specs.Rows.{adjusted_contribution, row_test, unit_contribution, unit_row}
 use Rattle.thorin_join.specs.{Join.limit_of, Join.look_limit, Join.same_sort, StandApart.EachRow}
 use Rattle.thorin_input.specs.{Encodings.file_encoding, Encodings.own_encoding, Used.counts_once}
 use Rattle.thorin_input.specs.Adjusting.{adjusted, Adjustor, has_column_for, moved, moved_range}
 use Rattle.thorin_again.{proofs.Kept.keep-names, specs.OwnUnits.AllOf, specs.OwnUnits.HoldsOwn}
-use Rattle.thorin_again.proofs.Meant.{again-is, found-range, found-row, IsUnitOf, named-again}
 use Rattle.thorin_again.proofs.Opened.{own-offsets, own-parts-tried, OwnMade, present-written}
+use Rattle.thorin_again.proofs.Meant.{again-is, found-range, found-row, IsUnitOf, named-again}
 use Rattle.std.proofs.{ByRecursion.all_kept_by, lemmas.Map.lookup-none, lemmas.Map.NonePasses}
 use Rattle.thorin_again.specs.{Again.all_meant, Again.HaveEncodingOf, OwnRefusals.IsForeseen}
 use Rattle.thorin_again.proofs.Opened.{read-of, rest-differ, section_of, then-fares, Unless}
@@ -39,11 +39,11 @@ use Rattle.std.proofs.lemmas.List.{Elements.All-from_recursion, Sorted.sum_by-Is
 use Rattle.thorin_input.specs.NewUnits.{with_each_section, with_first, with_met, with_read}
 use Rattle.thorin_join.proofs.Files.Finished.{finished-grows, finished-is, finished-order}
 use Rattle.thorin_join.proofs.Files.Finished.{finished-own, finished-strings, part-there}
-use Rattle.thorin_input.specs.Adjusting.{other_index, own_index, row_of, without_column}
 use Rattle.thorin_again.specs.OwnInput.{IsOwn, own_source, written_object, written_used}
+use Rattle.thorin_input.specs.Adjusting.{other_index, own_index, row_of, without_column}
 use Rattle.thorin_join.proofs.Rows.OfUnits.{adjustor, own-index, some-index, whole-part}
-use Rattle.thorin_input.specs.NewUnits.{with_section, with_section_at, with_section_in}
 use Rattle.std.proofs.lemmas.Map.Keys.{IsDistinct-from_apart, IsDistinct-IsPermutation}
+use Rattle.thorin_input.specs.NewUnits.{with_section, with_section_at, with_section_in}
 use Rattle.thorin_join.proofs.Units.InRows.{keys-units, same_name-self, same_name-sym}
 use Rattle.thorin_again.proofs.{Meant.row-tested, Meant.row-there, Opened.up-to-parts}
 use Rattle.thorin_join.specs.{Builder.with_source_or_new, Laid.is_at, Laid.same_place}
@@ -55,10 +55,10 @@ use Rattle.std.proofs.lemmas.List.{Folds.list_any_none, Sums.length-filter}
 use Rattle.thorin_again.specs.Own.{has_content, has_sections, packs_again}
 use Rattle.thorin_again.proofs.Lists.{meant_or, rows-encoded, there-back}
 use Rattle.std.specs.{Cmp.both_ways, Cmp.IsEquivalence, List.IsDistinct}
-use Rattle.thorin_again.specs.OwnAccepted.{IsAccepted, IsAcceptedByNew}
 use Rattle.thorin_again.proofs.Offsets.{any-chosen, at-row, by-passing}
-use Rattle.thorin_again.specs.Plain.{HoldsPlain, IsPlain, NamesItself}
+use Rattle.thorin_again.specs.OwnAccepted.{IsAccepted, IsAcceptedByNew}
 use Rattle.thorin_join.proofs.Parts.ReadAlike.{parts-first, rows-read}
+use Rattle.thorin_again.specs.Plain.{HoldsPlain, IsPlain, NamesItself}
 use Rattle.std.proofs.Common.{IsPermutation, ltb-true, nat_lt, ◌≢◌}
 use Rattle.thorin_join.proofs.Rows.OneAdded.{place-put, range-none}
 use Rattle.std.proofs.Math.{Bool.and-false, ListN.get_or-map}
@@ -145,10 +145,6 @@ module _ {encoding : Encoding} {file : File} {indexes : Indexes} {made : InProgr
       let fine = λ (s : is_shared kind ≡ true). part-fine kind s (x kind) before (long kind s) in
       grind (arith, put kind, fine)) all_kinds) (λ parts are. tt))
 
--- none of the units has the name
-abbrev pub Free : DwarfObject → New → Type 0
-Free name new = NonePasses (same_name name) new.units
-
 pub flips : (a b : DwarfObject) → same_name a b ≡ same_name b a
 flips a b = both_ways (same_name a b) (same_name b a) (same_name-sym a b) (same_name-sym b a)
 
@@ -198,10 +194,11 @@ module _ (Fresh : Type 0) (E : ErrorValue → Type 0)
   abbrev Added : DwarfObject → New → New → Type 0
   Added name new next = Fresh → (unit : NewUnit) × (next.units ≡ new.units ++ (name, unit) ∷ [])
 
-  -- and the names of rows in sections that weren't met are free
+  -- and no unit has the name of a row in a section that wasn't met
   abbrev Open : SeenSections → New → Type 0
   Open met new = Fresh → (n : ℕ) (row : IndexEntry) → slice_get made.rows n ≡ Some row
-      → is_met (place_of row.id row.debug_types) met ≡ false → Free row.id new
+      → is_met (place_of row.id row.debug_types) met ≡ false
+      → NonePasses (same_name row.id) new.units
 
   -- one section
   module _ (met : SeenSections) (place : UnitSection) (from : Used)
@@ -220,7 +217,8 @@ module _ (Fresh : Type 0) (E : ErrorValue → Type 0)
     abbrev Left : ℕ → New → Type 0
     Left m new = Fresh → (n : ℕ) (row : IndexEntry) → slice_get made.rows n ≡ Some row
         → is_met (place_of row.id row.debug_types) met ≡ false
-        → (is_at place row ≡ true → length made.rows ≤ n + m) → Free row.id new
+        → (is_at place row ≡ true → length made.rows ≤ n + m)
+        → NonePasses (same_name row.id) new.units
 
     -- what is read of the last rows is taken
     abbrev TakesRows : List IndexEntry → List (Result Header ReadError) → Type 0

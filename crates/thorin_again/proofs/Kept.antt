@@ -25,8 +25,8 @@ use Rattle.thorin_join.proofs.{Joined.takes, Rows.OfUnits.whole-part, Rows.Stand
 use Rattle.thorin_join.proofs.Units.{InRows.same_name-self, InRows.same_name-true, Whole.units-go}
 use Rattle.dwp_dwarf.specs.{Abbreviations.Declaration, Abbreviations.declaration, Offsets.from_at}
 use Rattle.dwp_dwarf.proofs.{Offsets.from_is, Offsets.from_within, Tables.next_takes, Tables.said}
-use Rattle.thorin_join.proofs.Joined.{grows-with_parts, keys-held, Made, same-begun, source-made}
 use Rattle.thorin_join.proofs.Rows.OneAdded.{grows-with_bytes, keep-part, own-place, part-inside}
+use Rattle.thorin_join.proofs.Joined.{grows-with_parts, keys-held, Made, same-begun, source-made}
 use Rattle.thorin_join.proofs.Parts.Added.{content-with_bytes, content-with_parts, parts-copied}
 use Rattle.thorin_input.specs.Encodings.{encoding_of, first_encoding, has_encoding, section_has}
 use Rattle.thorin_join.proofs.Rows.OfUnits.{adjusted-plain, is-unit_row, IsUnitRow, whole-else}
@@ -235,11 +235,8 @@ module _ (source : Source) (kind : SectionKind)
 module _ {source : Source} {before now : InProgress} (a : Made source before now) where
   module _ (n : DwarfObject × NewUnit) (r : DwarfObject × UnitRead)
       (is : IsAdded (adding source before a.parts) n r) where
-    abbrev whole : IndexEntry
-    whole = (adding source before a.parts).whole
-
-    made : IsUnitRow source.indexes whole r.0 n.1.row
-    made = is-unit_row source.indexes whole r.0 n.1.row is.row
+    made : IsUnitRow source.indexes (adding source before a.parts).whole r.0 n.1.row
+    made = is-unit_row source.indexes _ r.0 n.1.row is.row
 
     -- of a section outside the format it has nothing
     nothing-outside : (kind : SectionKind) → is_in_format source.encoding kind ≡ false
@@ -250,7 +247,8 @@ module _ {source : Source} {before now : InProgress} (a : Made source before now
         by-bool _ (is_shared kind) (λ shared.
         let parts = parts-outside source kind none source.object.sections _ _ a.parts_are in
         let put = whole-part source.encoding before.file.contents a.parts kind shared in
-        let absent : contribution_to kind whole ≡ None = put ∙ rw parts refl in
+        let absent : contribution_to kind (adding source before a.parts).whole ≡ None =
+        put ∙ rw parts refl in
         let given = rw absent at (made.parts kind shared) in grind (arith, given))
         (λ apart. grind (arith, made.info, made.types, else))
 

@@ -10,35 +10,34 @@ use Joined.{elf_of, Encoding, encoding_in, Endianness, ErrorValue, false, File, 
 use Joined.{GivesNone, has_info, Header, IndexEntry, Indexes, inl, InProgress, Input, InputFile}
 use Joined.{inr, is_package, IsFinished, IsSound, IsSoundBegun, Joins, keys, kind_of, KindsDiffer}
 use Joined.{length, length-append, length-map, List, list_all, list_any, lookup, map, MatchOption}
-use Joined.{Meaning, meaning_at, Members, nat_tests, None, Ok, opened, Option, Package}
-use Joined.{package_or_new, place_of, Ranges, ReadError, refl, same-ok, same_name, same_Some}
-use Joined.{section, Some, Source, source_units, subst, sym, true, unit_bytes, UnitRead}
-use Joined.{units_begun, units_in, units_of, UnitSection, Used, with_input, [], ℕ, ◌+◌, ◌<◌, ◌∙◌}
-use Joined.{◌∷◌, ◌≡◌}
+use Joined.{Meaning, Members, nat_tests, None, Ok, opened, Option, Package, package_or_new}
+use Joined.{place_of, Ranges, ReadError, refl, same-ok, same_name, same_Some, section, Some, Source}
+use Joined.{source_units, subst, sym, true, unit_bytes, UnitRead, units_begun, units_in, units_of}
+use Joined.{UnitSection, Used, with_input, [], ℕ, ◌+◌, ◌<◌, ◌∙◌, ◌∷◌, ◌≡◌}
 use Rattle.thorin_again.specs.{Own.has_sections, Own.packs_again, OwnUnits.AllOf, OwnUnits.HoldsOwn}
-use Rattle.thorin_again.proofs.{Kept.of-one, Kept.order-added, Offsets.no-turn, Offsets.tiled-kept}
 use Rattle.thorin_again.specs.InFormat.{AreInFormat, HasEncodingOfOne, HaveEncodingsOf, IsInFormat}
+use Rattle.thorin_again.proofs.{Kept.of-one, Kept.order-added, Offsets.no-turn, Offsets.tiled-kept}
 use Rattle.std.proofs.{ByRecursion.All-map as each-mapped, lemmas.Map.Views.IfSome-lookup_from_All}
 use Rattle.thorin_again.specs.OneEncoding.{HaveEncodingOnceWritten, IsOfEncoding, IsOfOneEncoding}
 use Rattle.thorin_join.proofs.Files.Finished.{finished-is, finished-order, finished-own, members}
+use Rattle.thorin_again.proofs.Opened.{first-written, input-encoding, IsOwnRow, mean_of, OwnMade}
 use Rattle.thorin_again.proofs.{Kept.names-kept, Kept.OfOne, Meant.of-section, Meant.read-alone}
 use Rattle.thorin_join.proofs.Joined.{all_there, input-keeps, made-order, new-sound, new-units}
 use Rattle.std.proofs.lemmas.List.Elements.{All-append, All-cons, All-from_recursion, All-head}
 use Rattle.thorin_again.specs.{Again.input_encoding, InFormat.IsOneOf, OwnInput.written_object}
-use Rattle.thorin_join.specs.Builder.{finish_test, IsFinishedState, names_in, order_of, start}
 use Rattle.thorin_input.specs.Encodings.{encoding_of, file_encoding, first_encoding, is_index}
 use Rattle.thorin_again.proofs.Kept.{encoding-eq, HasInfo, info-there, input-rows, named-kept}
+use Rattle.thorin_join.specs.Builder.{finish_test, IsFinishedState, names_in, order_of, start}
 use Rattle.thorin_join.proofs.Units.ReadInTurn.{each-all, each-joining, Reads, sections-are}
 use Rattle.thorin_join.specs.{Builder.State, Builder.taken, Join.GivesUnit, Join.look_limit}
 use Rattle.thorin_again.specs.PlainInputs.{AreTaken, EachAdds, IsOfPlainObjects, IsPlainOf}
 use Rattle.thorin_again.specs.Plain.{HasNamedUnits, HasTiledOffsets, HoldsPlain, IsPlain}
 use Rattle.thorin_join.proofs.Joined.{same-begun, source-made, Takes, takes, TakesUnits}
-use Rattle.thorin_again.proofs.Opened.{first-written, input-encoding, IsOwnRow, OwnMade}
 use Rattle.thorin_join.specs.Meaning.{input_meaning, meaning_by, meant, object_meaning}
 use Rattle.thorin_again.specs.OneEncoding.{AnswersAs, AnswersOnceWritten, GivesWhole}
 use Rattle.dwp_base.specs.declared.section.SectionKind.TheVariants.{CuIndex, TuIndex}
-use Rattle.dwp_units.specs.Units.{header_at, older_at, unit_at, units, units_within}
 use Rattle.dwp_index.specs.Package.{found_counted, package_of, unit_at_row, unit_in}
+use Rattle.dwp_units.specs.Units.{header_at, older_at, unit_at, units, units_within}
 use Rattle.thorin_input.specs.Encodings.{is_plain, own_encoding, section_has}
 use Rattle.dwp_bytes.specs.declared.encoding.Format.TheVariants.{Dwarf32}
 use Rattle.std.proofs.lemmas.List.Elements.{All-map, All-nil, All-tail}
@@ -362,19 +361,6 @@ abbrev pub IsEncoded : Endianness → Meaning → Type 0
 IsEncoded order unit = (place : UnitSection) (found : Header) (rest : Input)
     → unit_at place (section order unit.bytes) ≡ Ok (found, rest) → found.encoding ≡ unit.encoding
 
--- what the units of an input of one encoding mean is encoded
-read-encoded : (source : Source) (all : Reads)
-    → list_all (section_has source.encoding source.object.order) source.object.sections ≡ true
-    → source_units source ≡ Ok all → CanMean (IsEncoded source.object.order) source all
-read-encoded source all has h =
-    let order = source.object.order in
-    All-weaker (WasRead source (OfOne source)) _ (λ r w unit made place found rest is.
-    let a = w.so.0.0 in
-    places-encoding place w.place (section order r.1.unit.whole.bytes) (found, rest)
-    (a.alone, a.rest) (ap (λ l. unit_at place (section order l)) (sym made.1) ∙ is) a.read
-    ∙ sym a.shifted.encoding ∙ w.so.1 ∙ sym made.0) all (sections-are source
-    (OfOne source) source.object.sections all (of-one source source.object.sections has) h)
-
 -- so of units with all that belongs to each
 abbrev pub AreEncoded : Endianness → Members → Type 0
 AreEncoded order units = All (λ (u : DwarfObject × Meaning). IsEncoded order u.1) units
@@ -408,10 +394,17 @@ input-encoded bytes begun now one j h before order =
     let t = takes bytes begun now h in
     rw (input-order bytes t.file begun now order t.opens h) (units-hold
     (IsEncoded (order_of begun t.file.order)) j t (λ u all read.
-    subst (λ o. CanMean (IsEncoded o) u.source all)
-    (made-order t.file u.source.object begun u.object_is u.order_is ∙ new-order t.file begun)
-    (read-encoded u.source all
-    (one t.file u.source.object u.source.encoding t.opens u.object_is u.encoding_is) read))
+    let source = u.source in
+    let own = source.object.order in
+    let has = one t.file source.object source.encoding t.opens u.object_is u.encoding_is in
+    subst (λ o. CanMean (IsEncoded o) source all)
+    (made-order t.file source.object begun u.object_is u.order_is ∙ new-order t.file begun)
+    (All-weaker (WasRead source (OfOne source)) _ (λ r w unit made place found rest is.
+    let a = w.so.0.0 in
+    places-encoding place w.place (section own r.1.unit.whole.bytes) (found, rest)
+    (a.alone, a.rest) (ap (λ l. unit_at place (section own l)) (sym made.1) ∙ is) a.read
+    ∙ sym a.shifted.encoding ∙ w.so.1 ∙ sym made.0) all (sections-are source
+    (OfOne source) source.object.sections all (of-one source source.object.sections has) read)))
     (before t.file.order))
 
 -- the header of a unit that was found
@@ -421,16 +414,13 @@ found-header : (pack : Package) (name : DwarfObject) (found : index.FoundUnit) (
 unfolding found_counted unit_at_row unit_in
 found-header pack name found count h = grind arith
 
--- what look-ups of these units give
-abbrev pub Finds : Package → Members → Type 0
-Finds pack units = (name : DwarfObject) → MatchOption (lookup (same_name name) units)
-    (GivesNone pack name (look_limit units name)) (GivesUnit pack name (look_limit units name))
-
--- look-ups give all strings
+-- look-ups that give these units give all their strings
 pub answers-whole : (order : Endianness) (units : Members) (file : File)
     → elf_of (file_text file) ≡ Ok (written_elf file) → file.order ≡ order
     → AreEncoded order units → (pack : Package) → package_of (file_text file) ≡ Ok pack
-    → Finds pack units → AnswersAs units (file_text file)
+    → ((name : DwarfObject) → MatchOption (lookup (same_name name) units)
+    (GivesNone pack name (look_limit units name)) (GivesUnit pack name (look_limit units name)))
+    → AnswersAs units (file_text file)
 unfolding encoding_in package_of
 answers-whole order units file back same are pack parsed finds =
     let whole = λ (name : DwarfObject) (unit : Meaning) (is : IsEncoded order unit)
@@ -468,9 +458,8 @@ unfolding encoding_in
 rows-encoded {encoding} {made} own names =
     let order = made.file.order in
     let c = made.file.contents in
-    let mean = meaning_at order c made.strings in
     All-map (λ (u : DwarfObject × Meaning). IsEncoded order u.1)
-    (λ (row : IndexEntry). (row.id, mean row)) made.rows (λ k d within.
+    (λ (row : IndexEntry). (row.id, mean_of made row)) made.rows (λ k d within.
     let row = get_or made.rows k d in
     let owns = (All-from_recursion (IsOwnRow made) made.rows own.rows k d within).owns in
     let bytes = unit_bytes c row in
@@ -500,7 +489,7 @@ unfolding encoding_of
 first-of made file encoding sound fin differ alike some =
     let order = made.file.order in
     let contents = made.file.contents in
-    let mean : IndexEntry → Meaning = λ row. meaning_at order contents made.strings row in
+    let mean = mean_of made in
     let Is = IsAlike order encoding in
     let own = finished-own made file fin places.Info in
     let held = first-written (kind_of places.Info) file.contents differ ∙ own in

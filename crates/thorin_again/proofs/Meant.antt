@@ -9,35 +9,35 @@ use Joined.{Each, elf_of, Encoding, Endianness, entry_ids, ErrorValue, false, Fi
 use Joined.{filter-append, first, has_info, Header, identifier_of, identity, Index, IndexEntry}
 use Joined.{Indexes, indexes_of, InProgress, Input, is_chosen, is_compilation, is_none, is_outside}
 use Joined.{IsRowOf, IsSound, IsSoundBegun, joining, kind_of, KindsDiffer, length, length-append}
-use Joined.{length-map, LieInside, List, map, map-append, Meaning, meaning_at, Members, name_for}
+use Joined.{length-map, LieInside, List, map, map-append, Meaning, Members, name_for}
 use Joined.{name_signature, nat_eq, nat_tests, ne_eqb, NewUnit, nil_from_length, None, none-some}
 use Joined.{Ok, opened, Option, order_test, package_or_new, part_of, place_of, range_in, Ranges}
 use Joined.{ReadError, refl, Result, row_in, rows_of, same-ok, section, SectionKind, slice_get}
 use Joined.{Some, Source, source_units, strings_of, subst, suc, sym, take-length, true}
 use Joined.{type_signature, unit_bytes, unit_section, UnitRead, units_in, units_of, UnitSection}
 use Joined.{with_input, with_source, zero, [], ℕ, ◌++◌, ◌+◌, ◌-◌, ◌<◌, ◌∙◌, ◌∷◌, ◌≡◌, ◌≤◌}
+use Rattle.thorin_again.proofs.Opened.{IsOwnRow, IsReadOf, lie-kept, lie-used, mean_of, none-behind}
 use Rattle.thorin_again.proofs.Opened.{object-written, opened-elf, read-of, rest-differ, section_of}
 use Rattle.std.proofs.lemmas.List.Sorted.{IsPermutation-map, IsPermutation-refl, IsPermutation-sym}
 use Rattle.thorin_join.proofs.{Joined.source-made, Moved.IsShifted, Moved.plain, Moved.unit-moves}
 use Rattle.thorin_join.specs.Meaning.{input_meaning, lie_inside, meaning_by, meaning_with, meant}
 use Rattle.thorin_join.specs.Meaning.{object_meaning, shared_kinds, source_meaning, unit_meaning}
 use Rattle.thorin_again.proofs.Opened.{empty-first, first-written, info-written, input-encoding}
-use Rattle.std.proofs.lemmas.List.Sorted.{IsPermutation-append_right, IsPermutation-filter_both}
 use Rattle.thorin_join.specs.Builder.{finish_test, IsFinishedState, order_of, source_for, State}
+use Rattle.std.proofs.lemmas.List.Sorted.{IsPermutation-append_right, IsPermutation-filter_both}
 use Rattle.thorin_input.specs.Rows.{abbreviations_for, numbered_abbreviations, own_contribution}
 use Rattle.std.proofs.lemmas.List.Elements.{All-drop, All-filter, All-from_recursion, All-head}
 use Rattle.std.proofs.lemmas.List.Elements.{All-nil, All-push, All-tail, All-take, All-weaker}
 use Rattle.thorin_join.proofs.Files.Finished.{finished-grows, finished-order, id-at, members}
 use Rattle.thorin_again.proofs.{Kept.joined, Kept.part-middle, Kept.range_at, Offsets.at-row}
 use Rattle.thorin_input.specs.{Encodings.encoding_of, Rows.row_abbreviations, Rows.row_test}
-use Rattle.thorin_again.proofs.Opened.{IsOwnRow, IsReadOf, lie-kept, lie-used, none-behind}
 use Rattle.thorin_package_input.{proofs.FirstRow.first_found, specs.RowPlaces.row_by_place}
 use Rattle.std.proofs.Math.{Dec.eqb-suc-zero, Seq.drop-append_seam, Seq.take-append_seam}
 use Rattle.thorin_again.specs.OwnInput.{IsOwn, own_source, written_object, written_used}
 use Rattle.thorin_join.specs.Meaning.{named_at, named_each, named_sections, named_unit}
 use Rattle.std.proofs.lemmas.List.{Folds.Any-from_list_any, Sorted.IsPermutation-trans}
-use Rattle.dwp_table.specs.{Probing.found_row, Probing.look_count, Table.FindsExactly}
 use Rattle.thorin_input.specs.{Adjusting.row_of, Indexes.index_for, Indexes.looked_up}
+use Rattle.dwp_table.specs.{Probing.found_row, Probing.look_count, Table.FindsExactly}
 use Rattle.std.proofs.lemmas.List.Sorted.{All-permutation, IsPermutation-append_comm}
 use Rattle.thorin_join.proofs.{Parts.Ranges.strings-are, Units.Whole.identity-sort}
 use Rattle.thorin_join.specs.Laid.{HaveOneRange, is_at, Lie, rows_at, same_place}
@@ -195,14 +195,11 @@ module _ {encoding : Encoding} {file : File} {indexes : Indexes} {made : InProgr
   source = own_source file encoding indexes
 
   -- what was joined
-  abbrev mean : IndexEntry → Meaning
-  mean r = meaning_at made.file.order made.file.contents made.strings r
-
-  own-row : IsRowOf file.order file.contents made.strings row (row.id, mean row)
+  own-row : IsRowOf file.order file.contents made.strings row (row.id, mean_of made row)
   own-row =
       let is = at-row (IsOwnRow made) made.rows _ row read.own.rows (row-there u) in
       rw (finished-order made file read.finished) (keep-rows _ _ _ _ made.strings (row ∷ [])
-      ((row.id, mean row) ∷ []) (finished-grows made file read.finished)
+      ((row.id, mean_of made row) ∷ []) (finished-grows made file read.finished)
       (take-length made.strings) (is, tt)).0
 
   pub row-lies : LieInside file.contents row
@@ -284,13 +281,13 @@ module _ {encoding : Encoding} {file : File} {indexes : Indexes} {made : InProgr
   outside k = ap₂ is_outside (read.held k) (found-range k)
       ∙ not-outside _ _ _ refl (row-lies.inside k)
 
-  means : meaning_by source u.own (Some parts.row) ≡ Some (mean row)
+  means : meaning_by source u.own (Some parts.row) ≡ Some (mean_of made row)
   unfolding meaning_by
   means =
       let is = own-row in
       let encoding_is = sym (at-row (λ row. row.encoding ≡ encoding) made.rows _ row read.own.all
       (row-there u)) in
-      let own_is : u.own ≡ (mean row).bytes =
+      let own_is : u.own ≡ (mean_of made row).bytes =
       grind (arith, bytes-own u, is.owns.place_is, is.owns.bytes) in
       let inside : lie_inside source (Some parts.row) ≡ true = λ i. is_none (find (λ k. outside k i)
       shared_kinds) in
@@ -302,7 +299,7 @@ module _ {encoding : Encoding} {file : File} {indexes : Indexes} {made : InProgr
       ∙ (λ i. Some (record {
         bytes = own_is i;
         contributions = λ k copied. (bytes-are k ∙ is.shares.content k copied) i;
-        strings = (mean row).strings;
+        strings = (mean_of made row).strings;
         encoding = encoding_is i;
       })))
 
@@ -337,7 +334,7 @@ module _ {encoding : Encoding} {file : File} {indexes : Indexes} {made : InProgr
   -- the unit has the name of its row, and means what was joined
   pub row-means-again : (name : DwarfObject) → name_for source kind h ≡ Ok name
       → (is_compilation name ≡ true → row_test indexes kind name h ≡ Ok tt) → (name ≡ row.id)
-      × (unit_meaning source (name, record { from = kind; unit = h }) ≡ Some (mean row))
+      × (unit_meaning source (name, record { from = kind; unit = h }) ≡ Some (mean_of made row))
   unfolding unit_meaning row_test
   row-means-again name named tested =
       let id = name-identity source kind h name named in
@@ -434,21 +431,18 @@ module _ {encoding : Encoding} {file : File} {indexes : Indexes} {made : InProgr
   abbrev input : Source
   input = own_source file encoding indexes
 
-  abbrev meaning_of : IndexEntry → Meaning
-  meaning_of row = meaning_at made.file.order made.file.contents made.strings row
-
   abbrev units_meant : Reads → List (DwarfObject × Option Meaning)
   units_meant us = map {B = DwarfObject × Option Meaning} (meant input) us
 
   -- the units of a section mean what its rows do, in their order
   units-are : (place : UnitSection) (us : Reads) → read_at input file.contents place ≡ Ok us → All
-      (IsTested input) us → units_meant us ≡ all_meant (members meaning_of (rows_at place made.rows))
+      (IsTested input) us → units_meant us ≡ all_meant (members (mean_of made) (rows_at place made.rows))
   unfolding named_each named_unit
   units-are place =
       let laid = is.own.sound.laid in
       of-section file.order file.contents place made.rows (λ todo got. (us : Reads)
       → named_each input (kind_of place) got ≡ Ok us → All (IsTested input) us
-      → units_meant us ≡ all_meant (members meaning_of (rows_at place todo)))
+      → units_meant us ≡ all_meant (members (mean_of made) (rows_at place todo)))
       (λ us named rest. ap units_meant (sym (same-ok [] us named)))
       (λ r rs got elsewhere later. rw elsewhere later) (λ r rs h got u later us named rest.
       let s1 = bind-was (named_unit input (kind_of place) (Ok h)) _ us named in
@@ -473,7 +467,7 @@ module _ {encoding : Encoding} {file : File} {indexes : Indexes} {made : InProgr
       (rw take-append_seam at (All-take (IsTested input) n _ both)) in
       let t = units-are places.Types split.1 split.3
       (rw drop-append_seam at (All-drop (IsTested input) n _ both)) in
-      let joined : all_meant (members meaning_of (rows_at places.Info made.rows ++ rows_at places.Types
+      let joined : all_meant (members (mean_of made) (rows_at places.Info made.rows ++ rows_at places.Types
       made.rows)) ≡ units_meant (split.0 ++ split.1) =
       simp map-append (ap₂ (λ a b. a ++ b) (sym i) (sym t)) in
       IsPermutation-trans _ _ _ (IsPermutation-map _ _ _ (IsPermutation-map _ made.rows _ apart))

@@ -22,19 +22,19 @@ use Rattle.thorin_join.proofs.Parts.{Ranges.count-again, ReadAlike.has-more, Rea
 use Rattle.thorin_join.proofs.{Files.Contents.HasRows, Joined.Made as Added, Joined.source-made}
 use Rattle.thorin_again.specs.Plain.{GiveStrings, HasOneOf, HasTiledOffsets, IsAmong, IsOfSome}
 use Rattle.std.proofs.lemmas.List.FromFn.{get_or-map-range_with_len, length-map-range_with_len}
-use Rattle.thorin_package_input.specs.PackagedOffsets.{rewritten_from, with_ranges, with_rows}
 use Rattle.std.proofs.Common.{add-mul, eqb-true, leb, leb-false, lt-ltb, true≢false, zero-mul}
+use Rattle.thorin_package_input.specs.PackagedOffsets.{rewritten_from, with_ranges, with_rows}
 use Rattle.thorin_again.specs.{OwnRefusals.UnlessStringOffset, Plain.IsWholeRange, Plain.Tile}
 use Rattle.std.proofs.{ByRecursion.all_kept_by, lemmas.Nat.row_fits, Math.Seq.drop-append-add}
 use Rattle.thorin_again.proofs.Kept.{content-added, once-more, order-added, parted, row_with}
 use Rattle.thorin_package_input.specs.PackagedOffsets.{offset_ranges, place_cmp, ranges_test}
-use Rattle.std.proofs.lemmas.Option.{get_or_from_slice_get, slice_get_cases, slice_get_read}
 use Rattle.thorin_join.proofs.Parts.Added.{each-part, joined_parts-more, joined_parts-other}
+use Rattle.std.proofs.lemmas.Option.{get_or_from_slice_get, slice_get_cases, slice_get_read}
 use Rattle.std.proofs.lemmas.List.Sorted.{IsPermutation-filter_both, list_any-IsPermutation}
 use Rattle.std.{proofs.Common.⊎_elim, specs.BTreeSet.insert_key, specs.List.range_with_len}
 use Rattle.thorin_join.proofs.Rows.OneAdded.{own-bytes, place-put, range-front, range_for}
-use Rattle.thorin_package_input.specs.RowPlaces.{is_range, range_of_row, ranges_of}
 use Rattle.std.proofs.lemmas.List.Elements.{All-from_recursion, recursion_from_All}
+use Rattle.thorin_package_input.specs.RowPlaces.{is_range, range_of_row, ranges_of}
 use Rattle.thorin_package_input.proofs.RowRanges.{compilation_there, type_there}
 use Rattle.thorin_join.{proofs.Parts.Ranges.range-of, specs.StandApart.EachRow}
 use Rattle.thorin_again.proofs.Kept.{RowHas, rows-share, with-any, with-each}
@@ -385,22 +385,6 @@ module _ (source : Source) (plain : is_package source.indexes ≡ false) (start 
   abbrev MadeBy : Parts → Type 0
   MadeBy parts = Made (joined_parts StrOffsets parts.0) parts.1 (has_part StrOffsets parts.0)
 
-  one-fills : (bytes : List ℕ) (strings : List (List ℕ)) (written : List ℕ × List (List ℕ))
-      → IsTable strings → remapped order encoding section bytes (length bytes) strings ≡ Ok written
-      → Fills (length written.0) (entry_count encoding (length bytes))
-      × Lead order encoding section bytes (entry_count encoding (length bytes)) strings written.1
-  unfolding remapped_entries
-  one-fills bytes strings written table h =
-      elim (range-of order encoding section bytes (length bytes) strings written h) [
-        | inl none ↦
-            let count = ap (entry_count encoding) none.0 ∙ no-entries encoding in
-            rw (← none.1) (inl (refl, count), ([], rw count refl))
-        | inr r ↦
-            let law = range_named _ _ _ _ _ strings written table h in
-            let long = law.long (eqb-false (length bytes) 0 r.some) in
-            (inr (long, r.header, r.header_is), (r.entries.0, grind (arith, r.entries_are, r.is)))
-      ]
-
   -- before DWARF 5 there are the entries alone
   older-long : encoding.version < 5 → (size n : ℕ) → Fills size n → size ≡ n * entry_width
   older-long old size n fills = grind (arith, zero-mul entry_width, no_header encoding old)
@@ -408,7 +392,7 @@ module _ (source : Source) (plain : is_package source.indexes ≡ false) (start 
   made-rewritten : (before : Parts) (bytes : List ℕ) (next : Parts) → MadeBy before
       → (leb 5 encoding.version ≡ true → has_part StrOffsets before.0 ≡ false)
       → Rewritten source before bytes next → MadeBy next
-  unfolding header_of
+  unfolding header_of remapped_entries
   made-rewritten before bytes next so_far once w =
       let new = joined_parts StrOffsets before.0 in
       let own = w.written.0 in
@@ -417,7 +401,15 @@ module _ (source : Source) (plain : is_package source.indexes ≡ false) (start 
       let rewrites : remapped order encoding section bytes (length bytes) before.1 ≡ Ok w.written =
       sym (rewritten-plain source bytes before.1 plain) ∙ w.rewrites in
       let law = range_named _ _ _ _ _ _ w.written so_far.table rewrites in
-      let one = one-fills bytes before.1 w.written so_far.table rewrites in
+      let one : Fills (length own) m × Lead order encoding section bytes m before.1 strings =
+      elim (range-of order encoding section bytes (length bytes) before.1 w.written rewrites) [
+        | inl none ↦
+            let count = ap (entry_count encoding) none.0 ∙ no-entries encoding in
+            rw (← none.1) (inl (refl, count), ([], rw count refl))
+        | inr r ↦
+            let long = law.long (eqb-false (length bytes) 0 r.some) in
+            (inr (long, r.header, r.header_is), (r.entries.0, grind (arith, r.entries_are, r.is)))
+      ] in
       let alone : Again own m before.1 strings = λ final table kept.
       let same = entries-alike order encoding (data_of final) section own bytes m before.1
       (λ k less. let name = law.named k less in name.new final table kept ∙ sym name.old) in

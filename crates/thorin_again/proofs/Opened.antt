@@ -22,8 +22,8 @@ use Rattle.thorin_package_input.specs.{PackagedOffsets.rewritten_from, PackagedR
 use Rattle.thorin_index.{proofs.Each.have_passed, proofs.Each.used_known, specs.IndexText.is_used}
 use Rattle.thorin_again.proofs.Offsets.{all-rewritten, any-chosen, are-named, at-row, has-range}
 use Rattle.thorin_again.specs.OwnInput.{CanTake, IsOwn, own_source, TakesParts, TakesUpToParts}
-use Rattle.thorin_again.proofs.Offsets.{passing, ranges-are, some-has, tile-lies, tile-tested}
 use Rattle.thorin_join.proofs.Files.Finished.{finished-strings, members, Tested, tested-state}
+use Rattle.thorin_again.proofs.Offsets.{passing, ranges-are, some-has, tile-lies, tile-tested}
 use Rattle.thorin_join.proofs.Files.Finished.{finished-content, finished-order, finished-own}
 use Rattle.thorin_input.specs.Used.{counts_once, has_kind, is_present, opened, used_bytes}
 use Rattle.thorin_join.specs.Builder.{finish_test, IsFinishedState, order_of, same_order}
@@ -37,8 +37,8 @@ use Rattle.std.proofs.lemmas.{Bool.or_right, List.Elements.recursion_from_All}
 use Rattle.thorin_input.{proofs.Walking.found-any, specs.Format.is_of_units}
 use Rattle.dwp_elf_read.specs.Elf.{elf_of, is_named, is_of, SectionMeaning}
 use Rattle.thorin_input.specs.Indexes.{index_in, indexes_of, version_test}
-use Rattle.thorin_join.proofs.Parts.Added.{rewritten-package, slice-long}
 use Rattle.dwp_base.specs.declared.section.SectionKind.TheVariants.{Info}
+use Rattle.thorin_join.proofs.Parts.Added.{rewritten-package, slice-long}
 use Rattle.thorin_index.proofs.ReadAgain.{index_is_read, written_rows}
 use Rattle.thorin_join.specs.Builder.{source_for, State, with_units}
 use Rattle.dwp_base.proofs.EveryKind.{kind-named, not-older}
@@ -46,8 +46,8 @@ use Rattle.thorin_package_input.proofs.FirstRow.{range_is}
 use Rattle.dwp_elf_read.specs.Identification.{identity_of}
 use Rattle.dwp_index.specs.Contents.{is_of_kind}
 use Rattle.dwp_table.specs.Columns.{column_of}
-use Rattle.thorin_again.specs.OwnUnits.{AllOf}
 use Rattle.dwp_elf.specs.FileText.{name_table}
+use Rattle.thorin_again.specs.OwnUnits.{AllOf}
 use Rattle.dwp_base.specs.declared.section.SectionKind.TheVariants as kinds
 use Rattle.dwp_index.specs.Contents as contents
 use Rattle.dwp_units.specs.declared.unit.UnitSection.TheVariants as places
@@ -289,11 +289,13 @@ one-is-there : (compilations types : Option Index) (rows : List IndexEntry)
 one-is-there c t [] of_c of_t some = absurd (some refl)
 one-is-there c t (row ∷ rows) of_c of_t some = grind arith
 
--- a row is that of a unit of a package
+-- what the unit of a row of a package means, and that the row is that of this unit
+abbrev pub mean_of : InProgress → IndexEntry → Meaning
+mean_of made row = meaning_at made.file.order made.file.contents made.strings row
+
 abbrev pub IsOwnRow : InProgress → IndexEntry → Type 0
 IsOwnRow made row =
-    let mean = meaning_at made.file.order made.file.contents made.strings in
-    IsRowOf made.file.order made.file.contents made.strings row (row.id, mean row)
+    IsRowOf made.file.order made.file.contents made.strings row (row.id, mean_of made row)
 
 each-row : (order : Endianness) (c : Contents) (strings : List (List ℕ))
     (mean : IndexEntry → Meaning) (rows : List IndexEntry)
@@ -339,8 +341,7 @@ own-made {state} {encoding} sound_begun tested fin some all =
     let made = fin.made in
     let have : AllOf encoding (units_of made) = rw fin.begun at all in
     let there : 0 < length (units_of made) = rw fin.begun at some in
-    let mean = meaning_at made.file.order made.file.contents made.strings in
-    let unit : IndexEntry → DwarfObject × Meaning = λ row. (row.id, mean row) in
+    let unit : IndexEntry → DwarfObject × Meaning = λ row. (row.id, mean_of made row) in
     let long : length (units_of made) ≡ length made.rows = length-map made.rows unit in
     let sound : IsSound made = rw fin.begun at sound_begun in
     record {
@@ -350,7 +351,7 @@ own-made {state} {encoding} sound_begun tested fin some all =
           let is = have k (unit d) (omega (arith, within, long)) in
           grind (arith, is, get_or-map unit made.rows k d));
       some = λ none. omega (arith, there, long, ap length none);
-      rows = each-row _ _ _ mean made.rows sound.units.rows;
+      rows = each-row _ _ _ (mean_of made) made.rows sound.units.rows;
     }
 
 module _ {state : State} {encoding : Encoding} {file : File} (own : IsOwn state encoding file) where
@@ -505,11 +506,10 @@ module _ {encoding : Encoding} {file : File} {indexes : Indexes} {made : InProgr
       let inside = own.lie.inside kinds.StrOffsets r e in
       let part = part-inside bytes r inside in
       let all = at-row (λ row. row.encoding ≡ encoding) made.rows p.0 p.1 is.own.all p.2 in
-      let mean = meaning_at made.file.order made.file.contents made.strings p.1 in
       let table = is.own.sound.units.table in
       let read = own.shares.string made.strings table (take-length made.strings) in (
         whole,
         are-named made.file.order encoding (data_of made.strings) (range_bytes bytes r) r.size
-            (slice-long bytes r.offset.0 r.size inside) whole (slice_get mean.strings)
+            (slice-long bytes r.offset.0 r.size inside) whole (slice_get (mean_of made p.1).strings)
             (λ k. grind (arith, e, part, all, read k)),
       )))
