@@ -18,7 +18,7 @@ use Rattle.std.proofs.{lemmas.Map.Made.keys_of-map_values, lemmas.Map.Views.Cont
 use Rattle.std.proofs.{lemmas.List.Folds.list_any-append, lemmas.Map.Entries.none_past_head}
 use Rattle.std.proofs.{lemmas.Map.lookup-none, Math.Seq.drop-append_seam, Math.Seq.take-append_seam}
 use Rattle.std.proofs.lemmas.Map.Keys.{IsDistinct-from_apart, IsDistinct-tail}
-use Rattle.thorin_again.proofs.Accepted.Written.{apart-again, count-again, equivalence, found-again}
+use Rattle.thorin_again.proofs.Accepted.{apart-again, count-again, equivalence, found-again}
 use Rattle.thorin_again.specs.Again.{all_meant, HaveEncodingOf, MeansOnceWritten, MeansWhereTaken}
 use Rattle.std.{proofs.Math.ListN.get_or-map, specs.List.Sorted.apply_swaps}
 use Rattle.thorin.proofs.Running.{as-written, each-taken}

@@ -13,7 +13,7 @@ use Rattle.thorin_join.specs.Builder.{order_of}
 use Rattle.thorin_again.specs.{Again.input_encoding, OwnAccepted.IsAcceptedOnceWritten}
 use Rattle.thorin_again.specs.OwnRefusals.{IsForeseen, UnlessForeseen}
 use Rattle.thorin.{proofs.Running.each-taken, proofs.Running.read-text, specs.Groups.IsUnwritten}
-use Rattle.thorin_again.proofs.Opened.Sections.{and-then}
+use Rattle.thorin_again.proofs.Opened.{and-then}
 
 -- of a file that may have been written
 pub if-written : {V : Type 0} (view : V → List ℕ) (state : State) (P : List ℕ → Type 0)

@@ -32,7 +32,7 @@ pub use Rattle.std.specs.Option.{ok_or, option_or}
 pub use Rattle.thorin.specs.Again.{CanBePackedAgain, HasCommonEncoding, IsTakenAgain}
 pub use Rattle.thorin.specs.Run.{IsWritten, Ran, TakesInput, Writes}
 pub use Rattle.thorin.specs.declared.packing.Input.{Input}
-pub use Rattle.thorin_again.proofs.Kept.OneEncoding.{begun-now}
+pub use Rattle.thorin_again.proofs.Lists.{begun-now}
 pub use Rattle.thorin_again.specs.OneEncoding.{AnswersAs, IsOfEncoding}
 pub use Rattle.thorin_again.specs.PlainInputs.{AreTaken, IsPlainOf}
 pub use Rattle.thorin_errors.specs.Errors.{ParseFileKind}

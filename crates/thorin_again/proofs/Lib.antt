@@ -1,7 +1,6 @@
-mod Terms
-pub mod Kept
+mod Kept
 mod Offsets
 pub mod Opened
 mod Meant
+pub mod Lists
 pub mod Accepted
-mod Lists

@@ -1,3 +1,594 @@
--- The string offsets of a written package, rewritten once more.
-pub mod RewrittenAgain
-pub mod Tiled
+-- The ranges of string offsets that the rows of a written package have are all that fill its
+-- section, in their order. Whole ranges that lie one directly behind the other pass the tests, and
+-- are rewritten unless the offset of a string doesn't fit; those that were rewritten, once more
+-- from the same strings on, give the same strings. The ranges of string offsets fill their section,
+-- where plain objects of one encoding are added: what each gives to string offsets is nothing, or a
+-- whole range.
+use Rattle.thorin_join.proofs.Terms as Joined
+use Joined.{All-append, All-weaker, ap, arith, bind-was, Bool, by-bool, content_of, Contents}
+use Joined.{Contribution, contribution_put, data_of, drop, drop-append-le, Each, Encoding}
+use Joined.{Endianness, entry_count, entry_in, eqb, false, first, fitting_offset, has_part}
+use Joined.{header_size, Index, IndexEntry, inl, InProgress, inr, is-same, is_chosen, is_package}
+use Joined.{IsTable, joined_parts, kept_more, length, length-append, length-drop, List, list_any}
+use Joined.{list_any-append, map, named_at, nat_tests, no_header, None, none-some, number_front}
+use Joined.{offset_size, Ok, Option, Parts, parts_of, range_named, refl, remapped, rows_of}
+use Joined.{same_Some, slice_get, slice_range, Some, Source, Str, string_at, string_in, StrOffsets}
+use Joined.{subst, suc, sym, take, take-length, true, with_source, zero, [], ℕ, ◌*◌, ◌++◌, ◌+◌, ◌<◌}
+use Joined.{◌>>=◌, ◌∙◌, ◌∷◌, ◌≡◌, ◌≤◌, ◌⊎◌}
+use Rattle.std.proofs.lemmas.{Bool.eqb-false, List.Folds.Any-from_list_any, Option.slice_get_within}
+use Rattle.thorin_strings.specs.StringOffsets.{entry_bytes, header_of, offset_at, remapped_entries}
+use Rattle.thorin_join.proofs.Parts.Added.{no-entries, Rewritten, rewritten-plain, units-strings}
+use Rattle.thorin_join.proofs.Parts.{Ranges.count-again, ReadAlike.has-more, ReadAlike.has-other}
+use Rattle.thorin_join.proofs.{Files.Contents.HasRows, Joined.Made as Added, Joined.source-made}
+use Rattle.thorin_again.specs.Plain.{GiveStrings, HasOneOf, HasTiledOffsets, IsAmong, IsOfSome}
+use Rattle.std.proofs.lemmas.List.FromFn.{get_or-map-range_with_len, length-map-range_with_len}
+use Rattle.std.proofs.Common.{add-mul, eqb-true, leb, leb-false, lt-ltb, true≢false, zero-mul}
+use Rattle.thorin_package_input.specs.PackagedOffsets.{rewritten_from, with_ranges, with_rows}
+use Rattle.thorin_again.specs.{OwnRefusals.UnlessStringOffset, Plain.IsWholeRange, Plain.Tile}
+use Rattle.std.proofs.{ByRecursion.all_kept_by, lemmas.Nat.row_fits, Math.Seq.drop-append-add}
+use Rattle.thorin_again.proofs.Kept.{content-added, once-more, order-added, parted, row_with}
+use Rattle.thorin_package_input.specs.PackagedOffsets.{offset_ranges, place_cmp, ranges_test}
+use Rattle.thorin_join.proofs.Parts.Added.{each-part, joined_parts-more, joined_parts-other}
+use Rattle.std.proofs.lemmas.Option.{get_or_from_slice_get, slice_get_cases, slice_get_read}
+use Rattle.std.proofs.lemmas.List.Sorted.{IsPermutation-filter_both, list_any-IsPermutation}
+use Rattle.std.{proofs.Common.⊎_elim, specs.BTreeSet.insert_key, specs.List.range_with_len}
+use Rattle.thorin_join.proofs.Rows.OneAdded.{own-bytes, place-put, range-front, range_for}
+use Rattle.std.proofs.lemmas.List.Elements.{All-from_recursion, recursion_from_All}
+use Rattle.thorin_package_input.specs.RowPlaces.{is_range, range_of_row, ranges_of}
+use Rattle.thorin_package_input.proofs.RowRanges.{compilation_there, type_there}
+use Rattle.thorin_join.{proofs.Parts.Ranges.range-of, specs.StandApart.EachRow}
+use Rattle.thorin_again.proofs.Kept.{RowHas, rows-share, with-any, with-each}
+use Rattle.thorin_package_input.proofs.FirstRow.{range_is, range_of_found}
+use Rattle.thorin_package_input.specs.PackagedReading.{range_bytes}
+use Rattle.thorin_strings.specs.StringOffsets.{remapped_entry}
+use Rattle.thorin_index.specs.ReadRows.{HasContributions}
+use Rattle.dwp_base.specs.Numbers.{number}
+
+-- the rows of compilation units and those of type units
+pub at-row : (P : IndexEntry → Type 0) (rows : List IndexEntry) (n : ℕ) (row : IndexEntry)
+    → EachRow P rows → slice_get rows n ≡ Some row → P row
+at-row P rows n row h at = subst P (get_or_from_slice_get rows n row row at)
+    (All-from_recursion P rows h n row (slice_get_within rows n row at))
+
+-- where some row passes a test, one of either sort does
+pub any-chosen : (test : IndexEntry → Bool) (rows : List IndexEntry) → list_any test rows ≡ true
+    → (list_any test (rows_of true rows) ≡ true) ⊎ (list_any test (rows_of false rows) ≡ true)
+any-chosen test rows h =
+    let both : list_any test (rows_of true rows ++ rows_of false rows) ≡ true =
+    sym (list_any-IsPermutation test rows _ (IsPermutation-filter_both (is_chosen true)
+    (is_chosen false) (λ row. refl) rows)) ∙ h in
+    grind (arith, nat_tests, list_any-append test (rows_of true rows) (rows_of false rows))
+
+-- a row that passes
+pub passing : (test : IndexEntry → Bool) (rows : List IndexEntry) → list_any test rows ≡ true
+    → (n : ℕ) × (row : IndexEntry) × (slice_get rows n ≡ Some row) × (test row ≡ true)
+passing test rows h = let any = Any-from_list_any test rows h in
+    (any.0, any.1, slice_get_read rows _ any.0 any.1 refl any.2 (sym any.3), any.4)
+
+-- what follows from a row that passes, and its parts in the index of these rows
+pub by-passing : (P : Type 0) (test : IndexEntry → Bool) (read : Option Index)
+    (rows : List IndexEntry) → HasRows read rows → list_any test rows ≡ true
+    → ((index : Index) (n : ℕ) (row : IndexEntry) → read ≡ Some index → slice_get rows n ≡ Some row
+    → test row ≡ true → HasContributions index (n + 1) row → P) → P
+by-passing P test None rows has h f = let none = rw has at h in absurd cc
+by-passing P test (Some index) rows has h f =
+    let p = passing test rows h in f index p.0 p.1 refl p.2 p.3 (has.1.each p.0 p.1 p.2)
+
+-- each range that some row has is there
+abbrev pub has-range : Contribution → IndexEntry → Bool
+has-range r row = is_range r row.debug_str_offsets
+
+pub some-has : (r : Contribution) (rows : List IndexEntry) → IsOfSome r rows
+    → list_any (has-range r) rows ≡ true
+some-has r [] h = absurd h
+some-has r (row ∷ rows) h = grind (arith, nat_tests, some-has r rows)
+
+ranges-there : (compilations types : Option Index) (rows : List IndexEntry) (r : Contribution)
+    → HasRows compilations (rows_of true rows) → HasRows types (rows_of false rows)
+    → 0 < r.size → IsOfSome r rows → IsAmong r (offset_ranges compilations types)
+ranges-there compilations types rows r c t some h =
+    ⊎_elim (λ u. by-passing _ (has-range r) compilations _ c u (λ index n row is at has parts.
+    rw is (compilation_there index (n + 1) parts.row r parts.there
+    (grind (arith, nat_tests, parts.contributions StrOffsets, range_is r row.debug_str_offsets has))
+    types))) (λ u. by-passing _ (has-range r) types _ t u (λ index n row is at has parts.
+    rw is (type_there index (n + 1) parts.row r parts.there
+    (grind (arith, nat_tests, parts.contributions StrOffsets, range_is r row.debug_str_offsets has))
+    compilations))) (any-chosen (has-range r) rows (some-has r rows h))
+
+-- ranges in the order of others, of which some may be left out
+abbrev IsPartOf : List Contribution → List Contribution → Type 0
+IsPartOf xs [] = xs ≡ []
+IsPartOf xs (y ∷ ys) = ((zs : List Contribution) × (xs ≡ y ∷ zs) × IsPartOf zs ys) ⊎ IsPartOf xs ys
+
+part-among : (xs ys : List Contribution) (r : Contribution) → IsPartOf xs ys → IsAmong r xs
+    → IsAmong r ys
+part-among xs [] r part h = grind arith
+part-among [] (y ∷ ys) r part h = absurd h
+part-among (x ∷ xs) (y ∷ ys) r part h = grind (arith, part-among xs ys r, part-among (x ∷ xs) ys r)
+
+none-part : (ys : List Contribution) → IsPartOf [] ys
+none-part [] = refl
+none-part (y ∷ ys) = inr (none-part ys)
+
+-- ranges that lie one directly behind the other
+module _ (order : Endianness) (encoding : Encoding) where
+  pub tile-lies : (at end : ℕ) (ys : List Contribution) (r : Contribution) → Tile order encoding at
+      ys end → IsAmong r ys → (at ≤ r.offset.0) × IsWholeRange order encoding r.size
+  tile-lies at end [] r tile h = absurd h
+  tile-lies at end (y ∷ ys) r tile h = grind (arith, tile-lies (at + y.size) end ys r tile.2)
+
+  tile-apart : (at end : ℕ) (y : Contribution) (ys : List Contribution) (r : Contribution)
+      → Tile order encoding at (y ∷ ys) end → IsAmong r ys → y.offset.0 < r.offset.0
+  tile-apart at end y ys r tile h =
+      omega (arith, (tile-lies (at + y.size) end ys r tile.2 h).0, tile.0, tile.1.some)
+
+  pub tile-end : (at end : ℕ) (ys : List Contribution) → Tile order encoding at ys end → at ≤ end
+  tile-end at end [] tile = omega (arith, tile)
+  tile-end at end (y ∷ ys) tile = omega (arith, tile-end (at + y.size) end ys tile.2)
+
+  -- one of them is put among some of them
+  put-part : (at end : ℕ) (ys xs : List Contribution) (r : Contribution) → Tile order encoding at ys
+      end → IsPartOf xs ys → IsAmong r ys → IsPartOf (insert_key place_cmp xs r) ys
+  put-part at end [] xs r tile part h = absurd h
+  put-part at end (y ∷ ys) [] r tile part h =
+      grind (arith, put-part (at + y.size) end ys [] r tile.2)
+  put-part at end (y ∷ ys) (x ∷ xs) r tile part h =
+      let rest = λ (zs : List Contribution). put-part (at + y.size) end ys zs r tile.2 in
+      let less = λ (z : Contribution). tile-apart at end y ys z tile in
+      grind (arith, nat_tests, rest xs, rest (x ∷ xs), less r, less x, part-among (x ∷ xs) ys x)
+
+  -- part of them, in their order, and each of them: all
+  all-same : (at end : ℕ) (ys xs : List Contribution) → Tile order encoding at ys end
+      → IsPartOf xs ys → ((r : Contribution) → IsAmong r ys → IsAmong r xs) → xs ≡ ys
+  all-same at end [] xs tile part all = part
+  all-same at end (y ∷ ys) xs tile (inl (zs, is, p)) all =
+      let less = λ (r : Contribution). tile-apart at end y ys r tile in
+      grind (arith, all-same (at + y.size) end ys zs tile.2 p (λ r h. grind (arith, all r, less r)))
+  all-same at end (y ∷ ys) xs tile (inr p) all =
+      grind (arith, tile-apart at end y ys y tile, part-among xs ys y p, all y)
+
+  module _ (end : ℕ) (ys : List Contribution) (tile : Tile order encoding 0 ys end) where
+    ranges-part : (ranges : List (Option Contribution)) (xs : List Contribution)
+        → Each (λ o. (r : Contribution) → o ≡ Some r → IsAmong r ys) ranges → IsPartOf xs ys
+        → IsPartOf (with_ranges ranges xs) ys
+    ranges-part [] xs among part = part
+    ranges-part (None ∷ ranges) xs among part = ranges-part ranges xs among.1 part
+    ranges-part (Some r ∷ ranges) xs among part = ranges-part ranges (insert_key place_cmp xs r) among.1
+        (put-part 0 end ys xs r tile part (among.0 r refl))
+
+    index-part : (read : Option Index) (rows : List IndexEntry) (xs : List Contribution)
+        → HasRows read rows → EachRow (HasOneOf ys) rows → IsPartOf xs ys
+        → IsPartOf (with_rows read xs) ys
+    unfolding ranges_of
+    index-part None rows xs has each part = part
+    index-part (Some index) rows xs has each part =
+        let range = range_of_row index StrOffsets in
+        let count = length index.offsets in
+        ranges-part (map range (range_with_len 1 count)) xs (recursion_from_All _ _ (λ n d less r e.
+        let within : n < count = omega (arith, less, length-map-range_with_len range 1 count) in
+        elim (slice_get_cases rows n).1 [
+          | inl there ↦
+              let parts = has.1.each n there.0 there.2 in
+              let found = range_of_found index StrOffsets (n + 1) parts.row parts.there in
+              let at = get_or-map-range_with_len range 1 count n (n + 1) d within (omega arith) in
+              at-row (HasOneOf ys) rows n there.0 each there.2 r
+              (grind (arith, parts.contributions StrOffsets, found, at, e))
+          | inr past ↦ absurd (omega (arith, within, past.0, has.1.count))
+        ])) part
+
+    -- those of the rows of both indexes are all of them
+    pub ranges-are : (compilations types : Option Index) (rows : List IndexEntry)
+        → HasRows compilations (rows_of true rows) → HasRows types (rows_of false rows)
+        → EachRow (HasOneOf ys) rows → ((r : Contribution) → IsAmong r ys → IsOfSome r rows)
+        → offset_ranges compilations types ≡ ys
+    unfolding offset_ranges
+    ranges-are compilations types rows c t has named =
+        let chosen = λ (b : Bool). all_kept_by (is_chosen b) (HasOneOf ys) rows has in
+        all-same 0 end ys _ tile (index-part types _ _ t (chosen false)
+        (index-part compilations _ _ c (chosen true) (none-part ys))) (λ r h.
+        ranges-there compilations types rows r c t (tile-lies 0 end ys r tile h).1.some (named r h))
+
+  abbrev width : ℕ
+  width = offset_size encoding.format
+
+  -- ranges that lie one directly behind the other pass the tests
+  pub tile-tested : (size at end last : ℕ) (ys : List Contribution) → Tile order encoding at ys end
+      → end ≤ size → last ≤ at → ranges_test encoding size last ys ≡ Ok tt
+  unfolding ranges_test
+  tile-tested size at end last [] tile inside behind = refl
+  tile-tested size at end last (y ∷ ys) tile inside behind =
+      let rest = tile-tested size (at + y.size) end (y.offset.0 + y.size) ys tile.2 inside
+      (omega (arith, tile.0)) in
+      grind (arith, nat_tests, tile.0, tile.1.long, tile-end (at + y.size) end ys tile.2, rest)
+
+  -- a whole range has its entries behind its header
+  pub whole-remapped : (section bytes : List ℕ) (size : ℕ) (strings : List (List ℕ))
+      → (whole : IsWholeRange order encoding size)
+      → remapped order encoding section bytes size strings
+      ≡ (remapped_entries order encoding section bytes whole.count strings >>=
+      λ entries. Ok (whole.header ++ entry_bytes order encoding.format entries.0, entries.1))
+  unfolding remapped
+  whole-remapped section bytes size strings whole =
+      let count = count-again encoding.format size (header_size encoding) whole.count whole.long in
+      grind (arith, nat_tests, count, whole.some, whole.long, whole.written)
+
+  module _ (section bytes : List ℕ) where
+    -- a string is named at each of so many entries
+    abbrev pub AreNamed : ℕ → Type 0
+    AreNamed n = (k : ℕ) → k < n → (string : List ℕ)
+        × (named_at order encoding section bytes k ≡ Ok string)
+
+    entries-rewritten : (n : ℕ) (strings : List (List ℕ)) → AreNamed n
+        → UnlessStringOffset (remapped_entries order encoding section bytes n strings)
+    unfolding remapped_entries remapped_entry fitting_offset
+    entries-rewritten zero strings named = tt
+    entries-rewritten (suc n) strings named =
+        let rest = entries-rewritten n strings (λ k less. named k (omega (arith, less))) in
+        grind (arith, nat_tests, rest, named n (omega arith))
+
+    -- entries of all the bytes that a reader of packages reads
+    pub are-named : (size : ℕ) → size ≡ length bytes → (whole : IsWholeRange order encoding size)
+        → (there : ℕ → Option (List ℕ))
+        → ((k : ℕ) → string_in order encoding section bytes k ≡ Ok (there k)) → AreNamed whole.count
+    unfolding named_at offset_at string_in entry_in
+    are-named size long whole there read k less =
+        let count = count-again encoding.format _ _ _ whole.long in
+        let room = row_fits k width whole.count width less (omega arith) in
+        let offset = number order width (drop (header_size encoding + k * width) bytes) in
+        let s = bind-was (string_at section offset) (λ string. Ok (Some string)) (there k)
+        (grind (arith, nat_tests, count, room, whole.long, read k)) in
+        (s.0, grind (arith, nat_tests, room, whole.long, s.1))
+
+  -- a range of these bytes is whole, and each of its entries names a string
+  abbrev pub CanRewrite : (section bytes : List ℕ) → Contribution → Type 0
+  CanRewrite section bytes r = (whole : IsWholeRange order encoding r.size)
+      × AreNamed section (range_bytes bytes r) whole.count
+
+  -- such ranges are rewritten in turn, unless the offset of a string doesn't fit
+  pub all-rewritten : (section bytes : List ℕ) (at : ℕ) (ranges : List Contribution)
+      (strings : List (List ℕ)) → ((r : Contribution) → IsAmong r ranges
+      → CanRewrite section bytes r)
+      → UnlessStringOffset (rewritten_from order encoding section bytes at ranges strings)
+  unfolding rewritten_from
+  all-rewritten section bytes at [] strings can = tt
+  all-rewritten section bytes at (r ∷ rs) strings can =
+      let here = can r (inl refl) in
+      let one = entries-rewritten section _ here.0.count strings here.1 in
+      let rest = λ (after : List (List ℕ)). all-rewritten section bytes (r.offset.0 + r.size) rs
+      after (λ x h. can x (inr h)) in
+      grind (arith, whole-remapped section (range_bytes bytes r) r.size strings here.0, one, rest)
+
+  -- so many entries, rewritten from these strings on, give those
+  abbrev pub Lead : (section bytes : List ℕ) → ℕ → (before after : List (List ℕ)) → Type 0
+  Lead section bytes n before after = (offsets : List ℕ)
+      × (remapped_entries order encoding section bytes n before ≡ Ok (offsets, after))
+
+  -- where the same strings are named, the same is written
+  pub entries-alike : (s t xs ys : List ℕ) (n : ℕ) (strings : List (List ℕ))
+      → ((k : ℕ) → k < n → named_at order encoding s xs k ≡ named_at order encoding t ys k)
+      → remapped_entries order encoding s xs n strings ≡ remapped_entries order
+      encoding t ys n strings
+  unfolding remapped_entries remapped_entry
+  entries-alike s t xs ys zero strings h = refl
+  entries-alike s t xs ys (suc n) strings h = grind (arith, h, entries-alike s t xs ys n strings)
+
+  -- joined ranges without a header
+  module _ (old : encoding.version < 5) (section xs ys : List ℕ) (n : ℕ)
+      (long : length xs ≡ n * width) where
+    named-front : (k : ℕ) → k < n → named_at order encoding section (xs ++ ys) k ≡ named_at order
+        encoding section xs k
+    unfolding named_at offset_at
+    named-front k less =
+        let at = header_size encoding + k * width in
+        let fits = row_fits k width n width less (omega arith) in
+        let none = no_header encoding old in
+        let same = number_front order encoding.format (drop at xs) ys
+        (omega (arith, none, fits, length-drop at xs)) in
+        grind (arith, nat_tests, same, none, fits, drop-append-le at xs ys, length-append xs ys)
+
+    named-back : (k : ℕ) (string : List ℕ) → named_at order encoding section ys k ≡ Ok string
+        → named_at order encoding section (xs ++ ys) (n + k) ≡ Ok string
+    unfolding named_at offset_at
+    named-back k string h =
+        let at = header_size encoding + k * width in
+        let place : header_size encoding + (n + k) * width ≡ length xs + at =
+        omega (arith, long, add-mul n k width) in
+        grind (arith, nat_tests, place, length-append xs ys, drop-append-add xs ys)
+
+    -- first those of the one, then those of the other
+    pub leads-joined : (m : ℕ) (before middle after : List (List ℕ)) → Lead section xs n before
+        middle → Lead section ys m middle after → Lead section (xs ++ ys) (n + m) before after
+    unfolding remapped_entries remapped_entry
+    leads-joined zero before middle after first second =
+        let alike = entries-alike section section (xs ++ ys) xs n before named-front in
+        (first.0, grind (arith, first.1, second.1, alike))
+    leads-joined (suc m) before middle after first second =
+        let next : n + suc m ≡ suc (n + m) = omega arith in
+        let s1 = bind-was (remapped_entries order encoding section ys m middle) _ _ second.1 in
+        let s2 = bind-was (remapped_entry order encoding section ys m s1.0.1) _ _ s1.2 in
+        let rest = leads-joined m before middle s1.0.1 first (s1.0.0, s1.1) in
+        (rest.0 ++ s2.0.0 ∷ [], rw next (grind (arith, rest.1, s2.1, s2.2, named-back m)))
+
+  -- ranges of these bytes, rewritten in turn from these strings on, give those
+  abbrev pub InTurn : (section bytes : List ℕ) → ℕ → List Contribution
+      → (before after : List (List ℕ)) → Type 0
+  InTurn section bytes at ranges before after = (written : List ℕ)
+      × (rewritten_from order encoding section bytes at ranges before ≡ Ok (written, after))
+
+  pub no-turn : (section bytes : List ℕ) (at : ℕ) (strings : List (List ℕ)) → InTurn section bytes
+      at [] strings strings
+  unfolding rewritten_from
+  no-turn section bytes at strings = (drop at bytes, refl)
+
+  pub turn : (section bytes : List ℕ) (at : ℕ) (r : Contribution) (rs : List Contribution)
+      (before middle after : List (List ℕ))
+      → (one : List ℕ) × (remapped order encoding section (range_bytes bytes r) r.size before ≡ Ok
+      (one, middle)) → InTurn section bytes (r.offset.0 + r.size) rs middle after
+      → InTurn section bytes at (r ∷ rs) before after
+  unfolding rewritten_from
+  turn section bytes at r rs before middle after one rest =
+      (slice_range bytes at r.offset.0 ++ one.0 ++ rest.0, rw (one.1, rest.1) refl)
+
+  -- with bytes behind them, and then further ranges
+  pub grown : (section old new : List ℕ) (place at end : ℕ) (ranges tail : List Contribution)
+      (before middle after : List (List ℕ)) → place ≡ at → Tile order encoding at ranges end
+      → end ≤ length old → InTurn section old place ranges before middle
+      → InTurn section (old ++ new) end tail middle after
+      → InTurn section (old ++ new) place (ranges ++ tail) before after
+  unfolding rewritten_from
+  grown section old new place at end [] tail before middle after here tile fits first second =
+      (second.0, grind (arith, first.1, second.1))
+  grown section old new place at end (r ∷ ranges) tail before middle after here tile fits first
+      second =
+      let s1 = bind-was (remapped order encoding section (range_bytes old r) r.size before) _ _
+      first.1 in
+      let s2 = bind-was (rewritten_from order encoding section old _ ranges s1.0.1) _ _ s1.2 in
+      let within = tile-end (at + r.size) end ranges tile.2 in
+      let front = range-front old new r.offset.0 r.size (omega (arith, tile.0, within, fits)) in
+      turn section (old ++ new) place r (ranges ++ tail) before s1.0.1 after (s1.0.0, rw front s1.1)
+      (grown section old new (r.offset.0 + r.size) (at + r.size) end ranges tail s1.0.1 middle after
+      (omega (arith, tile.0)) tile.2 fits (s2.0.0, grind (arith, s2.1, s2.2)) second)
+
+-- the part of string offsets that a plain object makes is whole
+module _ (source : Source) (plain : is_package source.indexes ≡ false) (start : List (List ℕ)) where
+  abbrev order : Endianness
+  order = source.object.order
+
+  abbrev encoding : Encoding
+  encoding = source.encoding
+
+  abbrev entry_width : ℕ
+  entry_width = offset_size encoding.format
+
+  abbrev section : List ℕ
+  section = first Str source.object.sections
+
+  -- no bytes, or so many whole entries behind a header
+  abbrev Fills : ℕ → ℕ → Type 0
+  Fills size n = ((size ≡ 0) × (n ≡ 0)) ⊎ ((size ≡ header_size encoding + n * entry_width)
+      × (header : List ℕ) × (header_of order encoding (n * entry_width) ≡ Ok header))
+
+  -- so many entries, rewritten again from these strings on, give those, in the section of any that
+  -- begin with them
+  abbrev Again : List ℕ → ℕ → (before after : List (List ℕ)) → Type 0
+  Again new n before after = (final : List (List ℕ)) → IsTable final → take (length after) final ≡
+      after → Lead order encoding (data_of final) new n before after
+
+  record Made (new : List ℕ) (strings : List (List ℕ)) (has : Bool) : Type 0 where
+    table : IsTable strings
+    fresh : has ≡ false → (new ≡ []) × (strings ≡ start)
+    count : ℕ
+    fills : Fills (length new) count
+    kept : take (length start) strings ≡ start
+    again : Again new count start strings
+
+  abbrev MadeBy : Parts → Type 0
+  MadeBy parts = Made (joined_parts StrOffsets parts.0) parts.1 (has_part StrOffsets parts.0)
+
+  -- before DWARF 5 there are the entries alone
+  older-long : encoding.version < 5 → (size n : ℕ) → Fills size n → size ≡ n * entry_width
+  older-long old size n fills = grind (arith, zero-mul entry_width, no_header encoding old)
+
+  made-rewritten : (before : Parts) (bytes : List ℕ) (next : Parts) → MadeBy before
+      → (leb 5 encoding.version ≡ true → has_part StrOffsets before.0 ≡ false)
+      → Rewritten source before bytes next → MadeBy next
+  unfolding header_of remapped_entries
+  made-rewritten before bytes next so_far once w =
+      let new = joined_parts StrOffsets before.0 in
+      let own = w.written.0 in
+      let strings = w.written.1 in
+      let m = entry_count encoding (length bytes) in
+      let rewrites : remapped order encoding section bytes (length bytes) before.1 ≡ Ok w.written =
+      sym (rewritten-plain source bytes before.1 plain) ∙ w.rewrites in
+      let law = range_named _ _ _ _ _ _ w.written so_far.table rewrites in
+      let one : Fills (length own) m × Lead order encoding section bytes m before.1 strings =
+      elim (range-of order encoding section bytes (length bytes) before.1 w.written rewrites) [
+        | inl none ↦
+            let count = ap (entry_count encoding) none.0 ∙ no-entries encoding in
+            rw (← none.1) (inl (refl, count), ([], rw count refl))
+        | inr r ↦
+            let long = law.long (eqb-false (length bytes) 0 r.some) in
+            (inr (long, r.header, r.header_is), (r.entries.0, grind (arith, r.entries_are, r.is)))
+      ] in
+      let alone : Again own m before.1 strings = λ final table kept.
+      let same = entries-alike order encoding (data_of final) section own bytes m before.1
+      (λ k less. let name = law.named k less in name.new final table kept ∙ sym name.old) in
+      (one.1.0, same ∙ one.1.1) in
+      let all : (n : ℕ) × Fills (length (new ++ own)) n × Again (new ++ own) n start strings =
+      by-bool _ (leb 5 encoding.version) (λ standard. let empty = so_far.fresh (once standard) in
+      (m, rw empty.0 one.0, λ final table kept. rw (empty.0, ← empty.1) (alone final table kept)))
+      (λ gnu.
+      let old = leb-false 5 encoding.version gnu in
+      let long = older-long old (length new) so_far.count so_far.fills in
+      let more = older-long old (length own) m one.0 in
+      let both = add-mul so_far.count m entry_width in
+      let size : length (new ++ own) ≡ header_size encoding + (so_far.count + m) * entry_width =
+      omega (arith, long, more, no_header encoding old, both, length-append new own) in (
+        so_far.count + m,
+        inr (size, [], rw (lt-ltb encoding.version 5 old) refl),
+        λ final table kept. leads-joined order encoding old _ new own _ long m start _ _
+            (so_far.again final table (kept_more _ _ final law.kept kept)) (alone final table kept),
+      )) in
+      let more = joined_parts-more StrOffsets before.0 StrOffsets own in
+      rw (w.is, has-more before.0 own, more) (record {
+        table = law.table;
+        fresh = λ none. absurd (true≢false none);
+        count = all.0;
+        fills = all.1;
+        kept = kept_more start before.1 strings so_far.kept law.kept;
+        again = all.2;
+      })
+
+  -- the part of an input gives the strings after it
+  part-made : (parts : Contents) (after : List (List ℕ)) → IsTable start
+      → parts_of source start ≡ Ok (parts, after) → MadeBy (parts, after)
+  unfolding remapped_entries
+  part-made parts after table h = each-part source (λ before ss now. MadeBy before → MadeBy now)
+      (λ now so_far. so_far) (λ before s next ss now made rest later so_far.
+      elim made.adds [
+        | inl (o, w) ↦ later (made-rewritten before s.bytes next so_far
+            (λ standard. grind (arith, made.once, is-same s.kind StrOffsets o)) w)
+        | inr (inl (o, c, is)) ↦
+            let joined = joined_parts-other StrOffsets before.0 s.kind s.bytes o in
+            later (rw (is, has-other before.0 s.kind s.bytes o, joined) so_far)
+        | inr (inr (o, c, is)) ↦ later (rw is so_far)
+      ]) source.object.sections ([], start) (parts, after) h (record {
+        table = table;
+        fresh = λ none. (refl, refl);
+        count = 0;
+        fills = inl (refl, refl);
+        kept = take-length start;
+        again = λ final final_table kept. ([], refl);
+      })
+
+  -- without bytes the strings stay; else they are a whole range, which gives the strings again
+  made-fills : (new : List ℕ) (after : List (List ℕ)) (has : Bool) → Made new after has
+      → ((length new ≡ 0) × (after ≡ start)) ⊎ (IsWholeRange order encoding (length new)
+      × ((final : List (List ℕ)) → IsTable final → take (length after) final ≡ after
+      → (written : List ℕ) × (remapped order encoding (data_of final) new (length new) start
+      ≡ Ok (written, after))))
+  unfolding remapped_entries
+  made-fills new after has made = by-bool _ (eqb (length new) 0) (λ none.
+      let empty = eqb-true (length new) 0 none in
+      let again = count-again encoding.format (length new) (header_size encoding) made.count in
+      let none : made.count ≡ 0 = grind (arith, made.fills, empty, no-entries encoding, again) in
+      let lead = rw none at (made.again after made.table (take-length after)) in
+      inl (empty, grind (arith, lead.1))) (λ some.
+      let there : 0 < length new = omega (arith, eqb-false (length new) 0 some) in
+      elim made.fills [
+        | inl none ↦ absurd (omega (arith, there, none.0))
+        | inr f ↦
+            let whole : IsWholeRange order encoding (length new) =
+            record { some = there; count = made.count; long = f.0; header = f.1; written = f.2 } in
+            inr (
+              whole,
+              λ final table kept. let lead = made.again final table kept in (
+                whole.header ++ entry_bytes order encoding.format lead.0,
+                whole-remapped _ _ (data_of final) new _ start whole ∙ rw lead.1 refl,
+              ),
+            )
+      ])
+
+-- what holds of one of a list, or of another
+abbrev Any : {X : Type 0} → (X → Type 0) → List X → Type 0
+Any P [] = ⊥
+Any P (x ∷ xs) = P x ⊎ Any P xs
+
+any-append : {X : Type 0} (P : X → Type 0) (xs ys : List X) → (Any P xs ⊎ Any P ys
+    → Any P (xs ++ ys)) × (Any P (xs ++ ys) → Any P xs ⊎ Any P ys)
+any-append P [] ys = grind arith
+any-append P (x ∷ xs) ys = grind (arith, any-append P xs ys)
+
+tile-append : (o : Endianness) (e : Encoding) (at : ℕ) (rs more : List Contribution)
+    (middle end : ℕ) → Tile o e at rs middle → Tile o e middle more end
+    → Tile o e at (rs ++ more) end
+tile-append o e at [] more middle end tile behind = rw tile behind
+tile-append o e at (x ∷ rs) more middle end tile behind =
+    (tile.0, tile.1, tile-append o e (at + x.size) rs more middle end tile.2 behind)
+
+-- a plain object that was added
+module _ (source : Source) (before now : InProgress) (plain : is_package source.indexes ≡ false)
+    (table : IsTable before.strings) (same : source.object.order ≡ before.file.order)
+    (h : with_source source before ≡ Ok now) (more : length before.rows < length now.rows)
+    (tiled : HasTiledOffsets source.encoding before) where
+  abbrev now_order : Endianness
+  now_order = before.file.order
+
+  abbrev a : Added source before now
+  a = source-made source before now h
+
+  abbrev old : List ℕ
+  old = content_of StrOffsets before.file.contents
+
+  abbrev joined : List ℕ
+  joined = joined_parts StrOffsets a.parts
+
+  abbrev range : Contribution
+  range = range_for StrOffsets joined before.file.contents
+
+  abbrev part : MadeBy source plain before.strings (a.parts, a.after)
+  part = part-made source plain before.strings a.parts a.after table a.parts_are
+
+  -- what these ranges more are of the section and the strings behind the others, and of the rows
+  made-so : (ranges : List Contribution)
+      → Tile now_order source.encoding (length old) ranges (length old + length joined)
+      → ((r : Contribution) → contribution_put StrOffsets joined before.file.contents ≡ Some r
+      → IsAmong r ranges) → ((r : Contribution) → IsAmong r ranges → IsOfSome r now.rows)
+      → ((final : List (List ℕ)) → IsTable final → take (length a.after) final ≡ a.after
+      → InTurn now_order source.encoding (data_of final) (old ++ joined) (length old) ranges
+      before.strings a.after) → HasTiledOffsets source.encoding now
+  made-so ranges tile new named gives =
+      let all = tiled.ranges ++ ranges in
+      let content : content_of StrOffsets now.file.contents ≡ old ++ joined =
+      content-added a StrOffsets refl in
+      let order_is = order-added a in
+      let strings_are : now.strings ≡ a.after =
+      ap (λ (p : InProgress). p.strings) (sym a.is) ∙ units-strings (parted a) a.new.units in
+      let among = λ (r : Contribution). any-append (λ x. r ≡ x) tiled.ranges ranges in
+      record {
+        ranges = all;
+        tile = rw (order_is, content, length-append old joined) (tile-append now_order
+            source.encoding 0 tiled.ranges ranges _ _ tiled.tile tile);
+        rows = with-each a (λ p. EachRow (HasOneOf all) p.rows) (RowHas (HasOneOf all))
+            (λ p u has rows. All-append (HasOneOf all) p.rows (row_with p.file.contents u ∷ [])
+            rows (has p.file.contents, tt))
+            (rows-share a plain StrOffsets refl (λ part. (r : Contribution)
+            → part ≡ Some r → IsAmong r all) (λ r e. (among r).0 (inr (new r e))))
+            (All-weaker (HasOneOf tiled.ranges) (HasOneOf all)
+            (λ row has r e. (among r).0 (inl (has r e))) before.rows tiled.rows);
+        named = λ r h. ⊎_elim (λ k. with-any a (λ p. IsOfSome r p.rows)
+            (λ p u so. (any-append (λ (row : IndexEntry). row.debug_str_offsets ≡ Some r) p.rows
+            (row_with p.file.contents u ∷ [])).0 (inl so)) (tiled.named r k)) (named r)
+            ((among r).1 h);
+        strings = rw (order_is, content) (subst (GiveStrings now_order source.encoding (old ++
+            joined) all) (sym strings_are) (λ final table front. grown now_order source.encoding
+            _ old joined 0 0 _ tiled.ranges ranges [] _ a.after refl tiled.tile (omega arith)
+            (tiled.strings final table (kept_more _ _ final part.kept front))
+            (gives final table front)));
+      }
+
+  pub tiled-kept : HasTiledOffsets source.encoding now
+  tiled-kept = elim (made-fills source plain before.strings joined a.after
+      (has_part StrOffsets a.parts) part) [
+        | inl none ↦ made-so [] (omega (arith, none.0))
+            (λ r e. absurd (none-some r (rw none.0 at e))) (λ r h. absurd h)
+            (λ final table front. rw none.1 (no-turn now_order source.encoding _ _ _ _))
+        | inr whole ↦
+            let put = place-put StrOffsets joined before.file.contents whole.0.some in
+            let is_some = λ (row : IndexEntry). row.debug_str_offsets ≡ Some range in
+            let is_whole = subst (λ o. IsWholeRange o source.encoding (length joined)) same
+            whole.0 in
+            made-so (range ∷ []) (refl, is_whole, refl)
+            (λ r e. inl (same_Some r range (sym e ∙ put)))
+            (λ r h. ⊎_elim (λ e. subst (λ x. IsOfSome x now.rows) (sym e)
+            (once-more a more (λ p. IsOfSome range p.rows) (RowHas is_some)
+            (λ p u has. (any-append is_some p.rows (row_with p.file.contents u ∷ [])).0
+            (inr (inl (has p.file.contents))))
+            (rows-share a plain StrOffsets refl (λ part. part ≡ Some range) put)))
+            (λ k. absurd k) h) (λ final table front.
+            let one = whole.1 final table front in
+            let again = subst (λ o. remapped o source.encoding (data_of final) joined
+            (length joined) before.strings ≡ Ok (one.0, a.after)) same one.1 in
+            turn now_order source.encoding _ _ _ range [] _ a.after a.after
+            (one.0, rw (own-bytes old joined) again) (no-turn now_order source.encoding _ _ _ _))
+      ]

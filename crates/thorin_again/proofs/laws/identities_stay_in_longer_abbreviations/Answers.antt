@@ -1,4 +1,4 @@
-use Rattle.thorin_again.proofs.Kept.Names.{identity-stays}
+use Rattle.thorin_again.proofs.Kept.{identity-stays}
 use Rattle.thorin_again.proofs.laws.identities_stay_in_longer_abbreviations.Goals as goal
 
 pub returns : goal.returns

@@ -1,4 +1,4 @@
-use Rattle.thorin_again.proofs.Kept.OneEncoding.{taken-holds}
+use Rattle.thorin_again.proofs.Lists.{taken-holds}
 use Rattle.thorin_again.proofs.laws.one_encoding_is_kept.Goals as goal
 
 pub returns : goal.returns

@@ -1,4 +1,4 @@
-use Rattle.thorin_again.proofs.{Opened.Indexes.up-to-parts, Opened.Sections.own-parts}
+use Rattle.thorin_again.proofs.Opened.{own-parts, up-to-parts}
 use Rattle.thorin_again.proofs.laws.own_packages_are_taken_up_to_their_parts.Goals as goal
 
 pub returns : goal.returns

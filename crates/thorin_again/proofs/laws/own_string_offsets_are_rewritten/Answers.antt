@@ -1,4 +1,4 @@
-use Rattle.thorin_again.proofs.Opened.Indexes.{own-offsets, own-plain, read-of}
+use Rattle.thorin_again.proofs.Opened.{own-offsets, own-plain, read-of}
 use Rattle.thorin_again.proofs.laws.own_string_offsets_are_rewritten.Goals as goal
 
 pub returns : goal.returns

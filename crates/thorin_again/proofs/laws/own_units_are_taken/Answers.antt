@@ -1,5 +1,6 @@
-use Rattle.thorin_again.proofs.{Accepted.OwnUnits.taken-all, Opened.Indexes.own-plain, Terms.refl}
-use Rattle.thorin_again.proofs.{Opened.Indexes.read-of, Terms.inr, Terms.IsForeseen}
+use Rattle.thorin_join.proofs.Terms.{inr, refl}
+use Rattle.thorin_again.proofs.{Accepted.taken-all, Opened.own-plain, Opened.read-of}
+use Rattle.thorin_again.specs.OwnRefusals.{IsForeseen}
 use Rattle.thorin_again.proofs.laws.own_units_are_taken.Goals as goal
 
 pub returns : goal.returns

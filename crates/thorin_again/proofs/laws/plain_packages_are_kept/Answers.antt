@@ -1,4 +1,4 @@
-use Rattle.thorin_again.proofs.Kept.OneEncoding.{taken-plain}
+use Rattle.thorin_again.proofs.Lists.{taken-plain}
 use Rattle.thorin_again.proofs.laws.plain_packages_are_kept.Goals as goal
 
 pub returns : goal.returns

@@ -1,5 +1,4 @@
-use Rattle.thorin_again.proofs.{Kept.OneEncoding.begun-now, Lists.input-order}
-use Rattle.thorin_again.proofs.Opened.Sections.{opened-elf}
+use Rattle.thorin_again.proofs.{Lists.begun-now, Lists.input-order, Opened.opened-elf}
 use Rattle.thorin_again.proofs.laws.the_first_byte_order_stays.Goals as goal
 
 pub returns : goal.returns
