@@ -7,15 +7,15 @@ use Terms.{take-append_seam, take-length, Used, with_each_read, with_each_sectio
 use Terms.{with_section, zero, ℕ, ◌++◌, ◌+◌, ◌∙◌, ◌∷◌, ◌≡◌}
 use Rattle.thorin_join.proofs.Terms as Joined
 use Joined.{◌>>=◌, Adding, Contribution, entry_count, name_for, packaged_offsets, ReadError}
-use Joined.{remapped, rewritten, slice_range, Str, unit_section, UnitSection}
-use Joined.{with_each_part, with_offsets, with_part, with_string, with_unit}
+use Joined.{remapped, rewritten, slice_range, Str, with_each_part, with_offsets, with_part}
+use Joined.{with_string, with_unit}
 use Rattle.std.proofs.{lemmas.Bool.cond-true, lemmas.Grind.length_at_push}
 use Rattle.thorin_strings.specs.StringOffsets.{remapped_entries, remapped_entry}
 use Rattle.thorin_package_input.specs.PackagedOffsets.{offset_ranges, rewritten_from}
 use Rattle.dwp_strings.specs.Strings.{offset_of}
 use Rattle.dwp_strings.proofs.Named.{there_later, there_once_used}
 use Rattle.dwp_units.specs.Units.{Unit as Header}
-use Rattle.thorin_input.specs.NewUnits.{once_test, with_read, with_section_at, with_section_in}
+use Rattle.thorin_input.specs.NewUnits.{once_test, with_read, with_section_at}
 
 abbrev Strings : Type 0
 Strings = List (List ℕ)
@@ -81,17 +81,12 @@ module _ (later : Strings) (source : Source) where
       grind (rules, ranges-keep bytes 0 ranges before, remapped-keeps bytes (length bytes) before)
 
   -- the parts of an input
-  part-keeps : (parts : Contents) (section : Used)
-      → Keeps (λ s. with_part source (parts, s) section)
-  unfolding with_part with_offsets
-  part-keeps parts section before = grind (rules, rewritten-keeps section.bytes before)
-
   parts-keep : (sections : List Used) (before : Contents × Strings) → Kept before.1
       (with_each_part source before sections) (with_each_part source (before.0, later) sections)
-  unfolding with_each_part
+  unfolding with_each_part with_part with_offsets
   parts-keep [] before = grind rules
   parts-keep (section ∷ sections) before =
-      grind (rules, part-keeps before.0 section before.1, parts-keep sections)
+      grind (rules, rewritten-keeps section.bytes before.1, parts-keep sections)
 
 -- the parts of an input are the same over more strings behind those that it left
 pub parts-later : (source : Source) (strings later : List (List ℕ))
@@ -153,19 +148,15 @@ module _ (source : Source) (whole other : IndexEntry) (held more : List (DwarfOb
   each-alone from (read ∷ rest) before =
       grind (rules, read-alone from read before, each-alone from rest)
 
-  section-alone : (from : Used) (place : Option UnitSection) (before : SeenSections × New)
-      → Alone (λ at. at.1) before.1 (with_section_in here from place before)
-      (with_section_in there from place before)
-  unfolding with_section_at once_test
-  section-alone from place before =
-      grind (rules, λ (reads : List (Result Header ReadError)). each-alone from reads before.1)
-
   sections-alone : (sections : List Used) (before : SeenSections × New) → Alone (λ at. at.1)
       before.1 (with_each_section here before sections) (with_each_section there before sections)
-  unfolding with_each_section with_section
+  unfolding with_each_section with_section with_section_at once_test
   sections-alone [] before = grind rules
-  sections-alone (from ∷ others) before =
-      grind (rules, section-alone from (unit_section from.kind) before, sections-alone others)
+  sections-alone (from ∷ others) before = grind (
+    rules,
+    λ (reads : List (Result Header ReadError)). each-alone from reads before.1,
+    sections-alone others,
+  )
 
   -- where an input adds no unit, it adds the same to a package that has more units, wherever its
   -- parts come to lie
