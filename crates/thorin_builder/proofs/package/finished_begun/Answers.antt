@@ -1,6 +1,6 @@
 use Rattle.thorin_builder.proofs.Terms
-use Terms.{DebugTypeSignature, Err, Error, File, IdentifiersFit, IfOk, in_progress_of}
-use Terms.{InProgress, IsFinishedState, map, Ok, refl, Result, Some, State, ◌≡◌}
+use Terms.{DebugTypeSignature, Err, Error, File, IdentifiersFit, IfOk, in_progress_of, InProgress}
+use Terms.{IsFinishedState, map, Ok, refl, Result, Some, State, ◌≡◌}
 use Rattle.std.specs.Prelude.{OnOk}
 use Rattle.thorin_join.specs.Builder.{IsFinished}
 use Rattle.thorin_builder.proofs.package.finished_begun.Goals as goal
