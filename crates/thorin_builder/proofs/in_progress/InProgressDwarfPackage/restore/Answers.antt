@@ -1,5 +1,5 @@
 use Rattle.thorin_builder.proofs.Terms.{ap, DebugTypeSignature, DwarfObject, IndexEntry, length}
-use Rattle.thorin_builder.proofs.Terms.{map, sym, take, ℕ, ◌∙◌}
+use Rattle.thorin_builder.proofs.Terms.{map, rules, sym, take, ℕ, ◌∙◌}
 use Rattle.std.specs.List.{take-map}
 use Rattle.thorin_builder.proofs.in_progress.InProgressDwarfPackage.restore.Goals as goal
 
@@ -15,9 +15,15 @@ returns c before h m =
     let old = c.args.self.now in
     let file = c.truncate.ensures.taken_back before.file h.file
     (c.deref.ensures.value ∙ ap (λ a. a.lengths) m) in
-    let strings = c.truncate-2.ensures ∙ ap (λ a. take a.strings old.strings) m ∙ h.strings in
-    let rows = c.truncate-3.ensures ∙ ap (λ a. take a.rows old.rows) m ∙ h.rows in
-    let differing = ap (map (λ s. s.0)) (c.truncate-4.ensures.items
-    ∙ ap (λ a. take a.differing old.differing.items) m) ∙ sym (take-map {X = DebugTypeSignature}
-    {Y = ℕ} (λ s. s.0) (length before.differing) old.differing.items) ∙ h.differing in
-    λ i. record { file = file i; strings = strings i; rows = rows i; differing = differing i }
+    let signature : DebugTypeSignature → ℕ = λ s. s.0 in
+    let differing = take-map signature (length before.differing) old.differing.items in
+    grind (
+      rules,
+      file,
+      h,
+      m,
+      c.truncate-2.ensures,
+      c.truncate-3.ensures,
+      c.truncate-4.ensures.items,
+      differing,
+    )
