@@ -4,4 +4,3 @@ pub mod GroupJoins
 pub mod Unfinished
 pub mod TakenAgain
 pub mod MeaningRead
-pub mod Differs
