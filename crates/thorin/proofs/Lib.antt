@@ -3,4 +3,3 @@ pub mod Running
 pub mod GroupJoins
 pub mod Unfinished
 pub mod TakenAgain
-pub mod MeaningRead
