@@ -1,14 +1,13 @@
 use Rattle.thorin_builder.proofs.Terms.{ap, DebugTypeSignature, DwarfObject, IndexEntry, length}
-use Rattle.thorin_builder.proofs.Terms.{map, rules, sym, take, ℕ, ◌∙◌}
+use Rattle.thorin_builder.proofs.Terms.{rules, ℕ, ◌∙◌}
 use Rattle.std.specs.List.{take-map}
 use Rattle.thorin_builder.proofs.in_progress.InProgressDwarfPackage.restore.Goals as goal
 
 pub invariant_of-self : goal.invariant_of-self
-invariant_of-self c = record {
-  named = c.truncate-5.ensures.keys ∙ ap (take c.args.mark.now.rows) c.args.self.now.named
-      ∙ take-map {X = IndexEntry} {Y = DwarfObject} (λ row. row.id) c.args.mark.now.rows
-      c.args.self.now.rows ∙ ap (map (λ row. row.id)) (sym c.truncate-3.ensures);
-}
+invariant_of-self c =
+    let id : IndexEntry → DwarfObject = λ row. row.id in
+    let named = take-map id c.args.mark.now.rows c.args.self.now.rows in
+    grind (rules, named, c.args.self.now.named, c.truncate-5.ensures.keys, c.truncate-3.ensures)
 
 pub returns : goal.returns
 returns c before h m =
@@ -17,13 +16,5 @@ returns c before h m =
     (c.deref.ensures.value ∙ ap (λ a. a.lengths) m) in
     let signature : DebugTypeSignature → ℕ = λ s. s.0 in
     let differing = take-map signature (length before.differing) old.differing.items in
-    grind (
-      rules,
-      file,
-      h,
-      m,
-      c.truncate-2.ensures,
-      c.truncate-3.ensures,
-      c.truncate-4.ensures.items,
-      differing,
-    )
+    let cut = c.truncate-4.ensures.items in
+    grind (rules, file, h, m, c.truncate-2.ensures, c.truncate-3.ensures, cut, differing)
