@@ -68,11 +68,10 @@ module _ (later : Strings) (source : Source) where
       → Keeps (rewritten_from source.object.order source.encoding strings_in bytes at ranges)
   unfolding rewritten_from
   ranges-keep bytes at [] before = grind rules
-  ranges-keep bytes at (r ∷ rs) before = grind (
-    rules,
-    remapped-keeps (slice_range bytes r.offset.0 (r.offset.0 + r.size)) r.size before,
-    ranges-keep bytes (r.offset.0 + r.size) rs,
-  )
+  ranges-keep bytes at (r ∷ rs) before =
+      let end = r.offset.0 + r.size in
+      let here = remapped-keeps (slice_range bytes r.offset.0 end) r.size before in
+      grind (rules, here, ranges-keep bytes end rs)
 
   rewritten-keeps : (bytes : List ℕ) → Keeps (rewritten source bytes)
   unfolding rewritten packaged_offsets
@@ -122,11 +121,9 @@ module _ (source : Source) (whole other : IndexEntry) (held more : List (DwarfOb
       (λ new. new) before (with_unit (kept_bytes held before.units name) here from name unit before)
       (with_unit (kept_bytes (held ++ more) before.units name) there from name unit before)
   unfolding with_unit with_first
-  unit-alone from name unit before = grind (
-    rules,
-    kept-later (lookup (same_name name) before.units) (same_name name) held more,
-    length_at_push {X = DwarfObject × NewUnit},
-  )
+  unit-alone from name unit before =
+      let kept = kept-later (lookup (same_name name) before.units) (same_name name) held more in
+      grind (rules, kept, length_at_push {X = DwarfObject × NewUnit})
 
   named-alone : (from : Used) (unit : Header) (before : New) (found : Result DwarfObject ErrorValue)
       → Alone (λ new. new) before (found >>= λ name.
@@ -152,18 +149,15 @@ module _ (source : Source) (whole other : IndexEntry) (held more : List (DwarfOb
       before.1 (with_each_section here before sections) (with_each_section there before sections)
   unfolding with_each_section with_section with_section_at once_test
   sections-alone [] before = grind rules
-  sections-alone (from ∷ others) before = grind (
-    rules,
-    λ (reads : List (Result Header ReadError)). each-alone from reads before.1,
-    sections-alone others,
-  )
+  sections-alone (from ∷ others) before =
+      let each = λ (reads : List (Result Header ReadError)). each-alone from reads before.1 in
+      grind (rules, each, sections-alone others)
 
   -- where an input adds no unit, it adds the same to a package that has more units, wherever its
   -- parts come to lie
   pub units-later : (new : New) → new_units here ≡ Ok new → new.units ≡ [] → new_units there ≡ Ok
       new
   unfolding new_units
-  units-later new h none = grind (
-    rules,
-    sections-alone source.object.sections (none_met, record { units = []; differing = [] }),
-  )
+  units-later new h none =
+      let start : New = record { units = []; differing = [] } in
+      grind (rules, sections-alone source.object.sections (none_met, start))
