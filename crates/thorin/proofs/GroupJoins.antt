@@ -7,20 +7,18 @@ use Terms.{filter-append, finish_test, flat_map, HaveTheirEncodings, input-keeps
 use Terms.{inputs_of, is_compilation, IsDistinct, IsFinishedState, IsPackageOf, IsPackageOfAll}
 use Terms.{IsPackedInGroups, IsPermutation, IsPermutation-sym, IsSoundBegun, JoinAll, joining, keys}
 use Terms.{length, length-append, length-map, List, list_any, lookup, map, map-append, map-set}
-use Terms.{Meaning, Members, nat_tests, None, Ok, Option, option_or, refl, remove, rules, same_name}
-use Terms.{Some, start, State, subst, swap, sym, take, take-append-drop, take-map, taken}
-use Terms.{taken_each, true, units_in, [], ℕ, ◌&&◌, ◌++◌, ◌+◌, ◌==◌, ◌∙◌, ◌∷◌, ◌≡◌}
-use Rattle.std.proofs.lemmas.List.Sorted.{IsPermutation-remove, IsPermutation-trans}
-use Rattle.std.proofs.lemmas.List.Sorted.{IsPermutation-cons, IsPermutation-refl}
-use Rattle.thorin_join.proofs.Units.InRows.{joined_distinct, same_name-self, same_name-true}
-use Rattle.thorin_join.proofs.Units.InRows.{apart-none}
-use Rattle.std.proofs.{lemmas.Map.Made.keys_of-map_values, lemmas.Map.Views.Contains-from_lookup}
-use Rattle.std.proofs.{lemmas.List.Folds.list_any-append, lemmas.Map.Entries.none_past_head}
-use Rattle.std.proofs.{lemmas.Map.lookup-none, Math.Seq.drop-append_seam, Math.Seq.take-append_seam}
-use Rattle.std.proofs.lemmas.Map.Keys.{IsDistinct-from_apart, IsDistinct-tail}
-use Rattle.thorin_again.proofs.Accepted.{apart-again, count-again, equivalence, found-again}
-use Rattle.thorin_again.specs.Again.{all_meant, HaveEncodingOf, MeansOnceWritten, MeansWhereTaken}
+use Terms.{Meaning, Members, nat_tests, None, Ok, Option, option_or, refl, rules, same_name, Some}
+use Terms.{start, State, subst, swap, sym, take, take-append-drop, take-map, taken, taken_each}
+use Terms.{true, units_in, [], ℕ, ◌&&◌, ◌++◌, ◌+◌, ◌==◌, ◌∙◌, ◌∷◌, ◌≡◌}
+use Rattle.std.proofs.{lemmas.List.map-id, lemmas.Map.Lookups.hash_map_IsPermutation_from_get}
+use Rattle.std.proofs.{lemmas.Map.Keys.IsDistinct-from_apart, lemmas.Map.Made.keys_of-map_values}
+use Rattle.std.proofs.{lemmas.List.Folds.list_any-append, Math.Seq.drop-append_seam}
+use Rattle.indexmap.specs.Layout.{hash_map}
+use Rattle.thorin_join.proofs.Units.InRows.{joined_distinct, same_name-true, apart-none}
 use Rattle.std.{proofs.Math.ListN.get_or-map, specs.List.Sorted.apply_swaps}
+use Rattle.std.proofs.Math.Seq.{take-append_seam}
+use Rattle.thorin_again.proofs.Accepted.{count-again, equivalence, found-again}
+use Rattle.thorin_again.specs.Again.{all_meant, HaveEncodingOf, MeansOnceWritten, MeansWhereTaken}
 use Rattle.thorin.proofs.Running.{as-written, each-taken}
 
 abbrev pub Named : Type 0 → Type 0
@@ -60,31 +58,6 @@ module _ {X : Type 0} where
   joined-apart us = IsDistinct-from_apart same_name (keys (joining [] us))
       (joined_distinct [] us apart-none)
 
-  -- behind the first of a list its name is not found
-  past-first : (u : DwarfObject × X) (us : Named X) → IsDistinct same_name (keys (u ∷ us))
-      → (name : DwarfObject) → same_name name u.0 ≡ true → lookup (same_name name) us ≡ None
-  past-first u us apart name same =
-      lookup-none (same_name name) us (none_past_head equivalence name u us apart same)
-
-  -- and those that are found alike are the same, in some order
-  same-units : (us vs : Named X) → IsDistinct same_name (keys us) → IsDistinct same_name (keys vs)
-      → ((name : DwarfObject) → lookup (same_name name) us ≡ lookup (same_name name) vs)
-      → IsPermutation us vs
-  same-units [] [] c d same = IsPermutation-refl []
-  same-units [] (v ∷ vs) c d same = grind (rules, same v.0, same_name-self v.0)
-  same-units (u ∷ us) vs c d same =
-      let there = Contains-from_lookup same_name-true u.0 u.1 vs
-      (rw (same_name-self u.0) at (sym (same u.0))) in
-      let rest = remove vs there.0 in
-      let turned = IsPermutation-remove vs there.0 u there.1 (sym there.2) in
-      let apart = apart-again vs (u ∷ rest) turned d in
-      let later = same-units us rest (IsDistinct-tail same_name u.0 (keys us) c)
-      (IsDistinct-tail same_name u.0 (keys rest) apart) (λ name.
-      let found = found-again vs (u ∷ rest) d turned name in
-      grind (rules, same name, found, past-first u us c name, past-first u rest apart name)) in
-      IsPermutation-trans (u ∷ us) (u ∷ rest) vs (IsPermutation-cons u us rest later)
-      (IsPermutation-sym vs (u ∷ rest) turned)
-
   -- ---- how many compilation units there are
 
   abbrev is_one : DwarfObject × X → Bool
@@ -92,10 +65,6 @@ module _ {X : Type 0} where
 
   abbrev compilations : Named X → ℕ
   compilations us = length (filter is_one us)
-
-  compilations-append : (us vs : Named X)
-      → compilations (us ++ vs) ≡ compilations us + compilations vs
-  compilations-append us vs = simp (filter-append, length-append)
 
   -- so many of them are passed over; a list can be joined where none is
   counted : (names : List DwarfObject) (us : Named X) → (n : ℕ)
@@ -115,33 +84,31 @@ module _ {X : Type 0} where
   flat groups = flat_map (λ group. group) groups
 
   -- the same is found in both lists, and they have as many compilation units
-  abbrev Alike : Named X → Named X → Type 0
-  Alike us vs = ((name : DwarfObject) → lookup (same_name name) us ≡ lookup (same_name name) vs)
-      × (compilations us ≡ compilations vs)
-
   groups-alike : (groups results : List (Named X)) → AreJoined groups results
-      → Alike (flat groups) (flat results)
+      → ((name : DwarfObject)
+      → lookup (same_name name) (flat groups) ≡ lookup (same_name name) (flat results))
+      × (compilations (flat groups) ≡ compilations (flat results))
   groups-alike [] [] are = (λ name. refl, refl)
   groups-alike (g ∷ gs) (r ∷ rs) are =
       let later = groups-alike gs rs are.2 in
       let c = counted [] g in (
         λ name. let found = found-again (joining [] g) r (joined-apart g) are.1 name in
-            grind (
-              rules,
-              lookup-append (same_name name),
-              found-joined name [] g,
-              found,
-              later.0 name,
-            ),
-        grind (arith, nat_tests, compilations-append, count-again is_one (joining [] g) r are.1),
+            grind (rules, lookup-append, found-joined name [] g, found, later.0 name),
+        let again = count-again is_one (joining [] g) r are.1 in
+            grind (arith, nat_tests, filter-append, length-append, again),
       )
   groups-alike _ _ are = absurd are
 
   module _ (groups results : List (Named X)) (are : AreJoined groups results) where
+    -- lists of distinct names in which the same is found are the same, in some order
     pub groups-joined : IsPermutation (joining [] (flat groups)) (joining [] (flat results))
-    groups-joined = same-units (joining [] (flat groups)) (joining [] (flat results))
-        (joined-apart (flat groups)) (joined-apart (flat results)) (λ name.
-        grind (rules, found-joined name [], (groups-alike groups results are).0 name))
+    groups-joined =
+        let us = joining [] (flat groups) in
+        let vs = joining [] (flat results) in
+        simp map-id at (hash_map_IsPermutation_from_get equivalence (hash_map us us 0)
+        (hash_map vs vs 0) (joined-apart (flat groups)) (joined-apart (flat results)) (λ name.
+        grind (rules, found-joined name [], (groups-alike groups results are).0 name)) (λ k. k)
+        same_name-true)
 
     pub groups-defined : can_join [] (flat groups) ≡ can_join [] (flat results)
     groups-defined =
@@ -218,16 +185,6 @@ join-of (bytes ∷ rest) before now (middle, j, others) =
       is = later.is ∙ ap (λ l. l ++ later.added) j.is ∙ append_assoc before j.added later.added;
     }
 
--- a list of units with all that belongs to them, in two
-parted : (front back : Units) (units : Members) → front ++ back ≡ all_meant units
-    → (front ≡ all_meant (take (length front) units))
-    × (back ≡ all_meant (drop (length front) units))
-parted front back units h =
-    let n = length front in
-    let first = take-append_seam front back in
-    let rest = drop-append_seam front back in
-    grind (rules, first, rest, take-map meant_one n units, drop-map meant_one n units)
-
 -- and the join of that list is the join of the inputs
 pub joins-all : (inputs : List (List ℕ)) (all : Units) (before added : Members) → AllMean inputs all
     → can_join (keys before) all ≡ true → joining (keys before) all ≡ all_meant added
@@ -239,37 +196,36 @@ joins-all (bytes ∷ rest) all before added (here, later, meaning, others, whole
     let a = joined-append (keys before) here later in
     let can = both-true (can_join (keys before) here)
     (can_join (keys before ++ keys front) later) (rw (whole, a.1) at defined) in
-    let parts = parted front (joining (keys before ++ keys front) later) added
-    (rw (whole, a.0) at joined) in
+    let back = joining (keys before ++ keys front) later in
+    let all : front ++ back ≡ all_meant added = rw (whole, a.0) at joined in
     let first = take (length front) added in
     let second = drop (length front) added in
+    let fronts = simp (take-append_seam, take-map) at (ap (take (length front)) all) in
+    let backs = simp (drop-append_seam, drop-map) at (ap (drop (length front)) all) in
     let named : keys (before ++ first) ≡ keys before ++ keys front =
-    names-then before first here parts.0 in (
+    names-then before first here fronts in (
       before ++ first,
       record {
         units = here;
         meaning = meaning;
         defined = can.0;
         added = first;
-        joined = parts.0;
+        joined = fronts;
         is = refl;
       },
       rw (append_assoc, take-append-drop (length front) added) at
-          (joins-all rest later (before ++ first) second others (rw named can.1)
-          (rw named parts.1)),
+          (joins-all rest later (before ++ first) second others (rw named can.1) (rw named backs)),
     )
 
--- what the law of written packages says
-abbrev pub MeansAgain : Type 0
-MeansAgain = (state : State) (file : File) → IsSoundBegun state.begun → finish_test state ≡ Ok tt
-    → IsFinishedState state file → MeansOnceWritten (units_in state) file
-
-pub sound-taken : (list : List (List ℕ)) (old new : State) → IsSoundBegun old.begun
-    → AreTaken list old new → IsSoundBegun new.begun
-sound-taken [] old new sound are = rw are.1 sound
-sound-taken (bytes ∷ rest) old new sound are =
-    sound-taken rest are.1 new (input-keeps bytes old.begun are.1.begun sound
-    (begun-now bytes (record old { targets = are.0 }) are.1 are.2)).sound are.3
+-- inputs that are taken leave a sound package, and their units are joined
+pub taken-joins : (list : List (List ℕ)) (old new : State) → IsSoundBegun old.begun
+    → AreTaken list old new → IsSoundBegun new.begun × JoinAll list (units_in old) (units_in new)
+taken-joins [] old new sound are = rw are.1 (sound, refl)
+taken-joins (bytes ∷ rest) old new sound are =
+    let kept = input-keeps bytes old.begun are.1.begun sound
+    (begun-now bytes (record old { targets = are.0 }) are.1 are.2) in
+    let later = taken-joins rest are.1 new kept.sound are.3 in
+    (later.0, (units_in are.1, kept.joins, later.1))
 
 -- ---- units in another order
 
@@ -302,7 +258,9 @@ record AreGrouped (groups : List (List (List ℕ))) (all : Units) : Type 0 where
   are : AreJoined lists results
   whole : all ≡ flat_map (λ units. units) results
 
-module _ (again : MeansAgain) where
+module _ (again : (state : State) (file : File) → IsSoundBegun state.begun
+    → finish_test state ≡ Ok tt → IsFinishedState state file
+    → MeansOnceWritten (units_in state) file) where
   grouped : (groups : List (List (List ℕ))) (packages : List (List ℕ)) (old new : State)
       (all : Units) (each : ArePackedAlone groups packages)
       → HaveTheirEncodings groups packages each → taken_each packages old ≡ Ok new
@@ -327,8 +285,8 @@ module _ (again : MeansAgain) where
           join.defined,
           rw joined (as-written alone.state p w
               (λ b. HaveEncodingOf b units → MeansWhereTaken units b)
-              (again alone.state w.file (sound-taken g start alone.state tt
-              (each-taken g start alone.state alone.taken)) w.tested w.finished) has.0 old next.0
+              (again alone.state w.file (taken-joins g start alone.state tt
+              (each-taken g start alone.state alone.taken)).0 w.tested w.finished) has.0 old next.0
               next.1 here meaning),
           rest.are,
         );

@@ -1,7 +1,3 @@
 pub mod Terms
 pub mod Running
 pub mod GroupJoins
-pub mod Unfinished
-pub mod TakenAgain
-pub mod MeaningRead
-pub mod Differs

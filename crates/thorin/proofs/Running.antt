@@ -1,11 +1,10 @@
 -- A run, one input after the other, what it accepted, and groups that are packed one by one.
 use Rattle.thorin.proofs.Terms
-use Terms.{ap, append-nil, append_assoc, ArePackedAlone, AreTaken, bind-was, Compilation, drop}
-use Terms.{drop_more, DwarfObject, elf_of, Err, ErrorValue, file_text, get_or, IfOk, inl, Input}
-use Terms.{inr, IsPackedAlone, IsWritten, JoinAll, KindsDiffer, length, List, map, map-append}
-use Terms.{Members, Ok, Option, Outcome, Ran, refl, Result, rules, same-ok, State, subst, sym, take}
-use Terms.{take-append-drop, taken, taken_each, TakesInput, TypeUnit, units_in, written_elf, [], ℕ}
-use Terms.{◌++◌, ◌+◌, ◌<◌, ◌∙◌, ◌∷◌, ◌≡◌}
+use Terms.{ap, append-nil, append_assoc, ArePackedAlone, AreTaken, bind-was, Compilation}
+use Terms.{DwarfObject, elf_of, Err, ErrorValue, file_text, inl, Input, inr, IsPackedAlone}
+use Terms.{IsWritten, JoinAll, KindsDiffer, List, Members, Ok, Option, Outcome, Ran, refl, Result}
+use Terms.{rules, same-ok, State, subst, sym, taken, taken_each, TakesInput, TypeUnit, units_in}
+use Terms.{written_elf, [], ℕ, ◌++◌, ◌+◌, ◌∙◌, ◌∷◌, ◌≡◌}
 use Rattle.thorin_errors.specs.declared.error.InputError.{InputError}
 use Rattle.thorin_errors.specs.declared.error.InputError.TheVariants.{Io, Memory as no_memory}
 use Rattle.thorin_errors.specs.declared.error.MissingReferencedObjectBehaviour.{MissingReferencedObjectBehaviour}
@@ -158,12 +157,6 @@ unfolding taken_each
 taken-then [] rest old middle h = ap (taken_each rest) (same-ok old middle h)
 taken-then (bytes ∷ done) rest old middle h = grind (rules, taken-then done rest)
 
--- a list up to one element, that one, and what follows
-pub mapped-around : {A B : Type 0} (f : A → B) (xs : List A) (i : ℕ) (d : A) → i < length xs
-    → map f xs ≡ map f (take i xs) ++ f (get_or xs i d) ∷ map f (drop (i + 1) xs)
-mapped-around f xs i d h =
-    grind (rules, take-append-drop i xs, map-append f (take i xs) (drop i xs), drop_more xs i d h)
-
 -- one more group is packed
 pub packed-more : (groups : List (List (List ℕ))) (packages : List (List ℕ)) (group : List (List ℕ))
     (file : List ℕ) → ArePackedAlone groups packages → IsPackedAlone group file
@@ -171,12 +164,6 @@ pub packed-more : (groups : List (List (List ℕ))) (packages : List (List ℕ))
 packed-more [] [] group file all one = (one, tt)
 packed-more (g ∷ gs) (p ∷ ps) group file all one = (all.0, packed-more gs ps group file all.1 one)
 packed-more _ _ group file all one = absurd all
-
--- what is so of every value is so of an answer that is Ok
-pub if-ok : {V E : Type 0} (P : V → Type 0) (result : Result V E) → ((value : V) → P value)
-    → IfOk result P
-if-ok P (Ok value) law = law value
-if-ok P (Err e) law = tt
 
 -- ---- what was written
 

@@ -1,12 +1,11 @@
 -- What an input adds that adds no unit, however often it is taken.
 use Rattle.thorin_builder.proofs.Terms
-use Terms.{append-nil, append_assoc, AreTaken, arith, begun_of, bytes_eq, DwarfObject, Encoding}
-use Terms.{false, Global, held_units, in_progress_of, IndexEntry, inl, InProgress}
-use Terms.{InProgressDwarfPackage, inr, IsLater, IsTaken, kept_more, le-ltb, length, List, lookup}
-use Terms.{map, map-append, Meaning, meaning_at, names_in, None, none-some, Ok, Option, own_after}
-use Terms.{own_encoding, part, refl, Remembers, rules, Some, State, String, string_bytes, string_eq}
-use Terms.{sym, take-length, taken, true≢false, UnitlessInput, units_begun, units_of, with_input}
-use Terms.{with_more, ℕ, [], ◌∷◌, ◌≡◌, ◌⊎◌}
+use Terms.{ap, append-nil, append_assoc, AreTaken, arith, begun_of, bytes_eq, DwarfObject, Encoding}
+use Terms.{false, Global, held_units, in_progress_of, inl, InProgress, InProgressDwarfPackage, inr}
+use Terms.{IsLater, IsTaken, kept_more, le-ltb, length, List, lookup, map, map-append, Meaning}
+use Terms.{names_in, None, none-some, Ok, Option, own_after, own_encoding, part, refl, Remembers}
+use Terms.{rules, Some, State, String, string_bytes, string_eq, sym, take-length, taken, true≢false}
+use Terms.{UnitlessInput, units_begun, with_input, with_more, ℕ, [], ◌∷◌, ◌≡◌, ◌⊎◌}
 use Rattle.thorin_join.proofs.Terms.{is_some, Joins}
 use Rattle.std.proofs.{lemmas.Simd.map-map, lemmas.Slice.Eq.bytes_eq-Decides}
 use Rattle.indexmap.specs.IndexMap.{insert_entry}
@@ -24,11 +23,8 @@ later-refl made = record {
 }
 
 later-trans : (a b c : InProgress) → IsLater a b → IsLater b c → IsLater a c
-later-trans a b c h k = grind (
-  rules,
-  kept_more a.strings b.strings c.strings,
-  append_assoc (held_units a) h.more k.more,
-)
+later-trans a b c h k =
+    grind (rules, kept_more a.strings b.strings, append_assoc (held_units a) h.more)
 
 -- a package with what is remembered more
 abbrev pub with_again : UnitlessInput → InProgress → InProgress
@@ -57,10 +53,6 @@ begun_extends (Some made) now (inr same) = rw same (extends-refl (in_progress_of
 abbrev own-bytes : DwarfObject × Meaning → DwarfObject × List ℕ
 own-bytes unit = (unit.0, unit.1.bytes)
 
-held-is : (made : InProgress) → held_units made ≡ map own-bytes (units_of made)
-held-is made = sym (map-map own-bytes (λ (row : IndexEntry).
-    (row.id, meaning_at made.file.order made.file.contents made.strings row)) made.rows)
-
 pub joined-later : (bytes : List ℕ) (begun now : Option InProgress) → ExtendsBegun begun now
     → Joins bytes (units_begun begun) (units_begun now) → IsLaterBegun begun now
 joined-later bytes None now h joins = tt
@@ -69,7 +61,7 @@ joined-later bytes (Some made) (Some now) h joins = record {
   order = h.file.order;
   strings = h.strings;
   more = map own-bytes joins.added;
-  held = grind (rules, held-is now, held-is made, map-append own-bytes (units_of made) joins.added);
+  held = simp (map-append, map-map) at (ap (map own-bytes) joins.is);
 }
 
 -- a target changes nothing of the package
@@ -120,21 +112,21 @@ pub taken-as : (bytes : List ℕ) (old : State) (now : Option InProgress)
 unfolding taken
 taken-as bytes old now found own h k e = rw (h, k, e) refl
 
-module _ (bytes : List ℕ) (again : UnitlessInput) (old : State) (made now : InProgress)
-    (begun : old.begun ≡ Some made) (known : AddsAgainTo bytes again old.begun)
-    (added : now ≡ with_again again made) where
-  known-of : AddsAgain bytes again made
-  known-of = rw begun at known
-
-  pub input-known : with_input bytes old.begun ≡ Ok (Some now)
-  input-known = rw (begun, added) (known-of.adds made (later-refl made))
-
-  pub taken-known : taken bytes old ≡ Ok (record old { begun = Some now; own = None })
-  taken-known =
-      let names : length (names_in (Some now)) ≡ length (names_in old.begun) =
-      rw (begun, added) refl in
-      taken-as bytes old (Some now) known-of.own None input-known known-of.own_is
-      (rw (le-ltb (length (names_in old.begun)) (length (names_in (Some now))) (omega arith)) refl)
-
-  pub later-known : IsLaterBegun old.begun (Some now)
-  later-known = rw (begun, added) (known-of.stays made)
+-- what is known of an input that was added again
+pub added-known : (bytes : List ℕ) (again : UnitlessInput) (old : State) (made now : InProgress)
+    → old.begun ≡ Some made → AddsAgainTo bytes again old.begun → now ≡ with_again again made
+    → (with_input bytes old.begun ≡ Ok (Some now))
+    × (taken bytes old ≡ Ok (record old { begun = Some now; own = None }))
+    × IsLaterBegun old.begun (Some now)
+added-known bytes again old made now begun known added =
+    let alone : AddsAgain bytes again made = rw begun at known in
+    let input : with_input bytes old.begun ≡ Ok (Some now) =
+    rw (begun, added) (alone.adds made (later-refl made)) in
+    let names : length (names_in (Some now)) ≡ length (names_in old.begun) =
+    rw (begun, added) refl in (
+      input,
+      taken-as bytes old (Some now) alone.own None input alone.own_is
+          (rw (le-ltb (length (names_in old.begun)) (length (names_in (Some now))) (omega arith))
+          refl),
+      rw (begun, added) (alone.stays made),
+    )

@@ -1,10 +1,9 @@
 -- A package that loses nothing of what it had.
 use Rattle.thorin_builder.proofs.Terms
 use Terms.{append-nil, arith, Contents, DebugTypeSignature, Extends, File, InProgress, IsGrown}
-use Terms.{length, List, map, map-append, New, new_units, Ok, parts_of, refl, Result, rules, Source}
-use Terms.{sym, take, take-append_seam, take-length, true, with_all, with_source, ℕ, [], ◌++◌, ◌∷◌}
-use Terms.{◌≡◌}
-use Rattle.std.{proofs.Common.length-take, proofs.Common.take-take, specs.Result.OnOk}
+use Terms.{length, List, map, map-append, New, new_units, Ok, parts_of, refl, Source, sym, take}
+use Terms.{take-append_seam, take-length, true, with_all, with_source, ℕ, [], ◌++◌, ◌∷◌, ◌≡◌}
+use Rattle.std.{proofs.Common.length-take, proofs.Common.take-take}
 use Rattle.dwp_elf.specs.Growing.{Begins}
 use Rattle.thorin_join.specs.State.{abbreviations_test, adding}
 
@@ -25,13 +24,9 @@ begins-refl : (a : Contents) → Begins a a
 begins-refl [] = tt
 begins-refl (c ∷ cs) = (refl, record { rest = []; is = sym (append-nil c.1) }, begins-refl cs)
 
-is_grown-refl : (o : File) → IsGrown o o
-is_grown-refl o =
-    record { class = refl; machine = refl; order = refl; contents = begins-refl o.contents }
-
 pub extends-refl : (p : InProgress) → Extends p p
-extends-refl p = let file = is_grown-refl p.file in
-    assumption (file, take-length p.strings, take-length p.rows, take-length p.differing)
+extends-refl p = let contents = begins-refl p.file.contents in
+    assumption (contents, take-length p.strings, take-length p.rows, take-length p.differing)
 
 -- what keeps those before it keeps those before them
 still-kept : {A : Type 0} (old now new : List A) → take (length old) now ≡ old
@@ -60,8 +55,3 @@ pub with_source-is : (source : Source) (p : InProgress) (parts : Contents × Lis
     new_units (adding source p parts.0) ≡ Ok new → with_source source p ≡ Ok (with_all p parts new)
 unfolding with_source abbreviations_test
 with_source-is source p parts new hp ha hn = rw (hp, hn, ha) refl
-
--- what follows of two facts of a value
-pub on_ok-both : {T E : Type 0} (r : Result T E) (P Q R : Type 0) → OnOk r P → OnOk r Q
-    → (P → Q → R) → OnOk r R
-on_ok-both r P Q R p q f = grind rules

@@ -7,15 +7,15 @@ use Terms.{take-append_seam, take-length, Used, with_each_read, with_each_sectio
 use Terms.{with_section, zero, ℕ, ◌++◌, ◌+◌, ◌∙◌, ◌∷◌, ◌≡◌}
 use Rattle.thorin_join.proofs.Terms as Joined
 use Joined.{◌>>=◌, Adding, Contribution, entry_count, name_for, packaged_offsets, ReadError}
-use Joined.{remapped, rewritten, slice_range, Str, unit_section, UnitSection}
-use Joined.{with_each_part, with_offsets, with_part, with_string, with_unit}
+use Joined.{remapped, rewritten, slice_range, Str, with_each_part, with_offsets, with_part}
+use Joined.{with_string, with_unit}
 use Rattle.std.proofs.{lemmas.Bool.cond-true, lemmas.Grind.length_at_push}
 use Rattle.thorin_strings.specs.StringOffsets.{remapped_entries, remapped_entry}
 use Rattle.thorin_package_input.specs.PackagedOffsets.{offset_ranges, rewritten_from}
 use Rattle.dwp_strings.specs.Strings.{offset_of}
 use Rattle.dwp_strings.proofs.Named.{there_later, there_once_used}
 use Rattle.dwp_units.specs.Units.{Unit as Header}
-use Rattle.thorin_input.specs.NewUnits.{once_test, with_read, with_section_at, with_section_in}
+use Rattle.thorin_input.specs.NewUnits.{once_test, with_read, with_section_at}
 
 abbrev Strings : Type 0
 Strings = List (List ℕ)
@@ -68,11 +68,10 @@ module _ (later : Strings) (source : Source) where
       → Keeps (rewritten_from source.object.order source.encoding strings_in bytes at ranges)
   unfolding rewritten_from
   ranges-keep bytes at [] before = grind rules
-  ranges-keep bytes at (r ∷ rs) before = grind (
-    rules,
-    remapped-keeps (slice_range bytes r.offset.0 (r.offset.0 + r.size)) r.size before,
-    ranges-keep bytes (r.offset.0 + r.size) rs,
-  )
+  ranges-keep bytes at (r ∷ rs) before =
+      let end = r.offset.0 + r.size in
+      let here = remapped-keeps (slice_range bytes r.offset.0 end) r.size before in
+      grind (rules, here, ranges-keep bytes end rs)
 
   rewritten-keeps : (bytes : List ℕ) → Keeps (rewritten source bytes)
   unfolding rewritten packaged_offsets
@@ -81,17 +80,12 @@ module _ (later : Strings) (source : Source) where
       grind (rules, ranges-keep bytes 0 ranges before, remapped-keeps bytes (length bytes) before)
 
   -- the parts of an input
-  part-keeps : (parts : Contents) (section : Used)
-      → Keeps (λ s. with_part source (parts, s) section)
-  unfolding with_part with_offsets
-  part-keeps parts section before = grind (rules, rewritten-keeps section.bytes before)
-
   parts-keep : (sections : List Used) (before : Contents × Strings) → Kept before.1
       (with_each_part source before sections) (with_each_part source (before.0, later) sections)
-  unfolding with_each_part
+  unfolding with_each_part with_part with_offsets
   parts-keep [] before = grind rules
   parts-keep (section ∷ sections) before =
-      grind (rules, part-keeps before.0 section before.1, parts-keep sections)
+      grind (rules, rewritten-keeps section.bytes before.1, parts-keep sections)
 
 -- the parts of an input are the same over more strings behind those that it left
 pub parts-later : (source : Source) (strings later : List (List ℕ))
@@ -127,11 +121,9 @@ module _ (source : Source) (whole other : IndexEntry) (held more : List (DwarfOb
       (λ new. new) before (with_unit (kept_bytes held before.units name) here from name unit before)
       (with_unit (kept_bytes (held ++ more) before.units name) there from name unit before)
   unfolding with_unit with_first
-  unit-alone from name unit before = grind (
-    rules,
-    kept-later (lookup (same_name name) before.units) (same_name name) held more,
-    length_at_push {X = DwarfObject × NewUnit},
-  )
+  unit-alone from name unit before =
+      let kept = kept-later (lookup (same_name name) before.units) (same_name name) held more in
+      grind (rules, kept, length_at_push {X = DwarfObject × NewUnit})
 
   named-alone : (from : Used) (unit : Header) (before : New) (found : Result DwarfObject ErrorValue)
       → Alone (λ new. new) before (found >>= λ name.
@@ -153,26 +145,19 @@ module _ (source : Source) (whole other : IndexEntry) (held more : List (DwarfOb
   each-alone from (read ∷ rest) before =
       grind (rules, read-alone from read before, each-alone from rest)
 
-  section-alone : (from : Used) (place : Option UnitSection) (before : SeenSections × New)
-      → Alone (λ at. at.1) before.1 (with_section_in here from place before)
-      (with_section_in there from place before)
-  unfolding with_section_at once_test
-  section-alone from place before =
-      grind (rules, λ (reads : List (Result Header ReadError)). each-alone from reads before.1)
-
   sections-alone : (sections : List Used) (before : SeenSections × New) → Alone (λ at. at.1)
       before.1 (with_each_section here before sections) (with_each_section there before sections)
-  unfolding with_each_section with_section
+  unfolding with_each_section with_section with_section_at once_test
   sections-alone [] before = grind rules
   sections-alone (from ∷ others) before =
-      grind (rules, section-alone from (unit_section from.kind) before, sections-alone others)
+      let each = λ (reads : List (Result Header ReadError)). each-alone from reads before.1 in
+      grind (rules, each, sections-alone others)
 
   -- where an input adds no unit, it adds the same to a package that has more units, wherever its
   -- parts come to lie
   pub units-later : (new : New) → new_units here ≡ Ok new → new.units ≡ [] → new_units there ≡ Ok
       new
   unfolding new_units
-  units-later new h none = grind (
-    rules,
-    sections-alone source.object.sections (none_met, record { units = []; differing = [] }),
-  )
+  units-later new h none =
+      let start : New = record { units = []; differing = [] } in
+      grind (rules, sections-alone source.object.sections (none_met, start))

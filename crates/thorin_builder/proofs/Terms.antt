@@ -6,17 +6,17 @@ unfoldable pub use Rattle.thorin_input.specs.NewUnits.{with_first, with_section}
 unfoldable pub use Rattle.thorin_join.specs.Builder.{finish_test, with_source_or_new, with_units}
 unfoldable pub use Rattle.thorin_input.specs.Encodings.{file_encoding, own_encoding}
 unfoldable pub use Rattle.thorin_join.specs.{Builder.taken, State.with_all}
-pub use Rattle.std.proofs.Common.{ap, ap₂, [], true≢false, ℕ, ◌++◌, ◌+◌, ◌∙◌, ◌∷◌, ◌≡◌, ◌≢◌, ◌⊎◌}
-pub use Rattle.std.proofs.Common.{get_or, Global, le-ltb, length, lt-ltb, string_bytes, string_eq}
-pub use Rattle.std.proofs.Common.{drop, Err, find, IfOk, List, None, refl, Some, take, true, zero}
-pub use Rattle.std.proofs.Common.{arith, Bool, cond, false, Option, Result, rules, String, subst}
-pub use Rattle.std.proofs.Common.{inl, inr, map, not, Ok, suc, sym}
+pub use Rattle.std.proofs.Common.{ap, [], true≢false, ℕ, ◌++◌, ◌+◌, ◌∙◌, ◌∷◌, ◌≡◌, ◌≢◌, ◌⊎◌, get_or}
+pub use Rattle.std.proofs.Common.{Global, le-ltb, length, lt-ltb, string_bytes, string_eq, drop}
+pub use Rattle.std.proofs.Common.{Err, find, IfOk, List, None, refl, Some, take, true, zero, arith}
+pub use Rattle.std.proofs.Common.{Bool, cond, false, Option, Result, rules, String, subst, inl, inr}
+pub use Rattle.std.proofs.Common.{map, not, Ok, suc, sym}
 pub use Rattle.thorin_join.proofs.Terms.{DwarfObject, IdentifiersFit, input_file_of, take-append-le}
 pub use Rattle.thorin_join.proofs.Terms.{append-nil, append_assoc, filter, take-length, units_begun}
 pub use Rattle.thorin_join.proofs.Terms.{ErrorValue, IndexEntry, InProgress, kept_bytes, map-append}
-pub use Rattle.thorin_join.proofs.Terms.{Contents, Encoding, keys, meaning_at, none-some, same_name}
-pub use Rattle.thorin_join.proofs.Terms.{list_any, Meaning, NewUnit, parts_of, units_in, units_of}
-pub use Rattle.thorin_join.proofs.Terms.{first, lookup, New, Source, Used}
+pub use Rattle.thorin_join.proofs.Terms.{Contents, Encoding, keys, none-some, same_name, list_any}
+pub use Rattle.thorin_join.proofs.Terms.{Meaning, NewUnit, parts_of, units_in, first, lookup, New}
+pub use Rattle.thorin_join.proofs.Terms.{Source, Used}
 pub use Rattle.thorin_join.specs.Builder.{is_missing, IsFinishedState, names_in, own_after, State}
 pub use Rattle.thorin_builder.specs.Taking.{accepted_of, Outcome, TakesReferredFile, TakesSkeleton}
 pub use Rattle.std.proofs.Math.Seq.{take-append-add, take-append_seam}
@@ -28,8 +28,7 @@ pub use Rattle.dwp_elf.specs.{FileText.Object, FileText.Object as File, Growing.
 pub use Rattle.thorin_errors.specs.Answers.{Gives, MemoryAside}
 pub use Rattle.thorin_errors.specs.{declared.error.Error.Error, Errors.error_of}
 pub use Rattle.thorin_errors.specs.declared.error.InputError.TheVariants.{Io, Memory}
-pub use Rattle.thorin_index.proofs.RowLemmas.{at_least}
-pub use Rattle.thorin_index.specs.Rows.{blank}
+pub use Rattle.thorin_index.{proofs.RowLemmas.at_least, specs.Rows.blank}
 pub use Rattle.thorin_input.specs.Encodings.{common, one_encoding}
 pub use Rattle.thorin_input.specs.{Held.unit_bytes, Names.with_name, UnitView.new_of, View.part}
 pub use Rattle.thorin_input.specs.NewUnits.{none_met, or_held, SeenSections}

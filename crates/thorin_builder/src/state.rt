@@ -113,7 +113,7 @@ impl InProgressDwarfPackage {
     }
 
     /// Adds the units of an input, but an `Err` may leave more than there was.
-    #[tactic(auto, unfolding(thorin_join::specs::State::with_source, thorin_join::specs::State::abbreviations_test))]
+    #[tactic(auto, unfolding(thorin_join::specs::State::with_source, thorin_join::specs::State::with_all, thorin_join::specs::State::abbreviations_test))]
     fn try_add(&mut self, source: &Source<'_>) -> Result<bool, Error>
         ensures alike { IfOk result (λ alike. alike ≡ are_alike (view.source source.now)) }
         ensures meaning { Gives (λ _. in_progress_of self.new) result

@@ -1,4 +1,11 @@
-use Rattle.thorin.proofs.{Running.each-taken, TakenAgain.groups-left, Terms.start}
+use Rattle.thorin.proofs.Terms
+use Terms.{arith, ArePackedAlone, begun-now, CanBePackedAgain, inl, input-keeps, inr, IsSoundBegun}
+use Terms.{List, Ok, refl, start, State, taken, taken_each, written_elf, [], ℕ, ⊎_elim, ◌∙◌, ◌∷◌}
+use Terms.{◌≡◌}
+use Rattle.thorin.{proofs.Running.each-taken, proofs.Running.read-text, specs.Groups.IsUnwritten}
+use Rattle.thorin_join.specs.Builder.{order_of}
+use Rattle.thorin_again.specs.OwnRefusals.{IsForeseen, UnlessForeseen}
+use Rattle.thorin_again.proofs.Opened.{and-then}
 use Rattle.thorin.proofs.again.packages_of_groups_are_taken_again.Goals as goal
 
 pub returns-clause-alone : goal.returns-clause-alone
@@ -6,6 +13,53 @@ returns-clause-alone c inputs bytes is packs =
     c.written_packages_are_taken_again.ensures.again inputs is.state bytes
     (each-taken inputs start is.state is.taken) packs is.written
 
+-- inputs that are taken leave the units that executables refer to
+targets-stay : (inputs : List (List ℕ)) (old new : State) → taken_each inputs old ≡ Ok new
+    → new.targets ≡ old.targets
+unfolding taken_each taken
+targets-stay [] old new h = grind arith
+targets-stay (bytes ∷ rest) old new h = grind (arith, targets-stay rest)
+
 pub returns-clause-left : goal.returns-clause-left
-returns-clause-left c = groups-left c.packages_that_pack_again_are_accepted.ensures.accepted
-    c.taken_inputs_are_finished.ensures c.the_first_byte_order_stays.ensures
+unfolding taken_each
+returns-clause-left c order groups error refused can = ⊎_elim
+    (λ h. inl (rw h at (each-foreseen groups refused.packages refused.each can start tt refl)))
+    (λ (u : IsUnwritten refused.packages error).
+    let are = each-taken refused.packages start u.state u.taken in
+    inr (⊎_elim (λ h. elim (c.taken_inputs_are_finished.ensures refused.packages u.state error are
+    h) [
+      | inl target ↦
+          let none = targets-stay refused.packages start u.state u.taken in
+          let found = rw none at target.1 in
+          absurd cc
+      | inr (inl none) ↦ inl none
+      | inr (inr (inl mixed)) ↦ inr (inl mixed)
+      | inr (inr (inr long)) ↦ inr (inr (record {
+        state = u.state;
+        taken = u.taken;
+        long = inl long;
+      }))
+    ]) (λ large. inr (inr (record {
+      state = u.state;
+      taken = u.taken;
+      long = inr (large.1, large.0);
+    }))) u.refused)) refused.refused
+  where
+    each-foreseen : (groups : List (List (List ℕ))) (packages : List (List ℕ))
+        (each : ArePackedAlone groups packages) → CanBePackedAgain order groups packages each
+        → (old : State) → IsSoundBegun old.begun → order_of old.begun order ≡ order
+        → UnlessForeseen (taken_each packages old)
+    each-foreseen [] [] each can old sound same = tt
+    each-foreseen (group ∷ groups) (bytes ∷ files) each can old sound same =
+        let state = each.0.state in
+        let w = each.0.written in
+        let accepted = c.packages_that_pack_again_are_accepted.ensures.accepted group state w.file
+        (each-taken group start state each.0.taken) w.tested w.finished can.0 w.kinds
+        (read-text state bytes w) in
+        and-then IsForeseen (taken bytes old) (taken_each files)
+        (rw w.text (accepted old sound (rw can.1 same))) (λ next took.
+        each-foreseen groups files each.1 can.2 next
+        (input-keeps bytes old.begun next.begun sound (begun-now bytes old next took)).sound
+        (c.the_first_byte_order_stays.ensures bytes (written_elf w.file) old next order w.read_back
+        took ∙ rw can.1 same))
+    each-foreseen _ _ each can old sound same = absurd can

@@ -1,17 +1,17 @@
-use Rattle.thorin.proofs.Terms.{AnswersAs, IsTakenAgain, start, units_in}
-use Rattle.thorin.proofs.{Running.run-accepts, TakenAgain.if-written}
+use Rattle.std.proofs.lemmas.Result.{IfOk-weaker}
+use Rattle.thorin.proofs.{Running.run-accepts, Terms.IsWritten, Terms.rules, Terms.start}
 use Rattle.thorin.proofs.again.packed_files_are_taken_again.Goals as goal
 
 pub returns-clause-again : goal.returns-clause-again
-returns-clause-again g c inputs packed is packs = if-written (λ bytes. bytes.items) is.state
-    (IsTakenAgain (units_in is.state)) packed.file is.written (λ bytes w.
-    c.written_packages_are_taken_again.ensures.again is.accepted is.state bytes
+returns-clause-again g c inputs packed is packs =
+    IfOk-weaker packed.file (λ file. IsWritten is.state file.items) _ (λ file w.
+    c.written_packages_are_taken_again.ensures.again is.accepted is.state file.items
     (run-accepts (g.Sess.Session.offer c.args.session.now) inputs start is.state
-    packed.outcomes.items is.accepted is.ran).0 packs w)
+    packed.outcomes.items is.accepted is.ran).0 packs w) (grind (rules, is.written))
 
 pub returns-clause-answers : goal.returns-clause-answers
-returns-clause-answers g c inputs packed is one = if-written (λ bytes. bytes.items) is.state
-    (AnswersAs (units_in is.state)) packed.file is.written (λ bytes w.
-    c.written_packages_are_taken_again.ensures.answers is.accepted is.state bytes
+returns-clause-answers g c inputs packed is one =
+    IfOk-weaker packed.file (λ file. IsWritten is.state file.items) _ (λ file w.
+    c.written_packages_are_taken_again.ensures.answers is.accepted is.state file.items
     (run-accepts (g.Sess.Session.offer c.args.session.now) inputs start is.state
-    packed.outcomes.items is.accepted is.ran).0 one w)
+    packed.outcomes.items is.accepted is.ran).0 one w) (grind (rules, is.written))

@@ -1,14 +1,15 @@
-use Rattle.thorin.proofs.Terms.{begun-now, input-keeps, IsPackageOf, Ok, start, subst, sym, ◌≡◌}
-use Rattle.thorin.proofs.{GroupJoins.sound-taken, Running.as-written, TakenAgain.plain-encoding}
-use Rattle.thorin.proofs.{Running.read-text, Terms.taken, Terms.units_in}
-use Rattle.thorin_again.specs.Again.{HaveEncodingOf, MeansWhereTaken}
+use Rattle.thorin.proofs.Terms
+use Terms.{arith, begun-now, Encoding, input-keeps, IsOfEncoding, IsPackageOf, IsPlainOf, List, Ok}
+use Terms.{start, subst, sym, taken, units_in, ℕ, ◌≡◌}
+use Rattle.thorin.proofs.{GroupJoins.taken-joins, Running.as-written, Running.read-text}
+use Rattle.thorin_again.specs.Again.{HaveEncodingOf, input_encoding, MeansWhereTaken}
 use Rattle.thorin_join.proofs.Files.Finished.{finished-is}
 use Rattle.thorin.proofs.again.refused_packages_mean_what_is_read.Goals as goal
 
 pub returns-clause-taken : goal.returns-clause-taken
 returns-clause-taken c accepted state bytes before after are w have other took =
     let units = units_in state in
-    let sound = sound-taken accepted start state tt are in
+    let sound = (taken-joins accepted start state tt are).0 in
     let j = (input-keeps bytes before.begun after.begun other
     (begun-now bytes before after took)).joins in
     record {
@@ -20,6 +21,13 @@ returns-clause-taken c accepted state bytes before after are w have other took =
       package_of = as-written state bytes w (IsPackageOf units)
           (finished-is state w.file sound w.tested w.finished);
     }
+
+-- plain inputs of an encoding are inputs of this encoding
+plain-encoding : (encoding : Encoding) (bytes : List ℕ) → IsPlainOf encoding bytes
+    → IsOfEncoding encoding bytes
+unfolding input_encoding
+plain-encoding encoding bytes p =
+    (λ file object e h k l. grind (arith, p), λ e h. grind (arith, p))
 
 pub returns-clause-own : goal.returns-clause-own
 returns-clause-own c accepted state bytes are packs w =

@@ -1,60 +1,49 @@
 use Rattle.thorin.proofs.Terms
-use Terms.{ap, bind-err, bind-ok, Bor, bytes_in, drop, Err, get_or, IfOk, inl, inr, IsPackageOf}
-use Terms.{List, map_more, Ok, PacksAlone, refl, start, sym, take, take_all, taken, taken_each}
-use Terms.{units_in, Writes, [], ℕ, ◌++◌, ◌+◌, ◌∙◌, ◌∷◌, ◌≡◌}
-use Rattle.thorin.proofs.Running.{join-append, mapped-around, taken-then}
+use Terms.{bind-err, bind-ok, Bor, bytes_in, drop, Err, get_or, IfOk, inr, inl, IsPackageOf, length}
+use Terms.{List, Ok, PacksAlone, refl, start, State, sym, taken, taken_each, units_in, Writes, [], ℕ}
+use Terms.{◌+◌, ◌<◌, ◌>>=◌, ◌∙◌, ◌≡◌}
+use Rattle.std.proofs.lemmas.List.{at_drop_more, drop_all}
+use Rattle.thorin.proofs.{GroupJoins.taken-joins, Running.each-taken}
 use Rattle.thorin.proofs.groups.pack_alone.Goals as goal
 
 abbrev none : Bor (List ℕ)
 none = record { ref_ptr = (0, 0); now = [] }
 
-pub loop-input-init : goal.loop-input-init
+-- the first of the inputs that are left is taken
+next-input : (inputs : List (Bor (List ℕ))) (i : ℕ) (state : State) → i < length inputs
+    → taken_each (bytes_in (drop i inputs)) state
+    ≡ (taken (get_or inputs i none).now state >>= taken_each (bytes_in (drop (i + 1) inputs)))
 unfolding taken_each
-loop-input-init g c =
-    (ap Ok (sym c.new-builder.ensures.state), ap units_in c.new-builder.ensures.state)
+next-input inputs i state = at_drop_more (λ l. taken_each (bytes_in l) state) inputs i none
+
+pub loop-input-init : goal.loop-input-init
+loop-input-init g c = rw c.new-builder.ensures.state refl
 
 pub loop-input-preserved : goal.loop-input-preserved
-unfolding taken_each
 loop-input-preserved g c =
-    let inputs = c.args.inputs.now in
-    let i = c.loop-input.input-index in
-    let item = get_or inputs i none in
-    let done = bytes_in (take i inputs) in
-    let before = c.loop-input.builder.state in
-    let after = c.add_object_bytes.new.self.state in
-    let next : bytes_in (take (i + 1) inputs) ≡ done ++ item.now ∷ [] =
-    map_more (λ (input : Bor (List ℕ)). input.now) inputs i none c.loop-input-test.true in (
-      rw next (taken-then done (item.now ∷ []) start before c.loop-input.invariant.0
-          ∙ bind-ok (taken item.now before) after _ c.in_default.ensures.meaning),
-      rw next (join-append done (item.now ∷ []) [] (units_in before) (units_in after)
-          c.loop-input.invariant.1 (units_in after, c.in_default.ensures.joins, refl)),
-    )
+    let next = next-input c.args.inputs.now c.loop-input.input-index c.loop-input.builder.state
+    c.loop-input-test.true in
+    sym (next ∙ bind-ok _ _ _ c.in_default.ensures.meaning) ∙ c.loop-input.invariant
 
 pub returns-in-Err : goal.returns-in-Err
-unfolding taken_each
 returns-in-Err g c =
-    let inputs = c.args.inputs.now in
-    let i = c.loop-input.input-index in
-    let item = get_or inputs i none in
-    let before = c.loop-input.builder.state in
-    λ aside. inl (
-    ap (λ l. taken_each l start) (mapped-around (λ (input : Bor (List ℕ)). input.now) inputs i none
-    c.loop-input-test.true)
-    ∙ taken-then (bytes_in (take i inputs)) (item.now ∷ bytes_in (drop (i + 1) inputs)) start
-    before c.loop-input.invariant.0
-    ∙ bind-err (taken item.now before) _ _ (c.in-Err.ensures.meaning aside)
-    )
+    let next = next-input c.args.inputs.now c.loop-input.input-index c.loop-input.builder.state
+    c.loop-input-test.true in
+    λ aside. inl
+    (sym c.loop-input.invariant ∙ next ∙ bind-err _ _ _ (c.in-Err.ensures.meaning aside))
 
 pub returns : goal.returns
+unfolding taken_each
 returns g c =
-    let inputs = c.args.inputs.now in
+    let all = bytes_in c.args.inputs.now in
     let state = c.loop-input.builder.state in
-    let are = rw (take_all c.loop-input.input-index inputs c.loop-input-test.false) at
-    c.loop-input.invariant in
+    let are = sym (rw (drop_all c.loop-input.input-index c.args.inputs.now
+    c.loop-input-test.false) at c.loop-input.invariant) in
+    let joined = (taken-joins all start state tt (each-taken all start state are)).1 in
     elim c.written-file.result.0 as (λ r. Writes (λ file. file.items) state r
     → IfOk r (λ file. IsPackageOf (units_in state) file.items)
-    → PacksAlone (λ file. file.items) (bytes_in inputs) r) [
+    → PacksAlone (λ file. file.items) all r) [
       | Ok file ↦ λ w p.
-          record { state = state; taken = are.0; joined = are.1; written = w; package_of = p }
-      | Err e ↦ λ w p aside. inr (record { state = state; taken = are.0; refused = w aside })
+          record { state = state; taken = are; joined = joined; written = w; package_of = p }
+      | Err e ↦ λ w p aside. inr (record { state = state; taken = are; refused = w aside })
     ] c.written-file.ensures.writes c.written-file.ensures.packaged

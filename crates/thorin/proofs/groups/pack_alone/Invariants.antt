@@ -1,8 +1,7 @@
-use Rattle.thorin.proofs.Terms.{bytes_in, JoinAll, Ok, start, take, taken_each, units_in, [], ◌≡◌}
+use Rattle.thorin.proofs.Terms.{bytes_in, drop, start, taken_each, ◌≡◌}
 use Rattle.thorin.proofs.groups.pack_alone.Given as goal
 
--- the inputs so far were taken, and their units joined
+-- what comes of the inputs that are left comes of all
 abbrev pub invariant-loop-input : goal.invariant-loop-input
-invariant-loop-input g l =
-    (taken_each (bytes_in (take l.input-index l.inputs)) start ≡ Ok l.builder.state)
-    × JoinAll (bytes_in (take l.input-index l.inputs)) [] (units_in l.builder.state)
+invariant-loop-input g l = taken_each (bytes_in (drop l.input-index l.inputs)) l.builder.state
+    ≡ taken_each (bytes_in l.inputs) start

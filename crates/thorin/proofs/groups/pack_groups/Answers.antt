@@ -1,12 +1,16 @@
 use Rattle.thorin.proofs.Terms
 use Terms.{Bor, bytes_in, drop, Err, get_or, groups_in, inl, inr, List, map-append, map_more, Ok}
-use Terms.{PacksAlone, PacksInGroups, rules, take, take_all, [], ℕ, ◌++◌, ◌+◌, ◌∷◌, ◌≡◌}
-use Rattle.std.proofs.lemmas.Result.{err_from_is_err_and}
-use Rattle.thorin.proofs.Running.{if-ok, mapped-around, packed-more}
+use Terms.{drop_more, take-append-drop, PacksAlone, PacksInGroups, rules, take, take_all, [], ℕ}
+use Terms.{◌++◌, ◌+◌, ◌∷◌, ◌≡◌}
+use Rattle.std.proofs.lemmas.Result.{err_from_is_err_and, IfOk-weaker}
+use Rattle.thorin.proofs.Running.{packed-more}
 use Rattle.thorin.proofs.groups.pack_groups.Goals as goal
 
 abbrev none : Bor (List (Bor (List ℕ)))
 none = record { ref_ptr = (0, 0); now = [] }
+
+abbrev inputs_in : Bor (List (Bor (List ℕ))) → List (List ℕ)
+inputs_in group = bytes_in group.now
 
 pub loop-group-preserved : goal.loop-group-preserved
 loop-group-preserved g c =
@@ -16,8 +20,7 @@ loop-group-preserved g c =
     let done = groups_in (take i groups) in
     let file = c.in_ok-package.package.items in
     let next : groups_in (take (i + 1) groups) ≡ done ++ bytes_in item.now ∷ [] =
-    map_more (λ (group : Bor (List (Bor (List ℕ)))). bytes_in group.now) groups i none
-    c.loop-group-test.true in
+    map_more inputs_in groups i none c.loop-group-test.true in
     let placed : c.in_ok-alloc_data.field-0.now ≡ file = c.in_ok-alloc_data.ensures in
     let pushed : c.push.new.self.items ≡ c.loop-group.packages.items ++ c.in_ok-alloc_data.field-0 ∷
     [] = search (rules, c.in_ok-push.ensures.items) in
@@ -29,6 +32,10 @@ returns-in_err-package g c =
     let groups = c.args.groups.now in
     let i = c.loop-group.group-index in
     let item = get_or groups i none in
+    let less = c.loop-group-test.true in
+    let around : groups_in groups ≡ groups_in (take i groups) ++ inputs_in item
+    ∷ groups_in (drop (i + 1) groups) =
+    grind (rules, take-append-drop i groups, map-append inputs_in, drop_more groups i none less) in
     let p = err_from_is_err_and c.from_residual-in_err-package.result
     c.from_residual-in_err-package.ensures.1 in
     record {
@@ -36,14 +43,12 @@ returns-in_err-package g c =
         before = groups_in (take i groups);
         group = bytes_in item.now;
         after = groups_in (drop (i + 1) groups);
-        are = mapped-around (λ (group : Bor (List (Bor (List ℕ)))). bytes_in group.now) groups i
-            none c.loop-group-test.true;
+        are = around;
         packages = bytes_in c.loop-group.packages.items;
         each = c.loop-group.invariant;
         refused = c.in_err-package.ensures aside;
       }));
-      joined = if-ok _ c.from_residual-in_err-package.result (λ file.
-          c.groups_are_packed_alike.ensures.joined (groups_in groups) file.items);
+      joined = rw p.1 tt;
     }
 
 pub returns : goal.returns
@@ -59,6 +64,6 @@ returns g c =
             | Err e ↦ λ p aside.
                 inr (record { packages = packages; each = each; refused = p aside })
           ] c.pack_alone-2.ensures;
-      joined = if-ok _ c.pack_alone-2.result (λ file.
-          c.groups_are_packed_alike.ensures.joined (groups_in groups) file.items);
+      joined = IfOk-weaker c.pack_alone-2.result (λ file. Unit {0}) _ (λ file x.
+          c.groups_are_packed_alike.ensures.joined (groups_in groups) file.items) (grind rules);
     }

@@ -1,5 +1,93 @@
-use Rattle.thorin.proofs.Differs.{taken-differs}
+-- The type units that an input's steps pass over and find to differ are those of its list of units.
+use Rattle.thorin.proofs.Terms
+use Terms.{ap, append-nil, append_assoc, begun-now, bind-was, Compilation, DwarfObject, Elf}
+use Terms.{IndexEntry, inl, InProgress, inr, List, map, map-append, Meaning, None, Ok, Option, refl}
+use Terms.{rules, same-ok, same_name, Some, Source, source-made, source_units, sym, takes, TypeUnit}
+use Terms.{UnitRead, Used, [], ℕ, ◌++◌, ◌∷◌, ◌≡◌}
+use Rattle.thorin.specs.Differing.{differing, differing_by, input_units, object_units, read_bytes}
+use Rattle.thorin.specs.Differing.{Bytes, own_bytes}
+use Rattle.thorin_input.specs.NewUnits.{Adding, New, NewUnit, with_first, with_unit}
+use Rattle.thorin_join.specs.Represents.{meaning_at, units_begun}
+use Rattle.thorin_join.specs.Builder.{differing_begun, package_or_new}
+use Rattle.thorin_join.specs.State.{adding, held_units, with_source}
+use Rattle.std.proofs.{lemmas.Map.Made.lookup-map_values, lemmas.Simd.map-map}
+use Rattle.dwp_units.specs.Units.{Unit as Header}
+use Rattle.thorin_join.proofs.Units.ReadInTurn.{Steps, units-read}
+use Rattle.thorin_join.proofs.{Joined.with_all_parts, Parts.Added.each-unit}
 use Rattle.thorin.proofs.laws.passed_type_units_are_compared.Goals as goal
 
+-- ---- what steps do
+
+abbrev new_bytes : List (DwarfObject × NewUnit) → Bytes
+new_bytes us = map {B = DwarfObject × List ℕ} (λ u. (u.0, u.1.bytes)) us
+
+module _ (adding : Adding) where
+  -- a unit is passed over, or brought; `later` says what is found to differ behind it
+  one-step : (old : Option (List ℕ)) (from : Used) (name : DwarfObject) (unit : Header)
+      (before after : New) (later : Bytes → List ℕ)
+      → with_unit old adding from name unit before ≡ Ok after
+      → after.differing ++ later (new_bytes after.units)
+      ≡ before.differing ++ differing_by old (name, unit.whole.bytes)
+      (later (new_bytes before.units))
+      (later (new_bytes before.units ++ (name, unit.whole.bytes) ∷ []))
+  unfolding with_unit with_first
+  one-step old from name unit before after later h =
+      let own : DwarfObject × NewUnit → DwarfObject × List ℕ = λ u. (u.0, u.1.bytes) in
+      grind (rules, append_assoc, map-append own before.units)
+
+  -- what is found to differ, unit by unit
+  steps-differ : (before after : New) (us : List (DwarfObject × UnitRead))
+      → Steps adding before us after
+      → after.differing ≡ before.differing ++ differing adding.held (new_bytes before.units)
+      (read_bytes us)
+  steps-differ before after [] same = rw (← same) (sym (append-nil before.differing))
+  steps-differ before after (u ∷ us) (next, step, steps) =
+      let rest : Bytes → List ℕ = λ brought. differing adding.held brought (read_bytes us) in
+      let one = one-step _ step.from u.0 u.1.unit before next rest step.is in
+      let kept = lookup-map_values (λ (unit : NewUnit). unit.bytes) (same_name u.0) before.units in
+      grind (rules, steps-differ next after us steps, one, kept)
+
+-- ---- a package
+
+source-differs : (source : Source) (before now : InProgress) (all : List (DwarfObject × UnitRead))
+    → with_source source before ≡ Ok now → source_units source ≡ Ok all
+    → now.differing ≡ before.differing ++ differing (held_units before) [] (read_bytes all)
+source-differs source before now all h k =
+    let m = source-made source before now h in
+    let read = units-read (adding source before m.parts) m.new m.new_are in
+    let parted = with_all_parts before m.parts m.after (before.differing ++ m.new.differing) in
+    let keep = each-unit (λ p us now. now.differing ≡ p.differing) (λ p. refl)
+    (λ p u us now same. same) (λ p u us now same. same) parted m.new.units in
+    let differ = steps-differ (adding source before m.parts)
+    (record { units = []; differing = [] }) m.new read.all read.steps in
+    cc (m.is, keep, differ, read.is, k)
+
+-- a package that was begun before, or is new
+old-differs : (file : Elf) (begun : Option InProgress) (units : Bytes)
+    → (package_or_new file begun).differing
+    ++ differing (held_units (package_or_new file begun)) [] units
+    ≡ differing_begun begun ++ differing (own_bytes (units_begun begun)) [] units
+old-differs file None units = refl
+old-differs file (Some made) units =
+    let own : DwarfObject × Meaning → DwarfObject × List ℕ = λ u. (u.0, u.1.bytes) in
+    ap (λ held. made.differing ++ differing held [] units) (sym (map-map own
+    (λ (row : IndexEntry). (row.id, meaning_at made.file.order made.file.contents made.strings row))
+    made.rows))
+
 pub returns : goal.returns
-returns c = taken-differs
+unfolding input_units object_units
+returns c bytes old new units h k =
+    let t = takes bytes old.begun new.begun (begun-now bytes old new h) in
+    let made = package_or_new t.file old.begun in
+    let read = rw t.opens at k in
+    let before = old-differs t.file old.begun units in
+    elim t.does [
+      | inl there ↦
+          let u = there.1 in
+          let s = bind-was (source_units u.source) _ units
+          (rw (there.0, u.object_is, u.encoding_is, u.indexes_are) at read) in
+          cc (u.is, source-differs u.source made u.made s.0 u.with s.1, s.2, before)
+      | inr none ↦
+          let no_units = same-ok [] units (rw none.0 at read) in
+          cc (none.1, no_units, append-nil made.differing, before)
+    ]

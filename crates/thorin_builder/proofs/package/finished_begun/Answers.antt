@@ -1,6 +1,6 @@
 use Rattle.thorin_builder.proofs.Terms
-use Terms.{DebugTypeSignature, Err, Error, File, IdentifiersFit, IfOk, in_progress_of}
-use Terms.{InProgress, IsFinishedState, map, Ok, refl, Result, Some, State, ◌≡◌}
+use Terms.{DebugTypeSignature, Error, File, IdentifiersFit, IfOk, in_progress_of, InProgress}
+use Terms.{IsFinishedState, map, refl, Result, rules, Some, State, ◌≡◌}
 use Rattle.std.specs.Prelude.{OnOk}
 use Rattle.thorin_join.specs.Builder.{IsFinished}
 use Rattle.thorin_builder.proofs.package.finished_begun.Goals as goal
@@ -8,9 +8,7 @@ use Rattle.thorin_builder.proofs.package.finished_begun.Goals as goal
 -- what was finished of the package of a state
 of-state : (r : Result File Error) (state : State) (made : InProgress) → state.begun ≡ Some made
     → IfOk r (IsFinished made) → OnOk r (IdentifiersFit made.rows) → IfOk r (IsFinishedState state)
-of-state (Ok file) state made begun is fit =
-    record { made = made; begun = begun; finished = is; identifiers = fit }
-of-state (Err error) state made begun is fit = tt
+of-state r state made begun is fit = grind (rules, begun)
 
 pub returns-after-tested-clause-finished : goal.returns-after-tested-clause-finished
 returns-after-tested-clause-finished c own = elim c.match-tested.branch [

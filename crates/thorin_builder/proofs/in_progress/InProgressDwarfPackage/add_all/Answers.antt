@@ -1,5 +1,4 @@
-use Rattle.thorin_builder.proofs.Terms
-use Terms.{in_progress_of, new_of, on_ok_weaker, rules, take-length, with_all, with_new_units, ◌∙◌}
+use Rattle.thorin_builder.proofs.Terms.{rules, take-length, with_all}
 use Rattle.thorin_builder.proofs.Extending.{signatures, signatures-kept, still-extends}
 use Rattle.thorin_builder.proofs.in_progress.InProgressDwarfPackage.add_all.Goals as goal
 
@@ -22,10 +21,7 @@ returns-clause-extends c before h = c.append_units.ensures.extends before (still
 pub returns-clause-meaning : goal.returns-clause-meaning
 unfolding with_all
 returns-clause-meaning c =
-    let file = c.in_ok-put_parts.ensures.contents in
     let more = signatures c.args.self.now.differing.items c.args.new.now.differing.items
     c.extend_from_slice.new.self.items
     (search (rules, c.in_ok-extend_from_slice.ensures.items, c.deref.ensures)) in
-    on_ok_weaker c.append_units.result (λ is. is ∙ (λ i. with_new_units
-    (record (in_progress_of c.args.self.now) { file = file i; differing = more i })
-    (new_of c.args.new.now).units)) c.append_units.ensures.meaning
+    grind (rules, more, c.in_ok-put_parts.ensures.contents, c.append_units.ensures.meaning)

@@ -65,21 +65,13 @@ returns-clause-found c =
     let source = view.source c.in_ok-source.source in
     let given = c.in_ok-file.ensures in
     let units = sym c.over-with_units.ensures.units ∙ c.if-not-with_units.false in
-    let object : input_file_of (elf c.in_ok-file.file) ≡ Ok source.object = search (
-      rules,
-      c.over-with_units.ensures.input,
-      c.in_ok-object.was,
-      c.in_ok-source.ensures.object,
-    )
-    in
+    let source_is = c.in_ok-source.ensures.object in
+    let object : input_file_of (elf c.in_ok-file.file) ≡ Ok source.object =
+    search (rules, c.over-with_units.ensures.input, c.in_ok-object.was, source_is) in
     let encoding : encoding_of source.object ≡ Ok source.encoding =
     c.in_ok-source.ensures.encoding in
-    let read : source_for made.file.order source.object ≡ Ok source = search (
-      rules,
-      c.endianness.ensures,
-      c.in_ok-source.ensures.object,
-      c.in_ok-source.ensures.meaning,
-    ) in
+    let read : source_for made.file.order source.object ≡ Ok source =
+    search (rules, c.endianness.ensures, source_is, c.in_ok-source.ensures.meaning) in
     IfOk-weaker c.try_again-found.result _ _
     (λ found known. IfSome_then found known (λ again adds. record {
       own = one_encoding source.object source.encoding;

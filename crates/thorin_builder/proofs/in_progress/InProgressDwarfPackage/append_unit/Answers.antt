@@ -14,11 +14,7 @@ pub returns-in-Err-clause-extends : goal.returns-in-Err-clause-extends
 returns-in-Err-clause-extends c before h = record {
   file = c.append.ensures.grown before.file h.file;
   strings = h.strings;
-  rows = rw (
-    c.truncate.ensures,
-    c.in_ok-push.ensures.pushed,
-    c.len-count.ensures,
-    take-append_seam c.args.self.now.rows _,
-  ) h.rows;
+  rows = rw (c.truncate.ensures, c.in_ok-push.ensures.pushed, c.len-count.ensures, take-append_seam)
+      h.rows;
   differing = h.differing;
 }

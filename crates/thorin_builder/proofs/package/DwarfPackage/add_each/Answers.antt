@@ -1,7 +1,8 @@
-use Rattle.thorin_builder.proofs.Terms.{Err, err_from_is_err_and, inr, refl, rules, ◌∙◌}
+use Rattle.thorin_builder.proofs.Terms.{Err, err_from_is_err_and, inr, None, Ok, refl, rules, ◌∙◌}
+use Rattle.thorin_builder.proofs.Terms.{[]}
 use Rattle.dwp_base.proofs.Bools.{both}
-use Rattle.thorin_builder.proofs.Running.{none-taken, next-taken, next-refused, list-ended}
-use Rattle.thorin_builder.proofs.Running.{declined-as, list-error, next-declined}
+use Rattle.thorin_builder.proofs.Running.{declined-as, ends, list-error, next-declined}
+use Rattle.thorin_builder.proofs.Running.{next-refused, next-taken, none-taken}
 use Rattle.thorin_builder.proofs.package.DwarfPackage.add_each.Goals as goal
 
 pub loop-known-init : goal.loop-known-init
@@ -10,7 +11,7 @@ loop-known-init g c = search (rules, none-taken)
 pub returns-in_err-unit-clause-taken : goal.returns-in_err-unit-clause-taken
 returns-in_err-unit-clause-taken g c =
     let p = err_from_is_err_and c.from_residual.result c.from_residual.ensures.1 in
-    rw (p.1, p.2) (list-error _ _ _ _ _ _ c.loop-known.invariant.0 _ c.in_err-unit.ensures.next)
+    rw (p.1, p.2) (list-error c.loop-known.invariant.0 _ c.in_err-unit.ensures.next)
 
 pub add_skeleton-requires-clause-unread : goal.add_skeleton-requires-clause-unread
 add_skeleton-requires-clause-unread g c =
@@ -21,21 +22,32 @@ add_skeleton-requires-clause-unread g c =
 pub returns-in-Err-clause-taken : goal.returns-in-Err-clause-taken
 returns-in-Err-clause-taken g c =
     let first = rw c.in-Some.is at c.in_ok-unit.ensures.next in
-    next-refused _ _ _ _ _ _ c.loop-known.invariant.0 _ _ _ _ _ first
-    (inr (inr (refl, (refl, refl))))
+    next-refused c.loop-known.invariant.0 _ _ _ _ _ first (inr (inr (refl, (refl, refl))))
 
-pub returns-in_err-add_skeleton-clause-taken : goal.returns-in_err-add_skeleton-clause-taken
-returns-in_err-add_skeleton-clause-taken g c =
+pub returns-in-Err-clause-declined : goal.returns-in-Err-clause-declined
+returns-in-Err-clause-declined g c =
+    let first = rw c.in-Some.is at c.in_ok-unit.ensures.next in
+    next-declined c.loop-known.invariant.0 _ _ first c.in-Err.why
+    (rw c.path.ensures at c.in-Err.ensures)
+
+pub returns-in_err-add_skeleton : goal.returns-in_err-add_skeleton
+returns-in_err-add_skeleton g c =
     let first = rw c.in-Some.is at c.in_ok-unit.ensures.next in
     let p = err_from_is_err_and c.from_residual-in_err-add_skeleton.result
     c.from_residual-in_err-add_skeleton.ensures.1 in
-    rw (p.1, p.2) (next-refused _ _ _ _ _ _ c.loop-known.invariant.0 _ _ _ _ _ first
-    (rw c.path.ensures at c.in_err-add_skeleton.ensures.taken.1))
+    record {
+      taken = rw (p.1, p.2) (next-refused c.loop-known.invariant.0 _ _ _ _ _ first
+          (rw c.path.ensures at c.in_err-add_skeleton.ensures.taken.1));
+      declined = rw (p.1, p.2) (declined-as (Err c.in_err-add_skeleton.field-0.0)
+          (next-declined c.loop-known.invariant.0 _ _ first)
+          (rw c.path.ensures at c.in_err-add_skeleton.ensures.declined));
+      session = c.add_skeleton.ensures.session ∙ c.loop-known.invariant.1;
+    }
 
 pub loop-known-preserved : goal.loop-known-preserved
 loop-known-preserved g c =
     let first = rw c.in-Some.is at c.in_ok-unit.ensures.next in (
-      next-taken _ _ _ _ _ _ c.loop-known.invariant.0 _ _ _ _ first
+      next-taken c.loop-known.invariant.0 _ _ _ _ first
           (rw c.path.ensures at c.in_ok-add_skeleton.ensures.taken.1),
       c.add_skeleton.ensures.session ∙ c.loop-known.invariant.1,
       rw c.path.ensures at c.add_skeleton.ensures.unread,
@@ -45,19 +57,4 @@ loop-known-preserved g c =
 pub returns-clause-taken : goal.returns-clause-taken
 returns-clause-taken g c =
     let end = rw c.in_default.is at c.in_ok-unit.ensures.next in
-    list-ended _ _ _ _ _ _ c.loop-known.invariant.0 end.0
-
-pub returns-in-Err-clause-declined : goal.returns-in-Err-clause-declined
-returns-in-Err-clause-declined g c =
-    let first = rw c.in-Some.is at c.in_ok-unit.ensures.next in
-    next-declined _ _ _ _ _ _ c.loop-known.invariant.0 _ _ first c.in-Err.why
-    (rw c.path.ensures at c.in-Err.ensures)
-
-pub returns-in_err-add_skeleton-clause-declined : goal.returns-in_err-add_skeleton-clause-declined
-returns-in_err-add_skeleton-clause-declined g c =
-    let first = rw c.in-Some.is at c.in_ok-unit.ensures.next in
-    let p = err_from_is_err_and c.from_residual-in_err-add_skeleton.result
-    c.from_residual-in_err-add_skeleton.ensures.1 in
-    rw (p.1, p.2) (declined-as (Err c.in_err-add_skeleton.field-0.0)
-    (next-declined _ _ _ _ _ _ c.loop-known.invariant.0 _ _ first)
-    (rw c.path.ensures at c.in_err-add_skeleton.ensures.declined))
+    ends c.loop-known.invariant.0 [] None (Ok tt) _ [] (λ other. end.0) refl (refl, (refl, refl))

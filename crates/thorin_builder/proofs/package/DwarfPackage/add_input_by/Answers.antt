@@ -1,29 +1,26 @@
 use Rattle.thorin_builder.proofs.Terms
 use Terms.{accepted_of, Err, err_from_is_err_and, input_error_in, Ok, path_bytes, refl, rules, true}
 use Terms.{[]}
-use Rattle.thorin_builder.proofs.Running.{may-read, unread-declined, unread-error}
+use Rattle.thorin_builder.proofs.Running.{unread-is}
 use Rattle.thorin_builder.proofs.package.DwarfPackage.add_input_by.Goals as goal
 
-pub returns-in_err-bytes-clause-taken : goal.returns-in_err-bytes-clause-taken
-returns-in_err-bytes-clause-taken g c =
+pub returns-in_err-bytes : goal.returns-in_err-bytes
+returns-in_err-bytes g c =
     let path = path_bytes c.args.path in
     let why = c.in_err-bytes.field-0.0 in
+    let is = unread-is (g.R.InputReader.offer c.args.reader.now path)
+    (g.R.InputReader.declines c.args.reader.now true path) why c.in_err-bytes.ensures.read in
     let p = err_from_is_err_and c.from_residual.result c.from_residual.ensures.1 in
-    rw (p.1, p.2, unread-error why) (record {
-      read = Err (input_error_in why);
-      within = may-read (g.R.InputReader.offer c.args.reader.now path)
-          (g.R.InputReader.declines c.args.reader.now true path) why c.in_err-bytes.ensures.read;
-      accepted = [];
-      taken = (refl, (refl, refl));
-    })
-
-pub returns-in_err-bytes-clause-declined : goal.returns-in_err-bytes-clause-declined
-returns-in_err-bytes-clause-declined g c =
-    let path = path_bytes c.args.path in
-    let p = err_from_is_err_and c.from_residual.result c.from_residual.ensures.1 in
-    rw (p.1, p.2) (unread-declined (g.R.InputReader.offer c.args.reader.now path)
-    (g.R.InputReader.declines c.args.reader.now true path) c.in_err-bytes.field-0.0
-    c.in_err-bytes.ensures.read)
+    record {
+      taken = rw (p.1, p.2, is.2) (record {
+        read = Err (input_error_in why);
+        within = is.0;
+        accepted = [];
+        taken = (refl, (refl, refl));
+      });
+      declined = rw (p.1, p.2) is.1;
+      session = search rules;
+    }
 
 pub returns-clause-taken : goal.returns-clause-taken
 returns-clause-taken g c = rw c.tried.ensures.outcome (record {

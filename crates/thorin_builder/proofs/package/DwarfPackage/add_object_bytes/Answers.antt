@@ -1,15 +1,9 @@
 use Rattle.thorin_builder.proofs.Terms
-use Terms.{begun_of, Bool, building, common, cond, Encoding, InProgressDwarfPackage, le-ltb, lt-ltb}
-use Terms.{not, Option, own_after, rules, State, sym, with_own, ◌∙◌, ◌≡◌}
-use Rattle.std.specs.Prelude.{is_some}
+use Terms.{arith, begun_of, building, own_after, State, ◌≡◌}
+use Rattle.std.proofs.lemmas.Bool.Decides.{nat_tests}
 use Rattle.thorin_again.proofs.Kept.OneEncoding.{taken-holds, taken-plain}
 use Rattle.thorin_builder.proofs.AddedAgain.{joined-later, taken-as}
 use Rattle.thorin_builder.proofs.package.DwarfPackage.add_object_bytes.Goals as goal
-
--- the first input has its own encoding, a later one what all have
-with-own : (p : Option InProgressDwarfPackage) (first : Bool) (own found : Option Encoding)
-    → is_some p ≡ not first → with_own (begun_of p) own found ≡ cond first found (common own found)
-with-own p first own found h = grind rules
 
 -- a refused object leaves it so
 pub invariant_of-self : goal.invariant_of-self
@@ -21,19 +15,17 @@ invariant_of-self-2 g c =
     let now = begun_of c.add_input.new.in_progress in
     let found = c.in_ok-encoding.encoding in
     let made = c.in_ok-encoding.ensures.meaning in
-    let own : own_after old now found ≡ c.if-unit_count-units.self = rw (
-      with-own c.self.inside.in_progress c.is_none-is_first.result old.own found
-          c.is_none-is_first.ensures,
-      ← c.unit_count-units.ensures,
-      ← c.unit_count.ensures,
-    ) (elim c.if-unit_count-units.branch [
-      | goal.then-unit_count-units w ↦ rw (le-ltb _ _ w.if-unit_count-units.true) (sym w.self-is)
+    let units = c.unit_count-units.ensures in
+    let count = c.unit_count.ensures in
+    let first = c.is_none-is_first.ensures in
+    let own : own_after old now found ≡ c.if-unit_count-units.self =
+    elim c.if-unit_count-units.branch [
+      | goal.then-unit_count-units w ↦ grind (arith, nat_tests, units, count, w)
       | goal.else-unit_count-units+then-is_first w ↦
-          rw (lt-ltb _ _ w.if-unit_count-units.false, w.if-is_first.true) (sym w.self-is)
+          grind (arith, nat_tests, units, count, first, w)
       | goal.else-unit_count-units+else-is_first w ↦
-          rw (lt-ltb _ _ w.if-unit_count-units.false, w.if-is_first.false)
-          (sym w.common.ensures ∙ sym w.self-is)
-    ]) in
+          grind (arith, nat_tests, units, count, first, w)
+    ] in
     let new : State = record old { begun = now; own = c.if-unit_count-units.self } in
     let step = taken-as c.args.bytes.now old now found c.if-unit_count-units.self made
     c.in_ok-encoding.ensures.own own in (

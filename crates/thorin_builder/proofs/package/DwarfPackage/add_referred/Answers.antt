@@ -1,7 +1,8 @@
 use Rattle.thorin_builder.proofs.Terms
 use Terms.{accepted_of, AreTaken, Err, Io, Memory, Ok, Outcome, path_bytes, refl, rules}
 use Terms.{TakesReferredFile, []}
-use Rattle.thorin_builder.{proofs.Extending.on_ok-both, specs.Taking.PassesOver}
+use Rattle.indexmap.proofs.SearchLemmas.{on_ok_of}
+use Rattle.thorin_builder.specs.Taking.{PassesOver}
 use Rattle.thorin_builder.proofs.AddedAgain.{are-taken-later, taken-remembered}
 use Rattle.thorin_builder.proofs.Running.{on-ok-taken}
 use Rattle.thorin_builder.proofs.package.DwarfPackage.add_referred.Given.{Over}
@@ -22,25 +23,21 @@ returns-in-Ok-clause-known g c =
     let added = c.add_and_remember in
     on-ok-taken c.tried.result added.result c.tried.ensures.outcome
     (AreTaken offer added.new.taken.entries added.new.self.state.begun)
-    (on_ok-both added.result _ _ _ added.ensures.later added.ensures.remembers
-    (λ later remembered. taken-remembered offer c.args.known.now.taken.entries
-    added.new.taken.entries added.new.self.state.begun c.args.named.path.now c.in-Ok.bytes.now
-    (rw c.new.ensures at c.in-Ok.ensures.read) (are-taken-later offer c.args.known.now.taken.entries
-    c.args.self.now.state.begun added.new.self.state.begun later c.requires.known) remembered))
+    (on_ok_of added.result _ _ _ (λ x later remembered. taken-remembered offer
+    c.args.known.now.taken.entries added.new.taken.entries added.new.self.state.begun
+    c.args.named.path.now c.in-Ok.bytes.now (rw c.new.ensures at c.in-Ok.ensures.read)
+    (are-taken-later offer c.args.known.now.taken.entries c.args.self.now.state.begun
+    added.new.self.state.begun later c.requires.known) remembered)
+    added.ensures.later added.ensures.remembers)
 
 -- what comes of an object that can't be read
 failed : (g : Over) (c : goal.In-Err-Failed-Io g) (outcome : Outcome) → PassesOver c.args.missing
     c.in-Err-Failed-Io.e outcome → TakesReferredFile (g.R.InputReader.offer c.args.reader.now
     c.args.named.path.now) c.args.missing c.args.self.now.state outcome c.args.self.now.state
 failed g c outcome passes =
-    let fails : g.R.InputReader.offer c.args.reader.now
-    (path_bytes c.new.result) (Err c.in-Err-Failed-Io.e) = search (
-      rules,
-      c.in-Err-Failed-Io.ensures.read,
-      c.in-Err-Failed-Io.e-is,
-      c.in-Err-Failed-Io.field-0-is,
-      c.in-Err-Failed-Io.field-0-0-is,
-    ) in
+    let e = c.in-Err-Failed-Io in
+    let fails : g.R.InputReader.offer c.args.reader.now (path_bytes c.new.result) (Err e.e) =
+    search (rules, e.ensures.read, e.e-is, e.field-0-is, e.field-0-0-is) in
     record {
       read = Err (Io c.in-Err-Failed-Io.e);
       within = rw c.new.ensures at fails;

@@ -14,26 +14,21 @@ by-law P r state law tested finished = grind rules
 pub finished_begun-requires : goal.finished_begun-requires
 finished_begun-requires g c = rw (← c.self.view_is) at c.test_targets-tested.ensures
 
-pub returns-clause-refusal : goal.returns-clause-refusal
-returns-clause-refusal g c = rw (← c.self.view_is) (c.finished_begun.ensures.refusal _)
-
-pub returns-clause-finished : goal.returns-clause-finished
-returns-clause-finished g c = rw (← c.self.view_is) (c.finished_begun.ensures.finished _)
-
-pub returns-clause-packaged : goal.returns-clause-packaged
-returns-clause-packaged g c =
+pub returns : goal.returns
+returns g c =
     let state : State = (building c.self.inside).state in
-    rw (← c.self.view_is)
-    (by-law (λ of. IsPackageOnceWritten (units_in of)) c.finished_begun.result.0 state (λ file.
-    finished-is state file c.self.invariant.1) (c.finished_begun.ensures.refusal c.self.inside.own)
-    (c.finished_begun.ensures.finished c.self.inside.own))
-
-pub returns-clause-accepted : goal.returns-clause-accepted
-returns-clause-accepted g c = rw (← c.self.view_is) (by-law IsAcceptedOnceWritten
-    c.finished_begun.result.0 _ (λ file. own-all _ file c.self.invariant.1 c.self.invariant.2
-    c.self.invariant.3) (c.finished_begun.ensures.refusal _) (c.finished_begun.ensures.finished _))
-
-pub returns-clause-accepted_by_new : goal.returns-clause-accepted_by_new
-returns-clause-accepted_by_new g c = rw (← c.self.view_is) (by-law IsAcceptedByNewOnceWritten
-    c.finished_begun.result.0 _ (λ file. own-by-new _ file c.self.invariant.1 c.self.invariant.2
-    c.self.invariant.3) (c.finished_begun.ensures.refusal _) (c.finished_begun.ensures.finished _))
+    let file = c.finished_begun.result.0 in
+    let refusal = c.finished_begun.ensures.refusal c.self.inside.own in
+    let finished = c.finished_begun.ensures.finished c.self.inside.own in
+    let is = c.self.invariant in
+    record {
+      refusal = rw (← c.self.view_is) refusal;
+      finished = rw (← c.self.view_is) finished;
+      packaged = rw (← c.self.view_is) (by-law (λ of. IsPackageOnceWritten (units_in of)) file
+          state (λ file. finished-is state file is.1) refusal finished);
+      accepted = rw (← c.self.view_is) (by-law IsAcceptedOnceWritten file state
+          (λ file. own-all state file is.1 is.2 is.3) refusal finished);
+      accepted_by_new = rw (← c.self.view_is) (by-law IsAcceptedByNewOnceWritten file state
+          (λ file. own-by-new state file is.1 is.2 is.3) refusal finished);
+      differing = search rules;
+    }

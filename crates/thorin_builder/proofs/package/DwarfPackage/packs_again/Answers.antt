@@ -1,5 +1,5 @@
 use Rattle.thorin_builder.proofs.Terms
-use Terms.{building, Encoding, None, Option, refl, Some, State, sym, true, ◌∙◌, ◌≡◌}
+use Terms.{building, Encoding, Option, refl, rules, State, sym, true, ◌∙◌, ◌≡◌}
 use Rattle.std.specs.Option.{is_some}
 use Rattle.thorin_again.specs.OwnUnits.{HasOneEncoding, HoldsOwn}
 use Rattle.thorin_builder.proofs.package.DwarfPackage.packs_again.Goals as goal
@@ -7,9 +7,7 @@ use Rattle.thorin_builder.proofs.package.DwarfPackage.packs_again.Goals as goal
 -- a builder whose inputs have one encoding
 one-of : (state : State) (own : Option Encoding) → state.own ≡ own → is_some own ≡ true
     → HoldsOwn state → HasOneEncoding state
-one-of state None is there holds = absurd cc
-one-of state (Some own) is there holds =
-    record { encoding = own; own = is; some = holds.some own is; all = holds.all own is }
+one-of state own is there holds = grind (rules, holds)
 
 pub returns-then-is_some-clause-encoding : goal.returns-then-is_some-clause-encoding
 returns-then-is_some-clause-encoding g c = λ h. rw (← c.self.view_is) (one-of (building
