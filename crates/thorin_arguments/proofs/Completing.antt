@@ -1,32 +1,27 @@
 -- What is read of a peer's line: its name, and its words with whole names.
 use Rattle.std.proofs.Common.{ap, refl, sym, [], ℕ, ◌++◌, ◌+◌, ◌<◌, ◌==◌, ◌∙◌, ◌∷◌, ◌≡◌, ◌≢◌, ◌≤◌}
 use Rattle.std.proofs.Common.{false, get_or, is_some, length, MatchOption, Option, take-append-drop}
-use Rattle.std.proofs.Common.{ap₂, arith, drop, None, Some, take, true}
+use Rattle.std.proofs.Common.{ap₂, arith, drop, None, Some, take}
 use Rattle.std.specs.Prelude.{option_map, if◌then◌else◌}
 use Rattle.std.specs.{Borrow.Bor, List.list_any, Str.Pattern.RFindsChar}
 use Rattle.std.proofs.lemmas.Str.Pattern.{drop_at_char, NoCharPasses-char}
 use Rattle.clap.{proofs.CutLemmas.list_any-Lacks, specs.Walk.Text}
-use Rattle.std.proofs.{lemmas.Bool.Decides.nat_tests, lemmas.Bool.or_parts}
+use Rattle.std.proofs.lemmas.Bool.Decides.{nat_tests}
 use Rattle.thorin_arguments.specs.Peers.{last_part, last_part_in}
 
 pub kept : {X Y : Type 0} (f : X → Y) (o : Option X) → is_some o ≡ is_some (option_map f o)
-kept f (Some x) = refl
-kept f None = refl
+kept f o = grind arith
 
 -- ---- the last part of a path
 
 pub last_part-none : (mark : ℕ) (part text : Text) → list_any (λ x. x == mark) text ≡ false
     → last_part_in mark part text ≡ part
 last_part-none mark part [] lacks = refl
-last_part-none mark part (b ∷ rest) lacks =
-    let no = or_parts (b == mark) (list_any (λ x. x == mark) rest) lacks in
-    rw no.0 (last_part-none mark part rest no.1)
+last_part-none mark part (b ∷ rest) lacks = grind (arith, last_part-none mark part rest)
 
 pub last_part-behind : (mark : ℕ) (part front rest : Text)
     → last_part_in mark part (front ++ mark ∷ rest) ≡ last_part mark rest
-last_part-behind mark part [] rest =
-    let same : (mark == mark) ≡ true = grind (arith, nat_tests) in
-    ap (λ b. last_part_in mark (if b then rest else part) rest) same
+last_part-behind mark part [] rest = grind (arith, nat_tests)
 last_part-behind mark part (b ∷ front) rest =
     last_part-behind mark (if b == mark then front ++ mark ∷ rest else part) front rest
 

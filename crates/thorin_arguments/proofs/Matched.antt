@@ -4,7 +4,6 @@ use Rattle.std.proofs.Common.{ap, Bool, inl, inr, refl, sym, true, [], ℕ, ◌�
 use Rattle.std.proofs.Common.{Err, false, is_some, IsTrue, List, None, Ok, Option, Some, subst}
 use Rattle.clap.specs.Simple.{App, HasMatchesOf, matches_of, subcommand_of, subcommand_rows_of}
 use Rattle.thorin_arguments.specs.Grammar.{AreMatched, AreMatchesOf, IsLine, IsText, read_words}
-use Rattle.std.specs.Borrow.{Bor}
 use Rattle.clap.proofs.{OnLiterals.clap_on_literals, WalkLemmas.both}
 use Rattle.clap.specs.{declared.error.Error.Error, declared.parser.matches.ArgMatches.ArgMatches}
 use Rattle.clap.specs.{declared.error.kind.ErrorKind.ErrorKind, Faults.is_simple_and_free, Walk.Row}
@@ -15,20 +14,12 @@ use Rattle.thorin_arguments.specs.Reading.{are_wrong, AreReadAs, IsReadAs, IsTes
 use Rattle.thorin_arguments.specs.Asked.{Asks, Call, Does, IsCallBy, IsCallOf, IsStatusOf}
 use Rattle.thorin_arguments.specs.Asked as calls
 
-plain_thorin : (which : Bor (List (Bor Text))) → is_simple_and_free (thorin which) ≡ true
-unfolding clap_on_literals thorin
-plain_thorin which = refl
-
-plain_peer : (name : Text) (of_llvm : Bool) (which how : Bor (List (Bor Text)))
-    → is_simple_and_free (peer name of_llvm which how) ≡ true
-unfolding clap_on_literals peer
-plain_peer name true which how = refl
-plain_peer name false which how = refl
-
 free : (named : Option Text) (app : App) → IsLine named app → is_simple_and_free app ≡ true
-free (Some name) app (which, how, _, _, is) =
-    ap is_simple_and_free is ∙ plain_peer name (is_of_llvm name) which how
-free None app (which, _, is) = ap is_simple_and_free is ∙ plain_thorin which
+unfolding clap_on_literals peer thorin
+free (Some name) app (which, how, _, _, is) = ap is_simple_and_free is
+    ∙ elim (is_of_llvm name) as (λ b. is_simple_and_free (peer name b which how) ≡ true)
+    [ true ↦ refl | false ↦ refl ]
+free None app (which, _, is) = ap is_simple_and_free is
 
 simple : (named : Option Text) (app : App) → IsLine named app → is_simple app ≡ true
 simple named app is = (both (is_simple app) _ (free named app is)).0

@@ -5,9 +5,9 @@ use Rattle.clap.specs.Words.{AddsArg, AddsSubcommand, app_of, rule_of, with_rule
 use Rattle.thorin_arguments.specs.Rules.{app_in, app_of_words, AreLongNames, ArePeerWords, shape_in}
 use Rattle.std.specs.{Borrow.Bor, Prelude.codes, Prelude.filter_map, Prelude.fold}
 use Rattle.std.proofs.{lemmas.List.Sums.fold-append, Math.ListN.get_or}
-use Rattle.std.proofs.lemmas.List.{append_assoc, map-append, take-map, take_more}
+use Rattle.std.proofs.lemmas.List.{map-append, take-map, take_more}
 use Rattle.clap.specs.{declared.builder.arg.Arg.Arg, Simple.new_shape, Words.App, Words.Shape}
-use Rattle.clap.specs.Walk.{is_empty, Rule, Text, texts}
+use Rattle.clap.specs.Walk.{is_empty, Rule, Text}
 use Rattle.clap.specs.declared.builder.command.Command.{Command}
 use Rattle.clap.proofs.{OnLiterals.clap_on_literals, SimpleLemmas.is_false, WalkLemmas.both}
 use Rattle.thorin_arguments.specs.Grammar.{command, long_names, peer, peer_words, thorin}
@@ -87,25 +87,18 @@ other_lines (own ∷ parts) which is = sym (take-map shape_in 4 parts)
 
 -- ---- a peer
 
-pub two_more : (names one two : List (Bor Text)) (a b : Bor Text) → one ≡ names ++ a ∷ []
-    → two ≡ one ++ b ∷ [] → texts two ≡ texts names ++ a.now ∷ b.now ∷ []
-two_more names one two a b e f = rw (f, e) (simp (map-append, append_assoc))
-
 abbrev pub longs : List Rule → List Text
 longs rules = filter_map (λ rule. rule.long) rules
 
 -- the names that a peer's grammar has: those of its words, whatever the values of these are
-own_names : (name : Text) (of_llvm : Bool) (which how kinds manners : Bor (List (Bor Text)))
-    → long_names (peer name of_llvm which how)
-    ≡ longs (peer_words of_llvm kinds manners) ++ codes "help" ∷ codes "version" ∷ []
-unfolding clap_on_literals peer
-own_names name true which how kinds manners = refl
-own_names name false which how kinds manners = refl
-
 pub are_long_names : (name : Text) (list : List Word) (own names : List Text)
     → ArePeerWords (is_of_llvm name) list → own ≡ longs (map rule_in list)
     → names ≡ own ++ codes "help" ∷ codes "version" ∷ [] → AreLongNames name names
+unfolding clap_on_literals peer
 are_long_names name list own names (kinds, manners, _, _, rules) has is app
     (which, how, _, _, app_is) =
+    let same = elim (is_of_llvm name) as (λ b. long_names (peer name b which how)
+    ≡ longs (peer_words b kinds manners) ++ codes "help" ∷ codes "version" ∷ [])
+    [ true ↦ refl | false ↦ refl ] in
     is ∙ (ap (λ l. l ++ codes "help" ∷ codes "version" ∷ []) (has ∙ ap longs rules)
-    ∙ (sym (own_names name (is_of_llvm name) which how kinds manners) ∙ ap long_names (sym app_is)))
+    ∙ (sym same ∙ ap long_names (sym app_is)))

@@ -15,13 +15,12 @@ use std::alloc::{AllocError, Global};
 
 pub(crate) const VERSION: &'static str = "1.2.0";
 
-/// A command: its names, what it does, what stands below its options, and its words.
+/// A command: its names, what it does, and its words.
 #[derive(Clone, Copy)]
 struct Line<'a> {
     name: &'a str,
     full_name: &'static str,
     about: &'static str,
-    below: &'static str,
     words: &'static [Word],
 }
 
@@ -125,14 +124,12 @@ const LINES: [Line<'static>; 5] = [
         name: "thorin",
         full_name: "thorin",
         about: "Pack split DWARF objects into DWARF packages, and read such packages",
-        below: EXAMPLES,
         words: &[],
     },
     Line {
         name: "pack",
         full_name: "thorin pack",
         about: "Pack objects into a package",
-        below: PACK_EXAMPLES,
         words: &[
             Word::Output,
             PACKED,
@@ -156,7 +153,6 @@ const LINES: [Line<'static>; 5] = [
         name: "find",
         full_name: "thorin find",
         about: "Show what a package has of a unit",
-        below: FIND_EXAMPLES,
         words: &[
             FILE,
             Word::Place(
@@ -179,7 +175,6 @@ const LINES: [Line<'static>; 5] = [
         name: "list",
         full_name: "thorin list",
         about: "List the units of a package",
-        below: LIST_EXAMPLES,
         words: &[
             Word::Flag(
                 "sizes",
@@ -199,7 +194,6 @@ const LINES: [Line<'static>; 5] = [
         name: "check",
         full_name: "thorin check",
         about: "Check a package and report its errors",
-        below: CHECK_EXAMPLES,
         words: &[
             FILE,
             Word::Executables("Executables whose units have to be in the package"),
@@ -277,7 +271,10 @@ pub(crate) fn command<'a>(alloc: Global, version: &'a str) -> Result<Command<'a>
         .subcommand_required(true);
     let parts = &lines[1..];
     for line in parts {
-        let part = command_of(alloc, line)?;
+        let Ok(part) = command_of(alloc, line) else {
+            drop(command);
+            return Err(AllocError);
+        };
         command = command.subcommand(part)?;
     }
     command.bin_name("thorin")
@@ -296,7 +293,6 @@ pub(crate) fn peer<'a>(
         name,
         full_name: "",
         about: "Pack split DWARF objects into a DWARF package",
-        below: PEER_NOTES,
         words: peer_words(is_of_llvm(name)),
     };
     command_of(alloc, &line)?
@@ -311,11 +307,23 @@ fn command_of<'a>(alloc: Global, line: &Line<'a>) -> Result<Command<'a>, AllocEr
 {
     let mut command = Command::new(alloc, line.name)
         .about(line.about)
-        .after_help(line.below);
+        .after_help(below(line.name));
     for word in line.words {
         command = command.arg(arg_of(alloc, *word))?;
     }
     Ok(command)
+}
+
+/// What stands below the options of a command, or of a peer.
+fn below(name: &str) -> &'static str {
+    match name {
+        "thorin" => EXAMPLES,
+        "pack" => PACK_EXAMPLES,
+        "find" => FIND_EXAMPLES,
+        "list" => LIST_EXAMPLES,
+        "check" => CHECK_EXAMPLES,
+        _ => PEER_NOTES,
+    }
 }
 
 /// The command line of one of the commands alone, as its usage is shown.

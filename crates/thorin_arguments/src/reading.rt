@@ -189,11 +189,7 @@ fn peer_name(words: &[String]) -> Option<&str>
     ensures { option_map (λ s. s.now) result ≡ peer_of (words_in words.now) }
 {
     let path = words.first()?.as_str();
-    if is_peer(path) {
-        Some(cut_at_last(path, '/').1)
-    } else {
-        None
-    }
+    is_peer(path).then_some(cut_at_last(path, '/').1)
 }
 
 /// What is wrong with the matches of a line, of a peer where it is one, if anything is.

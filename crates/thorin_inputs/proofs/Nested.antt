@@ -37,14 +37,6 @@ pub parted : (es : Entries) → IsOrdered es → (text : List ℕ)
 parted es ordered text i j d le lt h =
     upto-trans (From es i d) (From es j d) text (rising es ordered i j d le lt) h
 
--- of fewer
-pub nested-fewer : (es : Entries) (inner : List ℕ) (count n : ℕ) → AreNested es inner count
-    → n ≤ count → AreNested es inner n
-nested-fewer es inner count n nested few = record {
-  known = omega (arith, nested.known, few);
-  past = λ i d lt. nested.past i d (omega (arith, lt, few));
-}
-
 -- one more
 pub nested-more : (es : Entries) (inner : List ℕ) (count place : ℕ) (e : Entry)
     → AreNested es inner count → length inner ≡ count → count < length es

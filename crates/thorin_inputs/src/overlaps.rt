@@ -4,21 +4,20 @@
 ghost use Rattle.dwp_decompress.specs.Sizes as decompressing;
 ghost use Rattle.dwp_elf_read.specs.View as view;
 ghost use Rattle.std.specs.Prelude.{if◌then◌else◌, ◌&&◌, ◌*◌, ◌+◌, ◌-◌, ◌<◌, ◌==◌, ◌||◌, ◌≡◌, ◌≤◌};
-ghost use Rattle.std.specs.Prelude.{drop, false, IfOk, length, min, nat_lt, OnOk, take, ℕ, ◌^◌};
-ghost use Rattle.std.specs.Prelude.{find, option_map, sum_by};
+ghost use Rattle.std.specs.Prelude.{find, IfOk, length, min, nat_lt, OnOk, option_map, sum_by, ℕ};
+ghost use Rattle.std.specs.{Option.option_copied, Prelude.◌^◌};
 ghost use Rattle.dwp_base.specs.declared.section.SectionKind.TheVariants.{CuIndex, Str, StrOffsets};
 ghost use Rattle.dwp_base.specs.declared.section.SectionKind.TheVariants.{Info, TuIndex};
 ghost use Rattle.thorin_inputs.specs.InnerStrings.{has_inner_strings, has_row_between, string_size};
 ghost use Rattle.thorin_inputs.specs.InnerStrings.{has_word, most_inner, or_nothing, plain_content};
 ghost use Rattle.thorin_inputs.specs.InnerStrings.{begins_inside, first_content, is_row_between};
 ghost use Rattle.thorin_inputs.specs.InnerStrings.{is_inner, sizes_at, step_by, word_count};
-ghost use Rattle.std.specs.{List.list_any, Option.option_copied};
 ghost use Rattle.dwp_decompress.specs.declared.asked.Asked.TheVariants.{OfUnits};
 ghost use Rattle.dwp_elf_read.specs.{Elf.elf_of, Elf.holds, Elf.is_of, View.elf};
 ghost use Rattle.dwp_index.specs.{Index.row_in, IndexBytes.index_of};
 ghost use Rattle.thorin_inputs.specs.InnerPlaces.{Counts, is_counted, IsSummed, IsWithin};
 ghost use Rattle.thorin_inputs.specs.Overlaps.{each_size, first_size, overlaps, used_size};
-ghost use Rattle.thorin_inputs.specs.UsedSections.{met};
+ghost use Rattle.thorin_inputs.specs.UsedSections.{AreBetween, met};
 
 use crate::growth::LEAST_ROOM;
 use dwp_base::SectionKind;
@@ -327,11 +326,8 @@ impl<'a> UsedSections<'a> {
         ensures compilations { option_copied result.compilations
             ≡ first_content CuIndex (elf file.now).sections }
         ensures types { option_copied result.types ≡ first_content TuIndex (elf file.now).sections }
-        ensures before { list_any (holds StrOffsets)
-            (take result.first_offsets (elf file.now).sections) ≡ false }
-        ensures behind { list_any (holds StrOffsets)
-            (drop result.behind_offsets (elf file.now).sections) ≡ false }
-        ensures inside { result.behind_offsets ≤ length (elf file.now).sections }
+        ensures offsets { AreBetween (elf file.now) result.first_offsets result.behind_offsets
+            (length (elf file.now).sections) }
     {
         let mut used = UsedSections {
             strings: None,

@@ -2,7 +2,7 @@
 use Rattle.std.proofs.Common.{◌≡◌, ℕ, List, [], length, Option, Some, None, Ok, Err, refl}
 use Rattle.std.proofs.Common.{rules, sym, ◌≤◌, ◌*◌, arith, IsUtf8}
 use Rattle.std.proofs.lemmas.Option.{none-some}
-use Rattle.thorin_words.specs.Responses.{Outcome, Stands, End, Plain, File, Inner, Itself, Deep}
+use Rattle.thorin_words.specs.Responses.{Outcome, Stands, End, Plain}
 use Rattle.thorin_words.specs.Responses.{Refusal, Spoils, Meets, Here, Later, Within, name_in}
 use Rattle.thorin_words.specs.Responses.{Costs, Nothing, Word, Named, AreBare, CannotBeTold}
 use Rattle.thorin_words.specs.declared.responses.ResponseError.{ResponseError}
@@ -24,11 +24,7 @@ module _ (offer : List ℕ → Option (List ℕ) → Type 0) where
   unrefused _ _ _ refusal bare (Plain _ _ _ (Ok own) plain stands) is = search (rules, is)
   unrefused _ _ _ refusal bare (Plain names rest _ (Err other) plain stands) is =
       unrefused names rest (Err other) other bare.2 stands refl
-  unrefused _ _ _ refusal bare (File _ _ _ _ _ _ fresh offered flat inner stands) is =
-      named bare.1
-  unrefused _ _ _ refusal bare (Inner _ _ _ _ _ fresh offered flat inner) is = named bare.1
-  unrefused _ _ _ refusal bare (Itself _ _ _ among) is = named bare.1
-  unrefused _ _ _ refusal bare (Deep _ _ _ _ fresh offered deep) is = named bare.1
+  unrefused _ _ _ refusal bare _ is = named bare.1
 
   cheap : (words : List (List ℕ)) (files bytes : ℕ) → AreBare words → Costs offer words files bytes
       → (files ≡ 0) × (bytes ≤ 32 * length words)

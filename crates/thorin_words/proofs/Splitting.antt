@@ -1,10 +1,11 @@
 -- Reading words byte by byte: what was read of a word stands in front of what is left of it.
 use Rattle.std.proofs.Common.{append-nil, false, List, refl, Some, sym, true, [], ℕ, ◌++◌, ◌∷◌, ◌≡◌}
-use Rattle.std.proofs.Common.{append_assoc}
-use Rattle.std.proofs.lemmas.Bool.{false≢true}
+use Rattle.std.proofs.Common.{append_assoc, arith, Bool, drop, get_or, length, not, ◌&&◌, ◌+◌, ◌<◌, ◌≤◌}
+use Rattle.std.proofs.lemmas.{Bool.false≢true, List.drop_all, List.drop_more}
+use Rattle.std.specs.Prelude.{if◌then◌else◌}
 use Rattle.thorin_words.specs.Words.{behind, escaped, is_between, put, quoted, words_from, words_of}
 use Rattle.thorin_words.specs.{declared.words.LexerState.LexerState, Words.keeps}
-use Rattle.thorin_words.specs.declared.words.LexerState.TheVariants.{Between, Escaped, Inside}
+use Rattle.thorin_words.specs.declared.words.LexerState.TheVariants.{Between, Inside}
 
 -- what was read of a word, in front of the first of these
 abbrev pub prefix : List ℕ → List (List ℕ) → List (List ℕ)
@@ -12,13 +13,11 @@ prefix word [] = []
 prefix word (first ∷ rest) = (word ++ first) ∷ rest
 
 prefix-nothing : (words : List (List ℕ)) → prefix [] words ≡ words
-prefix-nothing [] = refl
-prefix-nothing (word ∷ words) = refl
+prefix-nothing words = grind arith
 
 put-prefix : (byte : ℕ) (word : List ℕ) (words : List (List ℕ)) → put byte (prefix word words) ≡
     prefix (byte ∷ word) words
-put-prefix byte word [] = refl
-put-prefix byte word (first ∷ rest) = refl
+put-prefix byte word words = grind arith
 
 -- the words of an escaped word between marks
 words_from-escaped : (word rest : List ℕ)
@@ -31,50 +30,37 @@ pub from_quoted : (words : List (List ℕ)) → words_from Between (quoted words
 from_quoted [] = refl
 from_quoted (word ∷ words) = rw (words_from-escaped, append-nil, from_quoted words) refl
 
-extended : (word : List ℕ) (byte : ℕ) (words : List (List ℕ)) → prefix word (put byte words) ≡
-    prefix (word ++ byte ∷ []) words
-extended word byte [] = refl
-extended word byte (first ∷ rest) = rw append_assoc refl
+-- a byte further: one that the word keeps, one behind which it ends, or another
+stepped : (word : List ℕ) (byte : ℕ) (keeps ends : Bool) (words : List (List ℕ))
+    → prefix word (if keeps then put byte words else (if ends then [] ∷ words else words)) ≡
+    (if keeps then prefix (word ++ byte ∷ []) words
+    else (if ends then word ∷ words else prefix word words))
+stepped word byte true ends [] = refl
+stepped word byte true ends (first ∷ rest) = rw append_assoc refl
+stepped word byte false true words = rw append-nil refl
+stepped word byte false false words = refl
 
--- a byte further: one that the word keeps, one behind which it ends, another in it, and one between
--- two words
-module _ (word : List ℕ) (state : LexerState) (byte : ℕ) {left rest : List ℕ}
-    (front : left ≡ byte ∷ rest) where
-  pub kept : keeps state byte ≡ true → prefix word (words_from state left) ≡
-      prefix (word ++ byte ∷ []) (words_from (behind state byte) rest)
-  kept is = rw (front, is) (extended word byte _)
-
-  pub ended : keeps state byte ≡ false → is_between (behind state byte) ≡ true
-      → is_between state ≡ false → prefix word (words_from state left) ≡
-      word ∷ words_from (behind state byte) rest
-  ended out ends inside = rw (front, out, ends, inside, append-nil) refl
-
-  pub passed : keeps state byte ≡ false → is_between (behind state byte) ≡ false
-      → prefix word (words_from state left) ≡ prefix word (words_from (behind state byte) rest)
-  passed out inside = rw (front, out, inside) refl
-
-  pub spaced : keeps state byte ≡ false → is_between (behind state byte) ≡ true
-      → is_between state ≡ true
-      → prefix word (words_from state left) ≡ prefix word (words_from (behind state byte) rest)
-  spaced out ends was = rw (front, out, ends, was) refl
-
-between : (state : LexerState) → is_between state ≡ true → state ≡ Between
-between Between is = refl
-between (Inside quote) is = absurd (false≢true is)
-between (Escaped quote) is = absurd (false≢true is)
+pub further : (word : List ℕ) (state : LexerState) (text : List ℕ) (i : ℕ) → i < length text
+    → prefix word (words_from state (drop i text)) ≡
+    (let byte = get_or text i 0 in
+    let next = behind state byte in
+    let words = words_from next (drop (i + 1) text) in
+    if keeps state byte then prefix (word ++ byte ∷ []) words
+    else (if is_between next && not (is_between state) then word ∷ words else prefix word words))
+further word state text i here = rw (drop_more text i 0 here) (stepped word _ _ _ _)
 
 -- behind a word the others begin
 pub anew : (state : LexerState) (rest : List ℕ) → is_between state ≡ true
     → words_from state rest ≡ words_of rest
 unfolding words_of
-anew state rest is = rw (between state is) refl
+anew Between rest is = refl
+anew _ rest is = absurd (false≢true is)
 
 -- at the end: between words, and in the last one
-module _ (word : List ℕ) (state : LexerState) (left : List ℕ) (end : left ≡ []) where
-  pub none_left : is_between state ≡ true → prefix word (words_from state left) ≡ []
-  none_left is = rw (end, is) refl
-
-  pub last_left : (rest : List ℕ) → rest ≡ [] → is_between state ≡ false
-      → prefix word (words_from state left) ≡ word ∷ words_of rest
-  unfolding words_of
-  last_left rest none is = rw (end, none, is, append-nil) refl
+pub at_end : (word : List ℕ) (state : LexerState) (text : List ℕ) (i : ℕ) → length text ≤ i
+    → prefix word (words_from state (drop i text))
+    ≡ (if is_between state then [] else word ∷ words_of (drop (length text) text))
+unfolding words_of
+at_end word Between text i end = rw (drop_all i text end) refl
+at_end word _ text i end =
+    rw (drop_all i text end, drop_all (length text) text (omega arith), append-nil) refl

@@ -1,7 +1,7 @@
 -- What words stand for, while they are read one after another.
 use Rattle.std.proofs.Common.{length, List, map, Option, take, [], ℕ, ◌++◌, ◌+◌, ◌<◌, ◌∷◌, ◌≡◌, ◌≤◌}
 use Rattle.std.proofs.Common.{append-nil, append_assoc, false, get_or, Global, String, string_bytes}
-use Rattle.std.proofs.Common.{arith, drop, Err, IsUtf8, Ok, refl, Some, subst, sym, Vec}
+use Rattle.std.proofs.Common.{arith, drop, IsUtf8, Ok, refl, Some, subst, sym, Vec}
 use Rattle.thorin_words.specs.Responses.{after, End, Itself, Leaves, Nothing, Plain, Stands, Within}
 use Rattle.thorin_words.specs.Responses.{Costs, Deep, File, Here, Inner, Later, Named, Stops, Word}
 use Rattle.thorin_words.specs.Responses.{is_among, IsPlain, most_deep, Outcome, Refuses, words_in}
@@ -45,12 +45,10 @@ deep_texts names h = rw (length-map names string_bytes) h
 -- ---- a word
 
 after-after : (a b : List (List ℕ)) (out : Outcome) → after (a ++ b) out ≡ after a (after b out)
-after-after a b (Ok words) = rw append_assoc refl
-after-after a b (Err name) = refl
+after-after a b out = grind (arith, append_assoc)
 
 after-none : (out : Outcome) → after [] out ≡ out
-after-none (Ok words) = refl
-after-none (Err name) = refl
+after-none out = grind arith
 
 -- words that cost just that much
 cost : {offer : List ℕ → Option (List ℕ) → Type 0} {words : List (List ℕ)} {n n' m m' : ℕ}
@@ -81,7 +79,7 @@ module _ (offer : List ℕ → Option (List ℕ) → Type 0) (fails : List ℕ �
         → (e ≡ errors.TooLong) × (left.bytes < 32) → (rest : List (List ℕ))
         → Refuses offer fails names left.files left.bytes (word ∷ rest) e
     unread left is e (long, few) rest =
-        rw long (0, 32 + 0, Word word rest 0 0 is (Nothing rest), omega (arith, few))
+        rw long (_, _, Word word rest _ _ is (Nothing rest), omega (arith, few))
 
     -- one whose file isn't read
     pub refused : (left : Allowance) (e : ResponseError) → Stops offer fails names word left e
@@ -91,18 +89,10 @@ module _ (offer : List ℕ → Option (List ℕ) → Type 0) (fails : List ℕ �
     refused left (errors.Inside name) k rest = rw k.0 (Itself names rest (string_bytes name) k.1)
     refused left (errors.TooDeep name) k rest =
         rw k.0 (Deep names rest (string_bytes name) k.3.0 k.1 k.3.1 k.2)
-    refused left errors.TooMany (none, (name, is, (text, offered))) rest = rw is (
-      1,
-      length text + 0,
-      Named name text rest 0 0 0 0 offered (Nothing (words_of text)) (Nothing rest),
-      omega (arith, none),
-    )
-    refused left errors.TooLong (name, is, (text, offered, few)) rest = rw is (
-      1,
-      length text + 0,
-      Named name text rest 0 0 0 0 offered (Nothing (words_of text)) (Nothing rest),
-      omega (arith, few),
-    )
+    refused left errors.TooMany (none, (name, is, (text, offered))) rest =
+        rw is (_, _, Named name text rest _ _ _ _ offered (Nothing _) (Nothing _), omega arith)
+    refused left errors.TooLong (name, is, (text, offered, few)) rest =
+        rw is (_, _, Named name text rest _ _ _ _ offered (Nothing _) (Nothing _), omega arith)
     refused left errors.Unreadable k rest = Here word rest k
 
   -- one that names a file
@@ -144,18 +134,10 @@ module _ (offer : List ℕ → Option (List ℕ) → Type 0) (fails : List ℕ �
         rw is (Inner names rest name text _ fresh offered flat k)
     inner errors.Unreadable k rest = rw is (Within name text rest offered k)
     inner errors.NotUtf8 k rest = rw is (Within name text rest offered k)
-    inner errors.TooMany (count, size, costs, many) rest = (
-      1 + count,
-      length text + size,
-      costs_inside count size costs rest,
-      omega (arith, many, fewer),
-    )
-    inner errors.TooLong (count, size, costs, long) rest = (
-      1 + count,
-      length text + size,
-      costs_inside count size costs rest,
-      omega (arith, long, less),
-    )
+    inner errors.TooMany (count, size, costs, many) rest =
+        (_, _, costs_inside count size costs rest, omega (arith, many, fewer))
+    inner errors.TooLong (count, size, costs, long) rest =
+        (_, _, costs_inside count size costs rest, omega (arith, long, less))
     inner errors.Memory k rest = tt
 
 -- ---- words one after another
@@ -188,18 +170,10 @@ module _ {offer : List ℕ → Option (List ℕ) → Type 0} {fails : List ℕ �
   stopped (errors.TooDeep name) k = so_far.stands _ k
   stopped errors.Unreadable k = so_far.meets errors.Unreadable k
   stopped errors.NotUtf8 k = so_far.meets errors.NotUtf8 k
-  stopped errors.TooMany (count, size, costs, many) = (
-    so_far.files + count,
-    so_far.bytes + size,
-    so_far.costs count size costs,
-    omega (arith, many, so_far.fewer),
-  )
-  stopped errors.TooLong (count, size, costs, long) = (
-    so_far.files + count,
-    so_far.bytes + size,
-    so_far.costs count size costs,
-    omega (arith, long, so_far.less),
-  )
+  stopped errors.TooMany (count, size, costs, many) =
+      (_, _, so_far.costs count size costs, omega (arith, many, so_far.fewer))
+  stopped errors.TooLong (count, size, costs, long) =
+      (_, _, so_far.costs count size costs, omega (arith, long, so_far.less))
   stopped errors.Memory k = tt
 
   -- a word further

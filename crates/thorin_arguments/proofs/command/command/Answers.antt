@@ -19,9 +19,9 @@ loop-line-init c =
 
 pub loop-line-preserved : goal.loop-line-preserved
 loop-line-preserved c = add_line bare (mid_of 1 4 c.lines-lines.result.now)
-    c.loop-line.line-index _ c.loop-line.command c.in_ok-command.command c.in_ok-part.part
+    c.loop-line.line-index _ c.loop-line.command c.in_ok-command.command c.in-Ok.part
     (omega (arith, c.loop-line-test.true)) c.loop-line.invariant c.in_ok-command.ensures
-    c.in_ok-part.ensures
+    c.in-Ok.ensures
 
 pub returns : goal.returns
 unfolding thorin

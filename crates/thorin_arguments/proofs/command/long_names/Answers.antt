@@ -1,8 +1,8 @@
 use Rattle.std.proofs.Common.{◌≡◌, arith, map}
-use Rattle.std.proofs.lemmas.Grind.{common_steps}
+use Rattle.std.proofs.lemmas.{Grind.common_steps, List.append_assoc, List.map-append}
 use Rattle.clap.specs.Walk.{texts}
 use Rattle.thorin_arguments.specs.Rules.{rule_in}
-use Rattle.thorin_arguments.proofs.Rules.{are_long_names, longs, two_more}
+use Rattle.thorin_arguments.proofs.Rules.{are_long_names, longs}
 use Rattle.thorin_arguments.proofs.command.long_names.Goals as goal
 
 pub returns : goal.returns
@@ -12,5 +12,5 @@ returns c =
     grind (arith, common_steps) in
     are_long_names c.args.peer.now words (texts c.loop-word.names.items)
     (texts c.push-3.new.self.items) (rw c.is_of_llvm.ensures at c.peer_words-words.ensures) own
-    (two_more c.loop-word.names.items c.push-2.new.self.items c.push-3.new.self.items _ _
-    c.in_ok-push-2.ensures.items c.in_ok-push-3.ensures.items)
+    (rw (c.in_ok-push-3.ensures.items, c.in_ok-push-2.ensures.items)
+    (simp (map-append, append_assoc)))

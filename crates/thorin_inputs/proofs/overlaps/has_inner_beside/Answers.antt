@@ -1,116 +1,78 @@
 use Rattle.dwp_elf_read.specs.View as view
 use Rattle.thorin_inputs.proofs.overlaps.has_inner_beside.Goals as goal
-use Rattle.std.proofs.Common.{arith, drop, refl, sym, ◌&&◌, ◌||◌, ◌∙◌}
-use Rattle.thorin_inputs.specs.InnerStrings.{begins_inside, first_content, most_inner, or_nothing}
-use Rattle.thorin_inputs.specs.InnerStrings.{has_word, is_inner, names, step_of}
-use Rattle.thorin_inputs.proofs.InnerPlaces.{among, not_too_large, section_counted, section_passed}
-use Rattle.thorin_inputs.proofs.InnerPlaces.{named_here, names_filled, nothing_left, sizes_none}
+use Rattle.std.proofs.Common.{ap, arith, drop, length, refl, sym, ◌&&◌, ◌+◌, ◌≡◌}
+use Rattle.std.proofs.lemmas.List.{drop_all}
+use Rattle.thorin_inputs.specs.InnerStrings.{begins_inside, first_content, has_word, is_inner}
+use Rattle.thorin_inputs.specs.InnerStrings.{names, or_nothing}
+use Rattle.thorin_inputs.proofs.InnerPlaces.{left_more, left_same, not_too_large, sizes_none}
+use Rattle.thorin_inputs.proofs.InnerPlaces.{section_counted, section_passed, too_large}
 use Rattle.thorin_inputs.proofs.overlaps.has_inner_beside.Goals.{else-holds-via-then-holds+in_ok-count+else-branch}
 use Rattle.thorin_inputs.proofs.overlaps.has_inner_beside.Goals.{in_default, in-Some+else-holds}
 use Rattle.thorin_inputs.proofs.overlaps.has_inner_beside.Goals.{else-holds-via-else-holds}
-use Rattle.std.{proofs.lemmas.Bool.ltb-false, specs.List.list_any}
+use Rattle.std.specs.List.{list_any}
 use Rattle.dwp_base.proofs.Finds.{slice_get_none}
 use Rattle.dwp_base.specs.declared.section.SectionKind.TheVariants.{Str}
 use Rattle.dwp_elf_read.specs.View.{elf}
-use Rattle.thorin_inputs.{proofs.InnerPlaces.too_large, specs.InnerPlaces.is_counted}
-use Rattle.thorin_inputs.proofs.UsedSections.{any_behind, any_further, any_less, is_offsets}
 
 pub loop-i-init : goal.loop-i-init
-loop-i-init c =
-    let file = elf c.args.file.now in
-    let step = step_of file.order file.sections in
-    record {
-      summed = sizes_none c.or_nothing.result.now _ (λ at. rw c.new.ensures.empty refl);
-      few = omega arith;
-      strings = rw c.of-used.ensures.strings at c.or_nothing.ensures;
-      size = refl;
-      order = c.endianness-order.ensures;
-      step = rw (
-        c.endianness-order.ensures,
-        c.of-used.ensures.compilations,
-        c.of-used.ensures.types,
-      ) at c.step_of-step.ensures.step;
-      low = c.step_of-step.ensures.least;
-      high = c.step_of-step.ensures.most;
-      all = λ at. rw (
-        c.new.ensures.empty,
-        any_behind (names file.order step at) is_offsets
-            (names_filled file.order step at) file.sections c.of-used.result.first_offsets
-            c.of-used.ensures.before,
-      ) refl;
-    }
+loop-i-init c = record {
+  within = record {
+    summed = sizes_none c.or_nothing.result.now _ (λ at. rw c.new.ensures.empty refl);
+    few = omega arith;
+  };
+  same = rw c.of-used.ensures.strings at c.or_nothing.ensures;
+  file = refl;
+  both = λ at. rw (
+    c.new.ensures.empty,
+    c.step_of-step.ensures.step,
+    c.endianness-order.ensures,
+    c.of-used.ensures.compilations,
+    c.of-used.ensures.types,
+    c.of-used.ensures.offsets.before,
+  ) refl;
+}
 
 pub returns-then-branch : goal.returns-then-branch
 returns-then-branch c =
-    let file = elf c.args.file.now in
-    let strings = or_nothing (first_content Str file.sections) in
-    let step = step_of file.order file.sections in
-    let was = c.loop-i.invariant in
-    let now = c.in_ok-count.ensures in
-    let kept = now.strings ∙ was.strings in
-    too_large strings (most_inner c.args.size) c.count.new.self.size (is_counted c.count.new.self)
-    (is_inner file strings) (rw kept at now.summed) (λ at counted.
-    let word = has_word c.endianness-order.result c.step_of-step.result c.content.result.now at in
-    let old = is_counted c.loop-i.inner at in
-    let inside = begins_inside strings at in
-    among (old || (word && inside)) _ inside (is_inner file strings at)
-    (section_counted (names file.order step at) file.sections c.loop-i.i
-    (view.section c.in-Some.section) (sym c.in-Some.ensures.found) old inside
-    (is_inner file strings at) (was.all at) (old || (word && inside)) word
-    (named_here file.order c.endianness-order.result step c.step_of-step.result at
-    (view.section c.in-Some.section) c.content.result.now (sym c.if-holds.ensures.filled)
-    c.content.ensures was.order was.step) refl)
-    (rw was.strings at (now.only at counted))) (rw was.size at (sym now.past ∙ c.if-branch.true))
+    let sections = (elf c.args.file.now).sections in
+    let strings = or_nothing (first_content Str sections) in
+    let order = c.endianness-order.result in
+    let step = c.step_of-step.result in
+    let i = c.loop-i.i in
+    too_large c.loop-i.inner strings c.args.size _ (is_inner (elf c.args.file.now) strings)
+    c.loop-i.invariant c.count.new.self (λ at. has_word order step c.content.result.now at
+    && begins_inside c.loop-i.inner.strings.now at)
+    (λ at. list_any (names order step at) (drop (i + 1) sections) && begins_inside strings at)
+    _ c.in_ok-count.ensures (λ at. rw c.loop-i.invariant.same
+    (section_counted order step at sections i (view.section c.in-Some.section)
+    (sym c.in-Some.ensures.found) c.content.result.now (sym c.if-holds.ensures.filled)
+    c.content.ensures (begins_inside strings at))) c.if-branch.true
 
 pub loop-i-preserved : goal.loop-i-preserved
 loop-i-preserved c =
     let file = elf c.args.file.now in
-    let strings = or_nothing (first_content Str file.sections) in
-    let step = step_of file.order file.sections in
+    let sections = file.sections in
+    let strings = or_nothing (first_content Str sections) in
+    let order = c.endianness-order.result in
+    let step = c.step_of-step.result in
     let was = c.loop-i.invariant in
+    let i = c.loop-i.i in
     elim c.match-section.branch [
       | in-Some+else-holds w ↦ elim w.else-holds.branch [
-        | else-holds-via-then-holds+in_ok-count+else-branch w' ↦ rw
-            (w.inner-is, w'.inner-is) (record {
-              summed = w'.in_ok-count.ensures.summed;
-              few = omega (
-                arith,
-                was.size,
-                ltb-false _ _ (sym w'.in_ok-count.ensures.past ∙ w'.if-branch.false),
-              );
-              strings = w'.in_ok-count.ensures.strings ∙ was.strings;
-              size = w'.in_ok-count.ensures.file ∙ was.size;
-              order = was.order;
-              step = was.step;
-              low = was.low;
-              high = was.high;
-              all = λ at. section_counted (names file.order step at) file.sections c.loop-i.i
-                  (view.section w.in-Some.section) (sym w.in-Some.ensures.found)
-                  (is_counted c.loop-i.inner at) (begins_inside strings at)
-                  (is_inner file strings at) (was.all at) (is_counted w'.count.new.self at)
-                  (has_word c.endianness-order.result c.step_of-step.result
-                  w'.content.result.now at)
-                  (named_here file.order c.endianness-order.result step c.step_of-step.result at
-                  (view.section w.in-Some.section) w'.content.result.now
-                  (sym w'.if-holds.ensures.filled) w'.content.ensures was.order was.step)
-                  (rw was.strings at (w'.in_ok-count.ensures.all w'.if-branch.false at));
-            })
-        | else-holds-via-else-holds w' ↦ rw (w.inner-is, w'.inner-is) (record {
-          summed = was.summed;
-          few = was.few;
-          strings = was.strings;
-          size = was.size;
-          order = was.order;
-          step = was.step;
-          low = was.low;
-          high = was.high;
-          all = λ at. section_passed (names file.order step at) file.sections c.loop-i.i
-              (view.section w.in-Some.section) (sym w.in-Some.ensures.found)
-              (is_counted c.loop-i.inner at) (begins_inside strings at)
-              (is_inner file strings at) (was.all at) (rw (sym w'.if-holds.ensures.filled) refl);
-        })
+        | else-holds-via-then-holds+in_ok-count+else-branch w' ↦ rw (w.inner-is, w'.inner-is)
+            (left_more c.loop-i.inner strings c.args.size _ (is_inner file strings) was
+            w'.count.new.self (λ at. has_word order step w'.content.result.now at
+            && begins_inside c.loop-i.inner.strings.now at) _ _ w'.in_ok-count.ensures (λ at.
+            rw was.same (section_counted order step at sections i (view.section w.in-Some.section)
+            (sym w.in-Some.ensures.found) w'.content.result.now (sym w'.if-holds.ensures.filled)
+            w'.content.ensures (begins_inside strings at))) w'.if-branch.false)
+        | else-holds-via-else-holds w' ↦ rw (w.inner-is, w'.inner-is)
+            (left_same c.loop-i.inner strings c.args.size _ (is_inner file strings) was _ (λ at.
+            ap (λ b. b && begins_inside strings at) (section_passed order step at sections i
+            (view.section w.in-Some.section) (sym w.in-Some.ensures.found)
+            (sym w'.if-holds.ensures.filled))))
       ]
-      | in_default w ↦ absurd (slice_get_none file.sections c.loop-i.i (omega arith)
+      | in_default w ↦ absurd (slice_get_none sections i (omega arith)
           (sym w.in_default.ensures.found))
     ]
 
@@ -118,14 +80,12 @@ pub returns : goal.returns
 returns c =
     let file = elf c.args.file.now in
     let strings = or_nothing (first_content Str file.sections) in
-    let step = step_of file.order file.sections in
-    let was = c.loop-i.invariant in
-    not_too_large strings (most_inner c.args.size) c.loop-i.inner.size
-    (is_counted c.loop-i.inner) (is_inner file strings) (rw was.strings at was.summed) (λ at.
-    nothing_left (is_counted c.loop-i.inner at)
-    (list_any (names file.order step at) (drop c.loop-i.i file.sections))
-    (begins_inside strings at) (is_inner file strings at)
-    (any_less (names file.order step at) is_offsets (names_filled file.order step at)
-    (drop c.loop-i.i file.sections) (any_further is_offsets file.sections
-    c.of-used.result.behind_offsets c.loop-i.i (omega arith) c.of-used.ensures.behind))
-    (was.all at)) was.few
+    let used = c.of-used.ensures.offsets in
+    let end : c.loop-i.i ≡ c.of-used.result.behind_offsets = omega (arith, used.low) in
+    not_too_large c.loop-i.inner strings c.args.size _ (is_inner file strings) c.loop-i.invariant
+    (λ at. rw (
+      end,
+      c.endianness-order.ensures,
+      used.left,
+      drop_all (length file.sections) file.sections (omega arith),
+    ) refl)

@@ -1,18 +1,28 @@
-use Rattle.std.proofs.Common.{arith, ◌≡◌}
+use Rattle.std.proofs.Common.{arith, drop}
+use Rattle.std.proofs.lemmas.{Bool.Decides.nat_tests, Grind.common_steps}
+use Rattle.std.proofs.lemmas.List.Sums.{common_prefix_len-drop_no, common_prefix_len-drop_yes}
+use Rattle.std.proofs.lemmas.List.Sums.{common_prefix_len-le}
+use Rattle.std.specs.Prelude.{◌==◌}
 use Rattle.thorin_inputs.proofs.Fronts.{alike}
 use Rattle.thorin_inputs.proofs.prefixes.common_length.Goals as goal
 
+pub loop-i-preserved : goal.loop-i-preserved
+loop-i-preserved c = grind (
+  arith,
+  nat_tests,
+  common_prefix_len-drop_yes (λ x y. x == y) c.args.a.now c.args.b.now c.loop-i.i 0 0,
+)
+
 pub returns-then-a-i : goal.returns-then-a-i
-returns-then-a-i c =
-    alike c.args.a.now c.args.b.now c.loop-i.i c.loop-i.invariant
-    (omega (arith, c.loop-i-test.true, c.min-shorter.ensures))
-    (omega (arith, c.loop-i-test.true, c.min-shorter.ensures))
-    (λ p q same. absurd (grind (arith, c.if-a-i.true, same)))
+returns-then-a-i c = grind (
+  arith,
+  nat_tests,
+  alike c.args.a.now c.args.b.now,
+  common_prefix_len-drop_no (λ x y. x == y) c.args.a.now c.args.b.now c.loop-i.i 0 0,
+)
 
 pub returns : goal.returns
 returns c =
-    let end : c.loop-i.i ≡ c.min-shorter.result =
-    omega (arith, c.loop-i-test.false, c.loop-i.auto.i-end) in
-    rw (← end) (alike c.args.a.now c.args.b.now c.loop-i.i c.loop-i.invariant
-    (omega (arith, end, c.min-shorter.ensures)) (omega (arith, end, c.min-shorter.ensures))
-    (λ p q. absurd (omega (arith, p, q, end, c.min-shorter.ensures))))
+    let none = common_prefix_len-le (λ x y. x == y) (drop c.loop-i.i c.args.a.now)
+    (drop c.loop-i.i c.args.b.now) in
+    grind (arith, common_steps, none, alike c.args.a.now c.args.b.now)

@@ -1,32 +1,31 @@
 use Rattle.thorin_inputs.proofs.overlaps.InnerStrings.count_by.Goals as goal
-use Rattle.std.proofs.Common.{arith, drop, length, sym, ◌&&◌, ◌*◌, ◌||◌, ◌∙◌}
+use Rattle.std.proofs.Common.{arith, drop, length, sym, ◌*◌, ◌∙◌}
 use Rattle.thorin_inputs.proofs.overlaps.InnerStrings.count_by.Goals.{else-begins_inside-via-then-begins_inside+in_ok-add+else-branch}
 use Rattle.thorin_inputs.proofs.overlaps.InnerStrings.count_by.Goals.{else-begins_inside-via-else-begins_inside}
-use Rattle.std.proofs.{lemmas.Bool.ltb-false, lemmas.List.take_rest}
+use Rattle.std.proofs.lemmas.List.{take_rest}
 use Rattle.dwp_base.specs.Numbers.{number}
-use Rattle.thorin_inputs.specs.InnerPlaces.{is_counted}
-use Rattle.thorin_inputs.specs.InnerStrings.{begins_inside, has_word, word_count}
-use Rattle.thorin_inputs.proofs.InnerPlaces.{among, word_counted, word_passed}
+use Rattle.thorin_inputs.specs.InnerStrings.{begins_inside, word_count}
+use Rattle.thorin_inputs.proofs.InnerPlaces.{among, counted_one, left_more, left_same}
+use Rattle.thorin_inputs.proofs.InnerPlaces.{word_counted, word_passed}
 
 pub returns-then-branch : goal.returns-then-branch
 returns-then-branch c =
-    let strings = c.args.self.now.strings.now in
     let bytes = c.args.offsets.now in
+    let was = c.loop-number.invariant in
+    let now = c.in_ok-add.ensures in
+    let place = c.read_u32-place.result in
+    let one = counted_one c.loop-number.self c.add.new.self place _ now.strings now.file now.summed
+    now.past now.all in
     record {
-      strings = c.in_ok-add.ensures.strings ∙ c.loop-number.invariant.strings;
-      file = c.in_ok-add.ensures.file ∙ c.loop-number.invariant.file;
-      summed = c.in_ok-add.ensures.summed;
-      past = rw c.loop-number.invariant.file at (sym c.if-branch.true ∙ c.in_ok-add.ensures.past);
-      only = λ at counted.
-          let all = is_counted c.args.self.now at || (has_word c.args.order c.args.step bytes at
-          && begins_inside strings at) in
-          among (is_counted c.add.new.self at) _ (begins_inside strings at) all
-          (word_counted (λ i. number c.args.order 4 (drop (i * c.args.step) bytes))
-          (begins_inside strings) (word_count c.args.step (length bytes)) c.loop-number.number
-          c.read_u32-place.result at (omega arith) (rw take_rest at c.read_u32-place.ensures)
-          (is_counted c.loop-number.self at) all (c.loop-number.invariant.all at)
-          (is_counted c.add.new.self at) (sym c.if-begins_inside.ensures)
-          (c.in_ok-add.ensures.all at)) counted;
+      strings = now.strings ∙ was.same;
+      file = now.file ∙ was.file;
+      summed = now.summed;
+      past = rw was.file at (sym c.if-branch.true ∙ now.past);
+      only = among c.loop-number.self _ _ _ _ was c.add.new.self _ _ _ one (λ at. word_counted
+          (λ i. number c.args.order 4 (drop (i * c.args.step) bytes))
+          (begins_inside c.args.self.now.strings.now) (word_count c.args.step (length bytes))
+          c.loop-number.number place at (omega arith) (rw take_rest at c.read_u32-place.ensures)
+          (sym c.if-begins_inside.ensures));
       all = λ none at. absurd cc;
     }
 
@@ -34,33 +33,22 @@ pub loop-number-preserved : goal.loop-number-preserved
 loop-number-preserved c =
     let strings = c.args.self.now.strings.now in
     let bytes = c.args.offsets.now in
+    let was = c.loop-number.invariant in
+    let place = c.read_u32-place.result in
+    let is = rw take_rest at c.read_u32-place.ensures in
     elim c.else-begins_inside.branch [
-      | else-begins_inside-via-then-begins_inside+in_ok-add+else-branch w ↦ rw w.self-is (record {
-        within = record {
-          summed = w.in_ok-add.ensures.summed;
-          few = omega (
-            arith,
-            ltb-false _ _ (sym w.in_ok-add.ensures.past ∙ w.if-branch.false),
-            w.in_ok-add.ensures.file,
-          );
-        };
-        strings = w.in_ok-add.ensures.strings ∙ c.loop-number.invariant.strings;
-        file = w.in_ok-add.ensures.file ∙ c.loop-number.invariant.file;
-        all = λ at. word_counted (λ i. number c.args.order 4 (drop (i * c.args.step) bytes))
-            (begins_inside strings) (word_count c.args.step (length bytes)) c.loop-number.number
-            c.read_u32-place.result at (omega arith) (rw take_rest at c.read_u32-place.ensures)
-            (is_counted c.loop-number.self at) _ (c.loop-number.invariant.all at)
-            (is_counted w.add.new.self at) (sym w.if-begins_inside.ensures)
-            (w.in_ok-add.ensures.all at);
-      })
-      | else-begins_inside-via-else-begins_inside w ↦ rw w.self-is (record {
-        within = c.loop-number.invariant.within;
-        strings = c.loop-number.invariant.strings;
-        file = c.loop-number.invariant.file;
-        all = λ at. word_passed (λ i. number c.args.order 4 (drop (i * c.args.step) bytes))
-            (begins_inside strings) (word_count c.args.step (length bytes)) c.loop-number.number
-            c.read_u32-place.result at (omega arith) (rw take_rest at c.read_u32-place.ensures)
-            (is_counted c.loop-number.self at) _ (c.loop-number.invariant.all at)
-            (sym w.if-begins_inside.ensures);
-      })
+      | else-begins_inside-via-then-begins_inside+in_ok-add+else-branch w ↦ (
+          let now = w.in_ok-add.ensures in
+          rw w.self-is (left_more c.loop-number.self _ _ _ _ was w.add.new.self _ _ _
+          (counted_one c.loop-number.self w.add.new.self place _ now.strings now.file now.summed
+          now.past now.all) (λ at. word_counted
+          (λ i. number c.args.order 4 (drop (i * c.args.step) bytes)) (begins_inside strings)
+          (word_count c.args.step (length bytes)) c.loop-number.number place at (omega arith) is
+          (sym w.if-begins_inside.ensures)) w.if-branch.false)
+          )
+      | else-begins_inside-via-else-begins_inside w ↦ rw w.self-is
+          (left_same c.loop-number.self _ _ _ _ was _ (λ at. word_passed
+          (λ i. number c.args.order 4 (drop (i * c.args.step) bytes)) (begins_inside strings)
+          (word_count c.args.step (length bytes)) c.loop-number.number place at (omega arith) is
+          (sym w.if-begins_inside.ensures)))
     ]

@@ -1,7 +1,6 @@
 use Rattle.dwp_elf_read.specs.View as view
 use Rattle.thorin_inputs.proofs.overlaps.UsedSections.of.Goals as goal
-use Rattle.thorin_inputs.proofs.UsedSections.{before_next, behind_next, none_next, within_next}
-use Rattle.thorin_inputs.proofs.UsedSections.{met_next}
+use Rattle.thorin_inputs.proofs.UsedSections.{between_next, met_next}
 use Rattle.std.{proofs.Common.arith, proofs.Common.sym, specs.Option.option_copied}
 use Rattle.dwp_base.proofs.Finds.{slice_get_none}
 use Rattle.dwp_base.specs.declared.section.SectionKind.TheVariants.{CuIndex, Str, TuIndex}
@@ -10,7 +9,8 @@ use Rattle.thorin_inputs.proofs.overlaps.UsedSections.of.Goals.{in-Some, in_defa
 
 pub loop-i-preserved : goal.loop-i-preserved
 loop-i-preserved c =
-    let sections = (elf c.args.file.now).sections in
+    let file = elf c.args.file.now in
+    let xs = file.sections in
     let i = c.loop-i.i in
     let old = c.loop-i.used in
     let was = c.loop-i.invariant in
@@ -18,25 +18,16 @@ loop-i-preserved c =
       | in-Some w ↦ (
           let s = view.section w.in-Some.section in
           let at = sym w.in-Some.ensures.found in
-          let first = old.first_offsets in
-          let behind = old.behind_offsets in
           rw w.used-is (record {
             strings = rw (← w.add.ensures.strings) at
-                (met_next Str sections i s (option_copied old.strings) at was.strings);
+                (met_next Str xs i s (option_copied old.strings) at was.strings);
             compilations = rw (← w.add.ensures.compilations) at
-                (met_next CuIndex sections i s (option_copied old.compilations) at
-                was.compilations);
+                (met_next CuIndex xs i s (option_copied old.compilations) at was.compilations);
             types = rw (← w.add.ensures.types) at
-                (met_next TuIndex sections i s (option_copied old.types) at was.types);
-            none = rw (← w.add.ensures.behind) at (none_next sections i s first behind at was.none);
-            before = rw (← w.add.ensures.first) at
-                (before_next sections i s first behind at was.none was.before);
-            behind = rw (← w.add.ensures.behind) at
-                (behind_next sections i s first behind at was.behind);
-            inside = rw (← w.add.ensures.behind) at
-                (within_next sections i s first behind at was.inside);
+                (met_next TuIndex xs i s (option_copied old.types) at was.types);
+            offsets = rw (← w.add.ensures.first, ← w.add.ensures.behind) at
+                (between_next file i s old.first_offsets old.behind_offsets at was.offsets);
           })
           )
-      | in_default w ↦ absurd (slice_get_none sections i (omega arith)
-          (sym w.in_default.ensures.found))
+      | in_default w ↦ absurd (slice_get_none xs i (omega arith) (sym w.in_default.ensures.found))
     ]

@@ -1,16 +1,17 @@
-use Rattle.std.proofs.Common.{arith, length, refl, Some, ◌-◌, ◌<◌, ◌≡◌}
+use Rattle.std.proofs.Common.{arith, refl, Some, ◌-◌, ◌≡◌}
 use Rattle.std.specs.Prelude.{slice_get}
 use Rattle.std.proofs.lemmas.{Grind.common_steps, Option.gets, Option.get_or_from_slice_get}
-use Rattle.thorin_inputs.proofs.{Best.last, Best.none, Fronts.begun, Nested.nested-fewer}
-use Rattle.thorin_inputs.proofs.Fronts.{behind-prefix}
+use Rattle.thorin_inputs.proofs.{Best.last, Best.none, Fronts.behind-prefix, Fronts.begun}
 use Rattle.thorin_inputs.proofs.prefixes.Prefixes.longest.Goals as goal
 
 pub past_last-place-requires-clause-nested : goal.past_last-place-requires-clause-nested
 past_last-place-requires-clause-nested c =
     let it = c.args.self.now in
-    rw (c.deref-2.ensures.value, c.deref-3.ensures.value)
-    (nested-fewer it.last.items it.inner.items (length it.last.items) c.count_upto-count.result
-    it.nested (rw c.deref.ensures.value at c.count_upto-count.ensures.bound))
+    let few = rw c.deref.ensures.value at c.count_upto-count.ensures.bound in
+    rw (c.deref-2.ensures.value, c.deref-3.ensures.value) (record {
+      known = omega (arith, few, it.nested.known);
+      past = λ i d lt. it.nested.past i d (omega (arith, lt, few));
+    })
 
 pub past_last-place-requires-clause-before : goal.past_last-place-requires-clause-before
 past_last-place-requires-clause-before c =
