@@ -1,6 +1,6 @@
 use Rattle.thorin_builder.proofs.Terms
 use Terms.{ap, begun_of, building, in_progress_of, None, rules, Some, State, ◌≡◌}
-use Rattle.thorin_again.proofs.Kept.OneEncoding.{taken-holds, taken-plain}
+use Rattle.thorin_again.proofs.Lists.{taken-holds, taken-plain}
 use Rattle.thorin_builder.proofs.AddedAgain.{added-known}
 use Rattle.thorin_builder.proofs.package.DwarfPackage.add_again.Goals as goal
 

@@ -1,7 +1,7 @@
 use Rattle.thorin_builder.proofs.Terms
 use Terms.{arith, begun_of, building, own_after, State, ◌≡◌}
 use Rattle.std.proofs.lemmas.Bool.Decides.{nat_tests}
-use Rattle.thorin_again.proofs.Kept.OneEncoding.{taken-holds, taken-plain}
+use Rattle.thorin_again.proofs.Lists.{taken-holds, taken-plain}
 use Rattle.thorin_builder.proofs.AddedAgain.{joined-later, taken-as}
 use Rattle.thorin_builder.proofs.package.DwarfPackage.add_object_bytes.Goals as goal
 
