@@ -250,7 +250,8 @@ module _ (Fresh : Type 0) (E : ErrorValue → Type 0)
         ∙ unmet) (λ here. omega (arith, long)) in
         then-fares E (Added r.id new) _ (with_read add from new (Ok h))
         (λ next. with_each_read add from next reads) (rw named (unit-fares h new given.0
-        (kept_bytes add.held new.units r.id) r.id (λ f. rw (none_there f, lookup-none _ _ (free f)) refl)
+        (kept_bytes add.held new.units r.id) r.id (λ f.
+        rw (none_there f, lookup-none _ _ (free f)) refl)
         (rw from_is (row-tested is u)) given.1))
         (λ next more. later next (λ f n row there to_come last.
         let other : n ≢ place_at = λ same. grind (arith, last, there, at, u.here, long) in

@@ -117,7 +117,8 @@ module _ (order : Endianness) (contents : Contents) (place : UnitSection) (rows 
   -- from rows on whose units begin at an offset of the section
   from : (before todo : List IndexEntry) (pre bytes : List ℕ) (offset n : ℕ) → rows ≡ before ++ todo
       → HaveOneRange todo → All (IsBelow (kind_of place) offset) before → Lie order place offset
-      (rows_at place todo) bytes → content_of (kind_of place) contents ≡ pre ++ bytes → length pre ≡ offset
+      (rows_at place todo) bytes → content_of (kind_of place) contents ≡ pre ++ bytes
+      → length pre ≡ offset
       → length bytes ≤ n → P todo (units_within n place (plain order offset bytes))
   unfolding units_within
   from before [] pre bytes offset zero split once below lie content at fuel = none
@@ -158,18 +159,22 @@ module _ (order : Endianness) (contents : Contents) (place : UnitSection) (rows 
         shifted = moved.shifted;
       }) (from (before ++ r ∷ []) rs (pre ++ own) head.rest end (n - 1) next once.1
       (All-push (IsBelow (kind_of place) end) before r
-      (All-weaker (IsBelow (kind_of place) offset) (IsBelow (kind_of place) end) (λ x h c e. omega (arith, h c e))
+      (All-weaker (IsBelow (kind_of place) offset) (IsBelow (kind_of place) end) (λ x h c e.
+      omega (arith, h c e))
       before below) (λ c e. grind (arith, head.range, head.is.some)))
       l.1 (content_is ∙ sym (append_assoc pre own head.rest))
       (length-append pre own ∙ ap (λ k. k + length own) at) (omega (arith, head.is.some)))))
       (λ other. passed r rs _ other (from (before ++ r ∷ []) rs pre bytes offset n next once.1
-      (All-push (IsBelow (kind_of place) offset) before r below (λ c e. grind (arith, once.0 place other)))
+      (All-push (IsBelow (kind_of place) offset) before r below (λ c e.
+      grind (arith, once.0 place other)))
       (rw other at lie) content at fuel))
 
   pub of-section : HaveOneRange rows → Lie order place 0 (rows_at place rows)
-      (content_of (kind_of place) contents) → P rows (units place (section order (content_of (kind_of place) contents)))
+      (content_of (kind_of place) contents)
+      → P rows (units place (section order (content_of (kind_of place) contents)))
   unfolding units
-  of-section once lie = from [] rows [] _ 0 _ refl once (All-nil (IsBelow (kind_of place) 0)) lie refl
+  of-section once lie = from [] rows [] _ 0 _ refl once (All-nil (IsBelow (kind_of place) 0)) lie
+      refl
       refl (omega arith)
 
 -- names of one sort, and of type units of one signature, are one where compilations of one index
@@ -436,7 +441,8 @@ module _ {encoding : Encoding} {file : File} {indexes : Indexes} {made : InProgr
 
   -- the units of a section mean what its rows do, in their order
   units-are : (place : UnitSection) (us : Reads) → read_at input file.contents place ≡ Ok us → All
-      (IsTested input) us → units_meant us ≡ all_meant (members (mean_of made) (rows_at place made.rows))
+      (IsTested input) us → units_meant us ≡ all_meant (members (mean_of made)
+      (rows_at place made.rows))
   unfolding named_each named_unit
   units-are place =
       let laid = is.own.sound.laid in
@@ -467,7 +473,8 @@ module _ {encoding : Encoding} {file : File} {indexes : Indexes} {made : InProgr
       (rw take-append_seam at (All-take (IsTested input) n _ both)) in
       let t = units-are places.Types split.1 split.3
       (rw drop-append_seam at (All-drop (IsTested input) n _ both)) in
-      let joined : all_meant (members (mean_of made) (rows_at places.Info made.rows ++ rows_at places.Types
+      let joined : all_meant (members (mean_of made) (rows_at places.Info made.rows ++
+      rows_at places.Types
       made.rows)) ≡ units_meant (split.0 ++ split.1) =
       simp map-append (ap₂ (λ a b. a ++ b) (sym i) (sym t)) in
       IsPermutation-trans _ _ _ (IsPermutation-map _ _ _ (IsPermutation-map _ made.rows _ apart))

@@ -153,7 +153,8 @@ module _ (order : Endianness) (encoding : Encoding) where
         → IsPartOf (with_ranges ranges xs) ys
     ranges-part [] xs among part = part
     ranges-part (None ∷ ranges) xs among part = ranges-part ranges xs among.1 part
-    ranges-part (Some r ∷ ranges) xs among part = ranges-part ranges (insert_key place_cmp xs r) among.1
+    ranges-part (Some r ∷ ranges) xs among part =
+        ranges-part ranges (insert_key place_cmp xs r) among.1
         (put-part 0 end ys xs r tile part (among.0 r refl))
 
     index-part : (read : Option Index) (rows : List IndexEntry) (xs : List Contribution)

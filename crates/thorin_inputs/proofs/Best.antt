@@ -1,6 +1,7 @@
 -- The longest FROM that a path begins with: of words, as of entries in the order of their FROMs.
 use Rattle.std.proofs.Common.{◌≡◌, ◌∙◌, ◌+◌, ◌-◌, ◌<◌, ◌≤◌, ◌++◌, ℕ, suc, List, [], ◌∷◌, true}
-use Rattle.std.proofs.Common.{ap, arith, drop, false, length, length-drop, Ordering, refl, subst, sym}
+use Rattle.std.proofs.Common.{ap, arith, drop, false, length, length-drop, Ordering, refl, subst}
+use Rattle.std.proofs.Common.{sym}
 use Rattle.std.proofs.Common.{take}
 use Rattle.std.specs.Prelude.{fold, nat_lt, None, Option, slice_get, Some, ⊤}
 use Rattle.std.specs.Prelude.{slice_index_or}

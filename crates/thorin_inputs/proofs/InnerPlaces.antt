@@ -1,7 +1,8 @@
 -- Places of strings that are counted one after another, and what their strings have together.
 use Rattle.std.proofs.Common.{Bool, suc, zero, [], ℕ, ◌&&◌, ◌+◌, ◌-◌, ◌<◌, ◌||◌, ◌∙◌, ◌∷◌, ◌≡◌, ◌≤◌}
 use Rattle.std.proofs.Common.{ap, arith, cond, drop, eqb, List, ltb, refl, Some, subst, sym, true}
-use Rattle.std.proofs.Common.{false, leb, length, length-drop, length-take, nat_lt, slice_get, sum_by}
+use Rattle.std.proofs.Common.{false, leb, length, length-drop, length-take, nat_lt, slice_get}
+use Rattle.std.proofs.Common.{sum_by}
 use Rattle.std.proofs.{lemmas.Bool.Decides.nat_tests, lemmas.Bool.ltb-false}
 use Rattle.std.specs.{BTreeSet.BTreeSet, List.position_or_len, List.range_with_len}
 use Rattle.std.specs.{BTreeSet.contains, BTreeSet.Updates, List.list_any, Ordering.nat_cmp}

@@ -246,7 +246,8 @@ module _ (made : InProgress) (file : File) (f : IsFinished made file) where
             (rw (finished-order, rw units.no_compilations at (finished-content kinds.CuIndex))
             c.read)
             (rw (finished-order, rw units.no_types at (finished-content kinds.TuIndex)) t.read);
-        named = rw (← ids is_compilation made.rows, ← ids (λ name. not (is_compilation name)) made.rows)
+        named = let types = ids (λ name. not (is_compilation name)) made.rows in
+            rw (← ids is_compilation made.rows, ← types)
             (entries_once c.index t.index _ _ (grind (arith, c.has)) (grind (arith, t.has)));
         finds = λ name. package-finds file.order file.contents c.index t.index made.strings
             (finished-strings units.no_strings) units.table made.rows name of rows c.has t.has;

@@ -255,4 +255,5 @@ returns c inputs state error are h =
         } in
         inr (by-step (index_tests (compilations made.rows)) _ error k
         (index-failed inputs state error _ (known (λ row. is_compilation row.id)))
-        (λ x passed. index-failed inputs state error _ (known (λ row. not (is_compilation row.id)))))
+        (λ x passed. index-failed inputs state error _
+        (known (λ row. not (is_compilation row.id)))))

@@ -1,6 +1,7 @@
 use Rattle.thorin.proofs.Terms
 use Terms.{bind-err, bind-ok, Bor, bytes_in, drop, Err, get_or, IfOk, inr, inl, IsPackageOf, length}
-use Terms.{List, Ok, PacksAlone, refl, start, State, sym, taken, taken_each, units_in, Writes, [], ℕ}
+use Terms.{List, Ok, PacksAlone, refl, start, State, sym, taken, taken_each, units_in, Writes, []}
+use Terms.{ℕ}
 use Terms.{◌+◌, ◌<◌, ◌>>=◌, ◌∙◌, ◌≡◌}
 use Rattle.std.proofs.lemmas.List.{at_drop_more, drop_all}
 use Rattle.thorin.proofs.{GroupJoins.taken-joins, Running.each-taken}

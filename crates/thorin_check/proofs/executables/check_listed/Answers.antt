@@ -41,5 +41,6 @@ returns-in-Ok-None g c =
 pub returns-in-Err : goal.returns-in-Err
 returns-in-Err g c =
     left_told _ _ _ _ _ _ _ _ _ _ c.tell_error.result c.loop-unit.invariant
-    (broken_left _ _ _ _ _ _ _ _ c.tell_error.result c.in-Err.ensures.next c.tell_error.ensures.known
+    (broken_left _ _ _ _ _ _ _ _ c.tell_error.result c.in-Err.ensures.next
+    c.tell_error.ensures.known
     c.tell_error.ensures.told)

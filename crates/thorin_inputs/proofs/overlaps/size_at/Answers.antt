@@ -7,4 +7,5 @@ returns-in-Ok c = rw c.in-Ok.ensures.meaning at (sized c.args.strings.now c.args
 
 pub returns-in-Err : goal.returns-in-Err
 returns-in-Err c =
-    c.saturating_sub.ensures ∙ rw c.in-Err.ensures.meaning at (sized c.args.strings.now c.args.place)
+    c.saturating_sub.ensures ∙ rw c.in-Err.ensures.meaning at
+    (sized c.args.strings.now c.args.place)
