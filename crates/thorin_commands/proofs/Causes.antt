@@ -1,19 +1,25 @@
 -- Why something wasn't taken, and what was told of it.
 use Rattle.thorin_commands.proofs.Terms
-use Terms.{ap, append_assoc, asked, asks, Bool, Bor, Cause, drop, Err, Error, FailsBy, Failure}
-use Terms.{filter-append, get_or, Growth, IfErr, inl, Input, inr, IsNotTaken, IsTakenFor, length}
-use Terms.{List, Manner, manner_of, map, map-append, None, NoOutputObjectCreated, NoPackage}
-use Terms.{NotTaken, Offer, Ok, Option, outcome_of, Packing, paths_in, Reasons, refl, Refuses}
-use Terms.{Result, Some, split_contents, State, Stops, StopsAt, sym, take, take_more, Tells, Took}
-use Terms.{TookEach, TookInputs, true, Unfinished, [], ℕ, ◌++◌, ◌+◌, ◌<◌, ◌∙◌, ◌∷◌, ◌≡◌, ◌⊎◌}
-use Rattle.thorin_commands.specs.Cause.{AreRefused, IsCauseFor, IsUnfit, IsCauseOf, IsRefused}
-use Rattle.thorin_commands.specs.Cause.{IsTakenNot, StopsAmong, IsUntaken, Told, told_text}
+use Terms.{Alone, Among, ap, append_assoc, Archive, AreAsked, asked, asks, Bad, Bool, Bor, Cause}
+use Terms.{drop, Err, Error, FailsBy, Failure, false, filter-append, get_or, Growth, IfErr, inl}
+use Terms.{Input, InputError, inr, is_archive, IsNotTaken, IsTakenFor, IsUnfinished, length, List}
+use Terms.{Manner, manner_of, map, map-append, None, NoOutputObjectCreated, NoPackage, NotTaken}
+use Terms.{Offer, Ok, Option, outcome_of, Packing, Path, path_bytes, paths_in, Plain, Reasons, refl}
+use Terms.{Refuses, Result, Some, split_contents, StandsFor, State, Stops, StopsAt}
+use Terms.{StopsIn, sym, take, take_more, Tells, Took, TookEach, TookInputs, true, Unfinished}
+use Terms.{Unread, [], ℕ, ◌++◌, ◌+◌, ◌<◌, ◌∙◌, ◌∷◌, ◌≡◌, ◌⊎◌}
+use Rattle.thorin_commands.specs.Cause.{AreRefused, IsCauseFor, IsMalformed, IsUnfit, refusal_text}
+use Rattle.thorin_commands.specs.Cause.{Finishing, IsCauseOf, IsRefused, IsTakenNot, StopsAmong}
+use Rattle.thorin_commands.specs.Cause.{IsUntaken, Taking, Told, told_text, Untaken}
+use Rattle.std.proofs.Common.{◌≢◌}
 use Rattle.std.{proofs.lemmas.List.take-append-drop, specs.List.slice_get}
 use Rattle.thorin_errors.specs.Errors.{error_of}
-use Rattle.dwp_archive.specs.{Entries.Member}
-use Rattle.thorin_builder.specs.Reading.{OnDeclined}
+use Rattle.dwp_archive.specs.{Entries.Member, Members.members_of}
+use Rattle.dwp_archive.specs.declared.error.ArchiveError.{ArchiveError}
+use Rattle.thorin_join.specs.Builder.{start}
+use Rattle.thorin_builder.specs.Reading.{IsRead, OnDeclined, unread}
 use Rattle.thorin.specs.Run.{DeclinesInput}
-use Rattle.thorin_commands.{proofs.Opened.each_append}
+use Rattle.thorin_commands.{proofs.Opened.each_append, proofs.Opened.each_none, specs.Opened.Fills}
 use Rattle.dwp_archive.specs.View as view
 use Rattle.dwp_archive.specs.declared.member.Member as declared
 use Rattle.dwp_archive.specs.declared.error.ArchiveError.TheVariants as archive_errors
@@ -46,6 +52,16 @@ module _ {W : Type 0} (contents : W → Option (List ℕ)) (failed : W → Type 
   err_by f (Ok x) t = tt
   err_by f (Err refusal) t = refuses_by f refusal t
 
+  -- the reason of an outcome was told
+  pub told_reason : (outcome : Result (Unit {0}) (NotTaken Error Growth))
+      → (why : NotTaken Error Growth) → outcome ≡ Err why → Tells contents writer (refusal_text why)
+      → Refuses contents failed writer (IsUntaken (λ why. outcome ≡ Err why)) refusals.Told
+  told_reason outcome why e line = record {
+    cause = Untaken why;
+    is = record { why = why; is = refl; reason = e };
+    line = line;
+  }
+
 -- an outcome's reason is one of others
 pub reason_by : {P : NotTaken Error Growth → Type 0}
     (outcome : Result (Unit {0}) (NotTaken Error Growth)) → IfErr outcome P
@@ -61,6 +77,28 @@ pub refused : (offer : Offer) (declines : Reasons) (input : Input) (old new : St
 refused offer declines input old new (Ok x) took declined = tt
 refused offer declines input old new (Err why) took declined =
     record { new = new; took = took; declined = declined }
+
+module _ {opens : Bool} {manner : Manner} {offer : Offer} {declines : Reasons} where
+  -- an input that stands for itself
+  pub alone : {input : Input} {state : State} → StandsFor opens manner offer input (input ∷ [])
+      → (cause : Cause) → IsUntaken (IsRefused offer declines input state) cause
+      → IsNotTaken opens manner offer declines input state cause
+  alone {input} {state} stands cause u = rw u.is (Alone input state u.why stands u.reason)
+
+  -- an input that is no archive, or one
+  pub plain : {path : Path} {state : State} {file : List ℕ} → opens ≡ true
+      → offer (path_bytes path) (Ok file) → is_archive file ≡ false
+      → (cause : Cause) → IsUntaken (AreRefused offer declines file state) cause
+      → IsNotTaken opens manner offer declines (inputs.Object path) state cause
+  plain {path} {state} {file} opened offered none cause u =
+      rw u.is (Plain path state file u.why opened offered none u.reason)
+
+  pub archive : {path : Path} {state : State} {file : List ℕ} → opens ≡ true
+      → offer (path_bytes path) (Ok file) → is_archive file ≡ true
+      → (cause : Cause) → StopsIn offer declines manner file state cause
+      → IsNotTaken opens manner offer declines (inputs.Object path) state cause
+  archive {path} {state} {file} opened offered is cause stops =
+      Archive path state file cause opened offered is stops
 
 -- the first of a list, alone
 pub first_of : {X : Type 0} (xs : List X) (x : X) → Some x ≡ slice_get xs 0 → take 1 xs ≡ x ∷ []
@@ -88,6 +126,18 @@ module _ {opens : Bool} {manner : Manner} {offer : Offer} {declines : Reasons} w
     took = took;
     refused = refused;
   }
+
+  -- the first of a list, and what can't be finished behind it
+  pub taking : (partial : Bool) (list : List Input) (cause : Cause)
+      → StopsAt opens manner offer declines list start cause
+      → IsCauseOf partial opens manner offer declines list cause
+  taking partial list cause stops = Taking stops
+
+  pub finishing : (partial : Bool) (list : List Input) (new : State)
+      → Fills partial opens manner offer list start new → (cause : Cause) → IsUnfinished new cause
+      → IsCauseOf partial opens manner offer declines list cause
+  finishing partial list new fills cause u =
+      Finishing fills.state fills.took (rw fills.rest at u)
 
 -- the contents of members that have split units, and of more behind them
 contents_append : (xs ys : List declared.Member) → split_contents (map view.member (xs ++ ys))
@@ -131,6 +181,14 @@ module _ {manner : Manner} {offer : Offer} {declines : Reasons} where
             (contents later) took u.why u.reason);
       }
 
+-- of just the inputs that are asked for
+cause_for : (offer : Offer) (declines : Reasons) (packing : Packing) (list : List Input)
+    → AreAsked packing list → (cause : Cause)
+    → IsCauseOf packing.partial packing.opens_archives (manner_of packing) offer declines list
+    cause → IsCauseFor offer declines packing cause
+cause_for offer declines packing list are cause is =
+    record { list = list; are = are; is = is }
+
 module _ {W : Type 0} (contents : W → Option (List ℕ)) (failed : W → Type 0) (writer : W)
     (offer : Offer) (declines : Reasons) (packing : Packing) where
   module _ (list : List Input) where
@@ -139,7 +197,8 @@ module _ {W : Type 0} (contents : W → Option (List ℕ)) (failed : W → Type 
         → IsCauseOf packing.partial packing.opens_archives (manner_of packing) offer declines list
         (Unfinished NoOutputObjectCreated)
         → IsCauseFor offer declines packing (Unfinished NoOutputObjectCreated)
-    empty_for are t = record { list = list; are = inl are; is = t }
+    empty_for are t = cause_for offer declines packing list (inl are)
+        (Unfinished NoOutputObjectCreated) t
 
     -- the same with the first executable as an object behind them
     pub told_unsplit : (path : Bor (List ℕ)) → packing.lets_empty ≡ true
@@ -150,7 +209,7 @@ module _ {W : Type 0} (contents : W → Option (List ℕ)) (failed : W → Type 
         packing.opens_archives (manner_of packing) offer declines list))
         → IfErr result (Refuses contents failed writer (IsCauseFor offer declines packing))
     told_unsplit path lets are first result t = err_by contents failed writer
-        (λ cause is. record { list = list; are = inr (lets, rw first are); is = is }) result t
+        (cause_for offer declines packing list (inr (lets, rw first are))) result t
 
   -- the line that no input began a package
   pub told_empty : IsCauseFor offer declines packing (Unfinished NoOutputObjectCreated)
@@ -169,6 +228,31 @@ content_refused is offer declines state (Ok x) h = tt
 content_refused {taken = taken} is offer declines state (Err why) h =
     inr (record { taken = taken; is = is; refused = h })
 
+-- a content alone
+pub one_stops : {W : Type 0} (contents : W → Option (List ℕ)) (writer : W) {manner : Manner}
+    {offer : Offer} {declines : Reasons} {content : List ℕ} {state : State}
+    (why : NotTaken Error Growth)
+    → IsUnfit manner content why ⊎ IsTakenNot offer declines manner content state why
+    → Tells contents writer (refusal_text why)
+    → Told contents writer (IsUntaken (StopsAmong offer declines manner (content ∷ []) state))
+one_stops contents writer {content = content} {state = state} why h line = record {
+  cause = Untaken why;
+  is = record {
+    why = why;
+    is = refl;
+    reason = record {
+      front = [];
+      content = content;
+      rest = [];
+      list_is = refl;
+      state = state;
+      took = each_none;
+      refused = h;
+    };
+  };
+  line = line;
+}
+
 -- bytes that were refused
 pub bytes_refused : (offer : Offer) (declines : Reasons) (bytes : Bor (List ℕ)) (old new : State)
     (outcome : Result (Unit {0}) (NotTaken Error Growth))
@@ -180,4 +264,28 @@ bytes_refused offer declines bytes old new (Err why) took declined = record {
   input = bytes;
   is = refl;
   refused = record { new = new; took = took; declined = declined };
+}
+
+module _ {manner : Manner} {offer : Offer} {declines : Reasons} {file : List ℕ} {old : State} where
+  -- an archive of which a member isn't taken, or whose members can't be told
+  pub among : {members : List Member} → members_of file ≡ Ok members → (cause : Cause)
+      → IsUntaken (StopsAmong offer declines manner (split_contents members) old) cause
+      → StopsIn offer declines manner file old cause
+  among {members} are cause u = rw u.is (Among members u.why are u.reason)
+
+  pub bad : {error : ArchiveError} → (error ≢ archive_errors.Memory → members_of file ≡ Err error)
+      → (cause : Cause) → IsMalformed error cause → StopsIn offer declines manner file old cause
+  bad {error} h cause m = rw m.is (Bad error (h m.no_memory))
+
+-- a file that may be an archive can't be read
+pub unread_told : {W : Type 0} (contents : W → Option (List ℕ)) (writer : W) {opens : Bool}
+    {manner : Manner} {offer : Offer} {declines : Reasons} {path : Path} {state : State}
+    → opens ≡ true → (e : NotTaken InputError Growth)
+    → IsRead (offer (path_bytes path)) (declines true (path_bytes path)) (Err e)
+    → (why : NotTaken Error Growth) → why ≡ unread e → Tells contents writer (refusal_text why)
+    → Told contents writer (IsNotTaken opens manner offer declines (inputs.Object path) state)
+unread_told contents writer {path = path} {state = state} opened e read why is line = record {
+  cause = Untaken why;
+  is = rw is (Unread path state e opened read);
+  line = line;
 }

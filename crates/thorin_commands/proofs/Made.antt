@@ -1,11 +1,11 @@
 -- What was made of inputs, and what was told of that.
 use Rattle.thorin_commands.proofs.Terms
-use Terms.{added_in, Among, ap, append_assoc, Archive, AreAsked, asked, asks, Bad, Bool, Cause}
-use Terms.{DebugTypeSignature, differing_in, Err, Error, false, File, file_text, IfErr, inl, Input}
-use Terms.{inr, IsNotTaken, IsPrinted, IsUnfinished, left, List, Manner, manner_of, map}
-use Terms.{NoOutputObjectCreated, NoPackage, Offer, Ok, Option, out_of, Packing, Reasons, refl}
-use Terms.{Refuses, Result, Some, State, StopsAt, StopsIn, TellsInputs, TellsTaken, true}
-use Terms.{Unfinished, ℕ, ◌++◌, ◌∙◌, ◌≡◌}
+use Terms.{added_in, Alone, Among, ap, append_assoc, Archive, AreAsked, asked, asks, Bad, Bool}
+use Terms.{Cause, DebugTypeSignature, differing_in, Err, Error, false, File, file_text, IfErr, inl}
+use Terms.{Input, inr, IsNotTaken, IsPrinted, IsUnfinished, left, List, Manner, manner_of, map}
+use Terms.{NoOutputObjectCreated, NoPackage, Offer, Ok, Option, out_of, Packing, Plain, Reasons}
+use Terms.{refl, Refuses, Result, Some, State, StopsAt, StopsIn, TellsInputs, TellsMacros}
+use Terms.{TellsTaken, true, Unfinished, Unread, ℕ, ◌++◌, ◌∙◌, ◌≡◌}
 use Rattle.thorin_errors.specs.Errors.{NoOutputObjectCreated as NoneBegun}
 use Rattle.thorin_join.specs.Builder.{finish_test}
 use Rattle.thorin_output.specs.{declared.warnings.Warned.Warned, Warnings.IsWarning}
@@ -14,13 +14,11 @@ use Rattle.thorin_commands.specs.Warned.{names, others, PacksTelling, TellsUnspl
 use Rattle.thorin_commands.proofs.Warned.{printed_as, printed_then}
 use Rattle.thorin_commands.specs.declared.packing.NoPackage.TheVariants as refusals
 
--- a package without the list of units that executables refer to has the same units, also those
--- that differ
-pub same_left : (partial : Bool) (state : State)
-    → (units_in (left partial state) ≡ units_in state)
-    × (differing_in (left partial state) ≡ differing_in state)
-same_left true state = (refl, refl)
-same_left false state = (refl, refl)
+-- the type units that differ don't go where units that executables refer to do
+pub differing_left : (partial : Bool) (state : State)
+    → differing_in (left partial state) ≡ differing_in state
+differing_left true state = refl
+differing_left false state = refl
 
 -- an input that isn't taken is no reason why a package can't be finished
 stops_no : {manner : Manner} {offer : Offer} {declines : Reasons} {file : List ℕ} {old : State}
@@ -33,9 +31,11 @@ module _ {opens : Bool} {manner : Manner} {offer : Offer} {declines : Reasons} w
   not_taken_no : (input : Input) (state : State) (cause : Cause)
       → IsNotTaken opens manner offer declines input state cause → (error : Error)
       → cause ≡ Unfinished error → ⊥
+  not_taken_no input state cause (Alone i s why stands h) error same = absurd cc
+  not_taken_no input state cause (Unread path s why o h) error same = absurd cc
+  not_taken_no input state cause (Plain path s file why o f n h) error same = absurd cc
   not_taken_no input state cause (Archive path s file c o f n h) error same =
       stops_no c h error same
-  not_taken_no input state cause _ error same = absurd cc
 
 pub never_empty : (opens : Bool) (manner : Manner) (offer : Offer) (declines : Reasons)
     (list : List Input) (old : State) {W : Type 0} (contents : W → Option (List ℕ))
@@ -103,6 +103,15 @@ made_twice {offer} packing list a b c lets are p made = record {
   differ = made.differ;
   names_are = made.names_are;
 }
+
+-- with the lines of sections of macros
+pub made_ready : {offer : Offer} (packing : Packing) {a b : Option (List ℕ)} {object : File}
+    {differing : List DebugTypeSignature} (named macros lines : List ℕ)
+    → TellsMacros packing.warns_of_macros macros → lines ≡ macros ++ named
+    → IsMadeFor (TellsInputs offer packing) offer packing a b object differing named
+    → IsReady offer packing a b object differing lines
+made_ready packing named macros lines are is made =
+    record { named = named; made = made; macros = macros; macros_are = are; lines_are = is }
 
 -- and the warnings behind the package
 pub packs_telling : (offer : Offer) (packing : Packing) (Puts : (name text : List ℕ) → Type 0)

@@ -39,9 +39,11 @@ taken_append : (manner : Manner) (xs ys : List (List ℕ)) (list more : List Inp
     → AreTakenFor manner xs list → AreTakenFor manner ys more
     → AreTakenFor manner (xs ++ ys) (list ++ more)
 taken_append manner [] ys [] more h k = k
+taken_append manner [] ys (input ∷ list) more h k = absurd h
+taken_append manner (x ∷ xs) ys [] more h k = absurd h
 taken_append manner (x ∷ xs) ys (inputs.Bytes b ∷ list) more h k =
     (h.0, taken_append manner xs ys list more h.1 k)
-taken_append manner _ ys _ more h k = absurd h
+taken_append manner (x ∷ xs) ys (input ∷ list) more h k = absurd h
 
 module _ {opens : Bool} {manner : Manner} {offer : Offer} where
   -- an input that stands for itself

@@ -3,8 +3,9 @@ use Rattle.thorin_commands.proofs.Terms
 use Terms.{added_in, ap, append-nil, append_assoc, Appends, arith, Bool, DebugTypeSignature, Err}
 use Terms.{false, get_or, inl, Input, inr, IsPrinted, length, List, Manner, map, map-append}
 use Terms.{missing_in, None, Offer, Ok, OnOk, Option, path_of, refl, Some, State, sym, take}
-use Terms.{take_all, take_more, TellsMacros, TellUnsplitBy, TookAll, TookNone, TookTelling, true}
-use Terms.{Types, unit_count, unsplit_line, [], ℕ, ◌++◌, ◌+◌, ◌-◌, ◌<◌, ◌∙◌, ◌∷◌, ◌≡◌, ◌⊎◌}
+use Terms.{take_all, take_more, TellsMacros, TellsTaken, TellUnsplitBy, TookAll, TookNone}
+use Terms.{TookTelling, true, Types, unit_count, unsplit_line, [], ℕ, ◌++◌, ◌+◌, ◌-◌, ◌<◌, ◌∙◌, ◌∷◌}
+use Terms.{◌≡◌, ◌⊎◌}
 use Rattle.std.proofs.Common.{◌≤◌}
 use Rattle.thorin_commands.specs.Warned.{IsLeftLine, left_line, named_line, TellsAdded, TellsNamed}
 use Rattle.thorin_commands.specs.Warned.{IsNamedLine, TellsTaking, TellsUnsplit, TellUnsplit}
@@ -149,6 +150,11 @@ pub unsplit_none : (may : Type 0) (path : Option (List ℕ)) (a : Option (List �
     → IsPrinted a a (TellsUnsplit may path)
 unsplit_none may path a = none_printed a (inl refl)
 
+unsplit_as : {M N : Type 0} → (M → N) → (path : Option (List ℕ)) (text : List ℕ)
+    → TellsUnsplit M path text → TellsUnsplit N path text
+unsplit_as f path text (inl e) = inl e
+unsplit_as f path text (inr h) = inr (f h.0, h.1, h.2, h.3, h.4)
+
 pub unsplit_next : (none : Type 0) (list : List Input) (lacks : List Lack) (i : ℕ) (d : Input)
     (e : Lack) (a b c : Option (List ℕ)) → i < length list → length lacks ≡ length list
     → IsPrinted a b (TellUnsplitBy true none (take i list) (take i lacks))
@@ -173,6 +179,11 @@ pub unsplit_unasked : (warns : Bool) (none : Type 0) (list : List Input) (lacks 
     (a : Option (List ℕ)) → warns ≡ false → IsPrinted a a (TellUnsplitBy warns none list lacks)
 unsplit_unasked warns none list lacks a e = rw e (none_printed a refl)
 
+by_lack : {none : Type 0} {total own : ℕ} {lack : Lack} → (none → total ≡ 0)
+    → (lack ≡ Types → own ≡ 0) → none ⊎ (lack ≡ Types) → (total ≡ 0) ⊎ (own ≡ 0)
+by_lack f g (inl n) = inl (f n)
+by_lack f g (inr e) = inr (g e)
+
 unsplit_by : (none : Type 0) (total : ℕ) → (none → total ≡ 0) → (list : List Input)
     (lacks : List Lack) (added : List ℕ) (text : List ℕ) → AreLacks added lacks
     → TellUnsplitBy true none list lacks text → TellUnsplit true total list added text
@@ -182,10 +193,7 @@ unsplit_by none total f (x ∷ list) (l ∷ lacks) [] text are h = absurd are
 unsplit_by none total f (x ∷ list) (l ∷ lacks) (n ∷ added) text are h = (
   h.0,
   h.1,
-  elim h.2 [
-    | inl e ↦ inl e
-    | inr w ↦ inr (elim w.0 [ inl m ↦ inl (f m) | inr e ↦ inr (are.0 e) ], w.1, w.2, w.3, w.4)
-  ],
+  unsplit_as (by_lack f are.0) (path_of x) h.0 h.2,
   unsplit_by none total f list lacks added h.1 are.1 h.3,
   h.4,
 )
@@ -238,3 +246,27 @@ no_macros false = refl
 pub without_names : (named : Bool) (differing : List ℕ) → named ≡ false
     → TellsNamed named differing []
 without_names named differing e = rw e refl
+
+-- ---- all of inputs that were taken
+
+pub taken_told : (verbose warns partial : Bool) (list : List Input) (added : List ℕ)
+    (state : State) (lacks : List Lack) (a b c d : Option (List ℕ))
+    → IsPrinted a b (TellsTaking verbose list added lacks)
+    → IsPrinted b c (TellUnsplitBy warns (unit_count state ≡ 0) list lacks)
+    → IsPrinted c d (TellsLeft partial state)
+    → IsPrinted a d (TellsTaken verbose warns partial list added state)
+taken_told verbose warns partial list added state lacks a b c d p q r = record {
+  text = p.text ++ (q.text ++ r.text);
+  is = record {
+    taken = p.text;
+    taken_are = p.is.lines;
+    unsplit = q.text;
+    unsplit_are = unsplit_told_by warns (unit_count state ≡ 0) (unit_count state) (λ e. e) list
+        lacks added q.text p.is.lacking q.is;
+    missing = r.text;
+    missing_are = r.is;
+    text_is = refl;
+  };
+  added = Appends-trans a b d p.text (q.text ++ r.text) p.added
+      (Appends-trans b c d q.text r.text q.added r.added);
+}

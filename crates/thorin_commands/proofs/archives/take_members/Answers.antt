@@ -1,7 +1,7 @@
-use Rattle.thorin_commands.proofs.Terms.{Among, Bad, err_from_is_err_and, filter-append, map}
-use Rattle.thorin_commands.proofs.Terms.{map-append, member, refl, take_all, take_more, [], ◌∙◌}
+use Rattle.thorin_commands.proofs.Terms.{err_from_is_err_and, filter-append, map, map-append}
+use Rattle.thorin_commands.proofs.Terms.{member, refl, take_all, take_more, [], ◌∙◌}
 use Rattle.dwp_archive.specs.declared.member.NameForm.TheVariants.{Short}
-use Rattle.thorin_commands.proofs.Causes.{refuses_by, stops_among}
+use Rattle.thorin_commands.proofs.Causes.{among, bad, refuses_by, stops_among}
 use Rattle.thorin_commands.proofs.Opened.{each_append, each_none}
 use Rattle.dwp_archive.specs.declared.member.Member as declared
 use Rattle.thorin_commands.proofs.archives.take_members.Goals as goal
@@ -49,7 +49,7 @@ returns-in_err-take_split-clause-told g c =
     let p = err_from_is_err_and c.from_residual.result c.from_residual.ensures.1 in
     let are = rw (← c.as_slice-list.ensures.value) at c.in-Ok.ensures in
     rw (p.1, p.2) (refuses_by g.E.LineOutput.contents g.E.LineOutput.failed c.take_split.new.err
-    (λ cause u. rw u.is (Among _ u.why are u.reason)) c.in_err-take_split.field-0.0
+    (among are) c.in_err-take_split.field-0.0
     (refuses_by g.E.LineOutput.contents g.E.LineOutput.failed c.take_split.new.err
     (stops_among c.as_slice-list.result.now c.loop-member.member-index none
     c.loop-member-test.true c.loop-member.invariant.took) c.in_err-take_split.field-0.0
@@ -57,5 +57,4 @@ returns-in_err-take_split-clause-told g c =
 
 pub returns-in-Err-clause-told : goal.returns-in-Err-clause-told
 returns-in-Err-clause-told g c = refuses_by g.E.LineOutput.contents g.E.LineOutput.failed
-    c.malformed.new.err (λ cause m. rw m.is (Bad _ (c.in-Err.ensures m.no_memory)))
-    c.malformed.result c.malformed.ensures
+    c.malformed.new.err (bad c.in-Err.ensures) c.malformed.result c.malformed.ensures

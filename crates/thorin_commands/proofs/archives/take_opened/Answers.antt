@@ -1,17 +1,14 @@
-use Rattle.thorin_commands.proofs.Terms.{Archive, declines, Ok, on_ok_weaker, Plain, reads, rules}
-use Rattle.thorin_commands.proofs.Causes.{bytes_refused, err_by, reason_by}
-use Rattle.thorin_commands.proofs.{Opened.took_archive, Opened.took_object, Terms.Unread, Terms.◌≡◌}
-use Rattle.thorin_commands.specs.Cause.{Untaken}
+use Rattle.thorin_commands.proofs.Terms.{declines, Ok, on_ok_weaker, reads, rules, ◌≡◌}
+use Rattle.thorin_commands.proofs.Causes.{archive, bytes_refused, err_by, reason_by, unread_told}
+use Rattle.thorin_commands.proofs.{Causes.plain, Opened.took_archive, Opened.took_object}
 use Rattle.thorin_commands.proofs.archives.take_opened.Goals as goal
 
 pub returns-in_ok-tell_refused-in-Err-clause-told :
     goal.returns-in_ok-tell_refused-in-Err-clause-told
 returns-in_ok-tell_refused-in-Err-clause-told g c =
-    record {
-      cause = Untaken c.from-why.result;
-      is = rw c.from-why.ensures (Unread _ _ c.in-Err.why c.requires c.in-Err.ensures.refused);
-      line = c.in_ok-tell_refused-in-Err.ensures.told;
-    }
+    unread_told g.E.LineOutput.contents c.tell_refused.new.err c.requires c.in-Err.why
+    c.in-Err.ensures.refused c.from-why.result c.from-why.ensures
+    c.in_ok-tell_refused-in-Err.ensures.told
 
 pub returns-then-is_archive-clause-took : goal.returns-then-is_archive-clause-took
 returns-then-is_archive-clause-took g c = on_ok_weaker c.take_members.result
@@ -21,9 +18,8 @@ returns-then-is_archive-clause-took g c = on_ok_weaker c.take_members.result
 pub returns-then-is_archive-clause-told : goal.returns-then-is_archive-clause-told
 returns-then-is_archive-clause-told g c = err_by g.E.LineOutput.contents g.E.LineOutput.failed
     c.take_members.new.err
-    (λ cause stops. Archive _ _ _ cause c.requires
-    (rw (← c.as_slice-bytes.ensures.value) at c.in-Ok.ensures.fetched)
-    (search (rules, c.is_archive.ensures, c.if-is_archive)) stops)
+    (archive c.requires (rw (← c.as_slice-bytes.ensures.value) at c.in-Ok.ensures.fetched)
+    (search (rules, c.is_archive.ensures, c.if-is_archive)))
     c.take_members.result c.take_members.ensures.told
 
 pub returns-else-is_archive-clause-took : goal.returns-else-is_archive-clause-took
@@ -39,9 +35,8 @@ returns-else-is_archive-clause-told g c =
     let packing = c.args.inputs.now.packing.now in
     let offer = g.F.FileSystem.offer c.args.inputs.now.files.now in
     err_by g.E.LineOutput.contents g.E.LineOutput.failed c.settle.new.err
-    (λ cause u. rw u.is (Plain _ _ _ u.why c.requires
-    (rw (← c.as_slice-bytes.ensures.value) at c.in-Ok.ensures.fetched)
-    (search (rules, c.is_archive.ensures, c.if-is_archive)) u.reason)) c.settle.result
+    (plain c.requires (rw (← c.as_slice-bytes.ensures.value) at c.in-Ok.ensures.fetched)
+    (search (rules, c.is_archive.ensures, c.if-is_archive))) c.settle.result
     (err_by g.E.LineOutput.contents g.E.LineOutput.failed c.settle.new.err
     (reason_by c.take_input-outcome.result (bytes_refused (reads packing offer)
     (declines packing offer) c.as_slice-bytes.result c.args.builder.now.state

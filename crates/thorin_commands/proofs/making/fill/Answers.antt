@@ -1,9 +1,9 @@
-use Rattle.thorin_commands.proofs.Terms.{arith, err_from_is_err_and, Input, rules, refl, take}
-use Rattle.thorin_commands.proofs.Terms.{take_all, take_more, [], ◌++◌, ◌+◌, ◌∷◌, ◌≡◌}
-use Rattle.thorin_commands.proofs.Causes.{refuses_by, stops_at}
-use Rattle.std.proofs.{KnownBytes.Appends-trans, lemmas.Grind.common_steps}
+use Rattle.thorin_commands.proofs.Terms.{arith, drop, err_from_is_err_and, get_or, Input, rules}
+use Rattle.thorin_commands.proofs.Terms.{take, take_all, take_more, [], ◌++◌, ◌+◌, ◌∷◌, ◌≡◌}
+use Rattle.thorin_commands.proofs.Causes.{refuses_by, split_at, stops_at}
+use Rattle.std.proofs.lemmas.Grind.{common_steps}
 use Rattle.thorin.specs.declared.packing.Input.TheVariants.{Object}
-use Rattle.thorin_commands.proofs.Warned.{lack_count, taking_begins, taking_more, unsplit_told_by}
+use Rattle.thorin_commands.proofs.Warned.{lack_count, taken_told, taking_begins, taking_more}
 use Rattle.thorin_commands.proofs.making.fill.Goals as goal
 
 abbrev none : Input
@@ -38,29 +38,15 @@ warn_unsplit-requires g c = rw c.as_slice-lacks.ensures.value (lack_count
 pub returns-clause-fills : goal.returns-clause-fills
 returns-clause-fills g c =
     let so = rw (take_all c.loop-input.input-index c.args.list.now c.loop-input-test.false) at
-    c.loop-input.invariant in
-    let unsplit = rw c.as_slice-lacks.ensures.value at c.in_ok-warn_unsplit.ensures.lines in
-    let left = c.in_ok-leave_out.ensures.lines in
-    record {
+    c.loop-input.invariant in record {
       fills = record {
         state = c.loop-input.builder.state;
         took = so.took;
         rest = c.in_ok-leave_out.ensures.left;
       };
-      told = record {
-        text = so.told.text ++ (unsplit.text ++ left.text);
-        is = record {
-          taken = so.told.text;
-          taken_are = so.told.is.lines;
-          unsplit = unsplit.text;
-          unsplit_are = unsplit_told_by c.args.options.warns _ _ (λ e. e) c.args.list.now _ _
-              unsplit.text so.told.is.lacking unsplit.is;
-          missing = left.text;
-          missing_are = left.is;
-          text_is = refl;
-        };
-        added = Appends-trans _ _ _ so.told.text (unsplit.text ++ left.text) so.told.added
-            (Appends-trans _ _ _ unsplit.text left.text unsplit.added left.added);
-      };
+      told = taken_told c.args.options.verbose c.args.options.warns c.args.options.partial
+          c.args.list.now _ c.loop-input.builder.state _ _ _ _ _ so.told
+          (rw c.as_slice-lacks.ensures.value at c.in_ok-warn_unsplit.ensures.lines)
+          c.in_ok-leave_out.ensures.lines;
       names_are = c.in_ok-lines.ensures;
     }

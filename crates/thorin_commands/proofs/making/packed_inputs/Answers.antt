@@ -1,10 +1,15 @@
-use Rattle.thorin_commands.proofs.Terms.{ap, declines, differing_in, left, ◌∙◌, ◌≡◌, IfOk-weaker}
-use Rattle.thorin_commands.proofs.Terms.{manner_of, reads, units_in}
-use Rattle.thorin_commands.proofs.Made.{if_refused, never_empty, none_began, same_left}
-use Rattle.thorin_commands.proofs.Causes.{err_by, refuses_by}
+use Rattle.thorin_commands.proofs.Terms.{ap, Bool, declines, differing_in, false, left, ◌∙◌, ◌≡◌}
+use Rattle.thorin_commands.proofs.Terms.{IfOk-weaker, manner_of, reads, refl, State, true, units_in}
+use Rattle.thorin_commands.proofs.Made.{differing_left, if_refused, never_empty, none_began}
+use Rattle.thorin_commands.proofs.Causes.{err_by, finishing, refuses_by, taking}
 use Rattle.thorin_commands.specs.Cause.{Finishing, Taking}
 use Rattle.thorin_commands.proofs.{Opened.all_joined, Warned.printed_as}
 use Rattle.thorin_commands.proofs.making.packed_inputs.Goals as goal
+
+-- a package without the list of units that executables refer to has the same units
+units_left : (partial : Bool) (state : State) → units_in (left partial state) ≡ units_in state
+units_left true state = refl
+units_left false state = refl
 
 pub returns-in-Ok-clause-made : goal.returns-in-Ok-clause-made
 returns-in-Ok-clause-made g c =
@@ -14,9 +19,9 @@ returns-in-Ok-clause-made g c =
     let done = c.fill.new.builder.state in
     let partial = c.args.options.partial in
     let now : done ≡ left partial state = filled.fills.rest in
-    let units : units_in done ≡ units_in state = ap units_in now ∙ (same_left partial state).0 in
+    let units : units_in done ≡ units_in state = ap units_in now ∙ units_left partial state in
     let differ : differing_in done ≡ differing_in state =
-    ap differing_in now ∙ (same_left partial state).1 in
+    ap differing_in now ∙ differing_left partial state in
     IfOk-weaker c.finished.result _ _ (λ made its. record {
       packed = record {
         state = state;
@@ -46,8 +51,9 @@ pub returns-in-Ok-clause-told : goal.returns-in-Ok-clause-told
 returns-in-Ok-clause-told g c =
     let filled = rw c.new-builder.ensures.state at c.in-Ok.ensures.fills in
     err_by g.E.LineOutput.contents g.E.LineOutput.failed c.finished.new.err
-    (λ cause u. Finishing filled.fills.state filled.fills.took (rw filled.fills.rest at u))
-    c.finished.result c.finished.ensures.told
+    (finishing {declines = declines c.args.inputs.now.packing.now
+    (g.F.FileSystem.offer c.args.inputs.now.files.now)} c.args.options.partial
+    c.args.list.now c.fill.new.builder.state filled.fills) c.finished.result c.finished.ensures.told
 
 pub returns-clause-tried : goal.returns-clause-tried
 returns-clause-tried g c =
@@ -59,5 +65,5 @@ returns-clause-tried g c =
 
 pub returns-clause-told : goal.returns-clause-told
 returns-clause-told g c = refuses_by g.E.LineOutput.contents g.E.LineOutput.failed c.fill.new.err
-    (λ cause stops. Taking stops) c.in-Err.refusal
+    (taking c.args.options.partial c.args.list.now) c.in-Err.refusal
     (rw c.new-builder.ensures.state at c.in-Err.ensures.told)

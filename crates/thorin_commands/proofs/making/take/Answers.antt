@@ -1,5 +1,5 @@
-use Rattle.thorin_commands.proofs.Terms.{Alone, declines, Ok, on_ok_weaker, reads, rules, ◌≡◌}
-use Rattle.thorin_commands.proofs.Causes.{err_by, reason_by, refused}
+use Rattle.thorin_commands.proofs.Terms.{declines, Ok, on_ok_weaker, reads, rules, ◌≡◌}
+use Rattle.thorin_commands.proofs.Causes.{alone, err_by, reason_by, refused}
 use Rattle.thorin_commands.proofs.Opened.{took_alone}
 use Rattle.thorin_commands.proofs.making.take.Goals as goal
 
@@ -13,7 +13,7 @@ returns-in_default-clause-told g c =
     let packing = c.args.inputs.now.packing.now in
     let offer = g.F.FileSystem.offer c.args.inputs.now.files.now in
     err_by g.E.LineOutput.contents g.E.LineOutput.failed
-    c.settle.new.err (λ cause u. rw u.is (Alone _ _ u.why (search rules) u.reason)) c.settle.result
+    c.settle.new.err (alone (search rules)) c.settle.result
     (err_by g.E.LineOutput.contents g.E.LineOutput.failed c.settle.new.err
     (reason_by c.take_input-outcome.result
     (refused (reads packing offer) (declines packing offer) c.args.input c.args.builder.now.state
