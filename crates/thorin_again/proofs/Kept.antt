@@ -10,7 +10,7 @@ use Joined.{Adding, adding, All-append, All-weaker, ap, append-nil, append_assoc
 use Joined.{by-bool, content_of, Contents, Contribution, contribution_put, contribution_to}
 use Joined.{drop-append-le, DwarfObject, Each, Encoding, Endianness, eqb, ErrorValue, false, first}
 use Joined.{HasFront, Header, identity, IndexEntry, inl, InProgress, Input, inr, is-same}
-use Joined.{is_in_format, is_package, is_shared, is_some, IsSound, joined_content, joined_parts}
+use Joined.{is_package, is_shared, is_some, IsSound, joined_content, joined_parts}
 use Joined.{joining, keys, kind_of, length, length-append, LieInside, List, list_all, list_any}
 use Joined.{list_any-append, map, map-append, name_for, name_signature, names_of, nat_tests}
 use Joined.{NewUnit, nil_from_length, None, Ok, Option, package_or_new, part_of, Parts, place_for}
@@ -19,6 +19,7 @@ use Joined.{section, SectionKind, slice_get, Some, Source, subst, sym, true, typ
 use Joined.{unit_bytes, unit_section, UnitRead, UnitSection, Used, with_bytes, with_each_part}
 use Joined.{with_input, with_new_unit, with_new_units, with_part, with_parts, with_unit_added, []}
 use Joined.{ℕ, ◌++◌, ◌+◌, ◌-◌, ◌<◌, ◌∙◌, ◌∷◌, ◌≡◌, ◌⊎◌}
+use Rattle.thorin_input.specs.Format.{is_in_format}
 use Rattle.thorin_join.proofs.Units.ReadInTurn.{added-keys, AllSo, AreAdded, each-all, each-joining}
 use Rattle.dwp_units.specs.Units.{header_at, older_at, older_type_at, unit_at, units, units_within}
 use Rattle.thorin_join.proofs.{Joined.takes, Rows.OfUnits.whole-part, Rows.StandApart.sound-inside}

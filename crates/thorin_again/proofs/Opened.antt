@@ -8,7 +8,7 @@ use Joined.{ap, append-nil, append_assoc, AreDistinct, AreRowsOf, arith, Bool, c
 use Joined.{Contents, contribution_to, count_of, data_of, DwarfObject, Elf, Encoding, Endianness}
 use Joined.{entry_ids, Err, ErrorValue, every, false, File, file_text, first, has_info, has_part}
 use Joined.{Index, index_tests, index_version_of, IndexEntry, Indexes, InProgress, input_file_of}
-use Joined.{is-same, is_chosen, is_in_format, is_package, is_shared, is_some, IsFinished, IsIndexOf}
+use Joined.{is-same, is_chosen, is_package, is_shared, is_some, IsFinished, IsIndexOf}
 use Joined.{IsRowOf, IsSound, IsSoundBegun, kind_of, KindsDiffer, length, length-map, List}
 use Joined.{list_any, list_any-append, Meaning, meaning_at, name_of, nat_tests, nil_from_length}
 use Joined.{None, not, Ok, Option, order_test, packaged_offsets, Parts, parts_of, refl, Result}
@@ -16,6 +16,7 @@ use Joined.{rewritten, rows_of, same-each, same-ok, same-self, same_kind, same_S
 use Joined.{slice_get, slice_index, Some, Source, StrOffsets, subst, sym, take-length, true}
 use Joined.{units_in, units_of, UnitSection, Used, with_each_part, with_input, with_offsets}
 use Joined.{with_part, [], ℕ, ◌++◌, ◌+◌, ◌<◌, ◌>>=◌, ◌^◌, ◌||◌, ◌∙◌, ◌∷◌, ◌≡◌, ◌≤◌}
+use Rattle.thorin_input.specs.Format.{is_in_format}
 use Rattle.thorin_again.specs.{Again.input_encoding, OwnInput.written_object, OwnInput.written_used}
 use Rattle.thorin_again.specs.{OwnRefusals.UnlessStringOffset, Plain.HasTiledOffsets, Plain.IsPlain}
 use Rattle.thorin_package_input.specs.{PackagedOffsets.rewritten_from, PackagedReading.range_bytes}
