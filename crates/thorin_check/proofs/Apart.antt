@@ -34,7 +34,8 @@ all_apart ranges end h i zero d lt within = absurd (omega arith)
 all_apart ranges end h i (suc j) d lt within =
     let next = rw add-one at (h j d (omega arith)) in
     elim (cases_lt i j) [
-      | inl less ↦ apart_behind _ _ _ (all_apart ranges end h i j d less (omega arith)) next
+      | inl less ↦ apart_behind (get_or ranges i d) (get_or ranges j d) (get_or ranges (suc j) d)
+          (all_apart ranges end h i j d less (omega arith)) next
       | inr le ↦ (let this : i ≡ j = omega arith in rw this next)
     ]
 
