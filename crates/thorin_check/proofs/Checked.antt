@@ -92,7 +92,8 @@ module _ (pack : Package) (executable : List ℕ) where
         let size : long_size first.1 ≡ length first.1 = grind (arith, nat_tests) in
         let all : room < long_bytes (first ∷ []) = omega (arith, size, over) in
         rw split (left_by is_first room (first ∷ after.0, after.1) faults
-        (λ none end. absurd cc) (none_looked room (first ∷ after.0, after.1) faults (long, all, broken)))
+        (λ none end. absurd cc) (none_looked room (first ∷ after.0, after.1) faults
+        (long, all, broken)))
 
     module _ (whole : ℕ) (all : Listed) where
       -- the next was looked for

@@ -102,7 +102,8 @@ module _ (pack : Package) (objects : List DwarfObject)
       one.is_one in
       let all = all_read_of one.unit one.object (rw one.is_found at told) in
       let ends = range_ends pack one.object one.unit one.is_found range one.is_range all in
-      all_ends pack object unit is _ refl (λ other e. rw (← same_Some range other (sym has ∙ e)) ends)
+      all_ends pack object unit is _ refl
+      (λ other e. rw (← same_Some range other (sym has ∙ e)) ends)
 
 -- ---- a sound unit
 
