@@ -24,9 +24,8 @@ apart_behind a b c first next = grind (arith)
 pub next_apart : (ranges : List Placed) (i : ℕ) (d e : Placed) → 0 < i → i < length ranges
     → AllAdjacentBelow IsApart ranges i → IsApart (get_or ranges (i - 1) d) (get_or ranges i e)
     → AllAdjacentBelow IsApart ranges (i + 1)
-next_apart ranges i d e some lt before apart = all_adjacent_more ranges IsApart i some before
-    (λ f. let last = get_or_default ranges (i - 1) f d (omega arith) in
-    rw (last, get_or_default ranges i f e lt) apart)
+next_apart ranges i d e some lt before apart = all_adjacent_more ranges IsApart i some before (λ f.
+    rw (get_or_default ranges (i - 1) f d (omega arith), get_or_default ranges i f e lt) apart)
 
 -- where each is apart from the one before, any two are
 pub all_apart : (ranges : List Placed) (end : ℕ) → AllAdjacentBelow IsApart ranges end
@@ -35,7 +34,8 @@ all_apart ranges end h i zero d lt within = absurd (omega arith)
 all_apart ranges end h i (suc j) d lt within =
     let next = rw add-one at (h j d (omega arith)) in
     elim (cases_lt i j) [
-      | inl less ↦ apart_behind _ _ _ (all_apart ranges end h i j d less (omega arith)) next
+      | inl less ↦ apart_behind (get_or ranges i d) (get_or ranges j d) (get_or ranges (suc j) d)
+          (all_apart ranges end h i j d less (omega arith)) next
       | inr le ↦ (let this : i ≡ j = omega arith in rw this next)
     ]
 

@@ -100,8 +100,8 @@ module _ (pack : Package) (listed : Listed) where
           objects = t.objects ++ (object ∷ []);
           once = all_pairs_push (ShareNone pack) t.objects object t.once
               (All-weaker (IsUpTo pack before) (λ other. ShareNone pack other object)
-              (λ other up. (apart pack range object is before behind other up).1)
-              t.objects t.up_to);
+              (λ other up. (apart pack range object is before behind other up).1) t.objects
+              t.up_to);
           up_to = All-push (IsUpTo pack (Some range)) t.objects object
               (All-weaker (IsUpTo pack before) (IsUpTo pack (Some range))
               (λ other up. (apart pack range object is before behind other up).0) t.objects t.up_to)

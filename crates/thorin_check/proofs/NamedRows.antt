@@ -6,6 +6,7 @@ use Terms.{inl, inr, Is, map, nat_tests, sym, ℕ, ◌≢◌, ◌+◌, ◌<◌, 
 use Rattle.std.proofs.lemmas.List.Elements.{All-append, Contains-append_left, Contains-append_right}
 use Rattle.thorin_check.specs.Faults.{ArePast, is_from, is_of, IsNamed, IsUnnamed, row_fault}
 use Rattle.std.proofs.lemmas.List.{Elements.All-weaker, Sorted.IsNonDecreasingBy-from_sort}
+use Rattle.std.proofs.lemmas.Bool.{cases_lt}
 use Rattle.thorin_check.specs.Faults.{TellsRowsOf}
 use Rattle.{dwp_base.proofs.Bools.both, std.specs.Ordering.nat_cmp}
 
@@ -45,18 +46,17 @@ pub none_names : (is_types : Bool) (row : ℕ) (slots : List UnitEntry) (i : ℕ
     → is_from is_types row (get_or slots i e) ≡ true → row ≢ (get_or slots i e).row
     → IsNamed slots is_types row → ⊥
 none_names is_types row slots i e sorted before lt picked other named =
-    let kind = (both _ _ picked).0 in
+    let kind : is_of is_types (get_or slots i e).object ≡ true = (both _ _ picked).0 in
     let more : row < (get_or slots i e).row = grind (arith, nat_tests) in
     let k = named.is_slot.0 in
     let is = named.is_slot.2 in
     let same = named.is_row in
-    let at : (k < i) ⊎ (i ≤ k) = grind arith in
-    elim at [
-      | inl less ↦ (let past = rw is at (before.past k named.slot less) named.is_kind in
-          omega arith)
+    elim (cases_lt k i) [
+      | inl less ↦ (let past = rw is at (before.past k named.slot less) in
+          let early = past named.is_kind in omega arith)
       | inr le ↦ (let rise = rw (is, get_or_default slots i named.slot e lt) at
           (IsNonDecreasingBy-from_sort place_of_line slots sorted i k named.slot le
           named.is_slot.1) in
-          let below = le_of _ _ is_types (get_or slots i e).object named.slot.object kind
-          named.is_kind rise in omega arith)
+          let below = le_of (get_or slots i e).row named.slot.row is_types
+          (get_or slots i e).object named.slot.object kind named.is_kind rise in omega arith)
     ]

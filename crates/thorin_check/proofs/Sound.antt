@@ -21,6 +21,7 @@ use Rattle.thorin_check.specs.Faults.{is_bare, room_of, row_end, TellsEnd, Tells
 use Rattle.thorin_check.proofs.SharedStrings.{all_ends, range_ends}
 use Rattle.dwp_index.specs.Package.{found, FoundUnit, Package}
 use Rattle.thorin_check.proofs.Own.{own_once, row_of_found}
+use Rattle.thorin_check.specs.Indexes.{mixed_versions, versions_faults}
 use Rattle.dwp_base.specs.declared.section.SectionKind.TheVariants as kinds
 
 -- ---- no faults
@@ -101,8 +102,8 @@ module _ (pack : Package) (objects : List DwarfObject)
       one.is_one in
       let all = all_read_of one.unit one.object (rw one.is_found at told) in
       let ends = range_ends pack one.object one.unit one.is_found range one.is_range all in
-      all_ends pack object unit is _ refl (λ other e.
-      rw (← same_Some range other (sym has ∙ e)) ends)
+      all_ends pack object unit is _ refl
+      (λ other e. rw (← same_Some range other (sym has ∙ e)) ends)
 
 -- ---- a sound unit
 
@@ -181,6 +182,9 @@ none_wrong : (kind : SectionKind) (is_so : Bool) (what : List ℕ)
     → Is (section_faults kind is_so what) [] → is_so ≡ false
 none_wrong kind is_so what h = grind (arith)
 
+one_version : (versions : Option (ℕ × ℕ)) → Is (versions_faults versions) [] → versions ≡ None
+one_version versions h = grind (arith)
+
 -- the slots are the entries, in another order
 module _ (pack : Package) (entries : List UnitEntry) (by_row : AreByRow pack entries) where
   rows_named : (kind : List ℕ) (is_types : Bool) (index : Option Index)
@@ -188,7 +192,7 @@ module _ (pack : Package) (entries : List UnitEntry) (by_row : AreByRow pack ent
   rows_named kind is_types index t row some lt =
       elim (t.others row some lt) [
         | inl told ↦ absurd
-            (omega (arith, ap length t.are, length-map (row_fault kind) t.rows, told.1))
+            (omega (arith, ap length t.are, length-map t.rows (row_fault kind), told.1))
         | inr named ↦ record {
           slot = named.slot;
           is_slot = Contains-permutation entries (slots pack) named.slot
@@ -232,7 +236,7 @@ no_fault_told offer executables pack entries by_row t =
         has_abbreviations = rw as_many at (none_wrong kinds.Abbrev _
             (codes " is empty or absent") sections.0);
         has_strings = none_wrong kinds.Str _ (codes " is empty or absent") sections.1;
-        one_version = grind (arith, indexes.0);
+        one_version = one_version (mixed_versions pack) indexes.0;
         has_columns = All-weaker (λ kind. Is (column_faults kind (lacks_column pack kind)) [])
             (λ kind. lacks_column pack kind ≡ false)
             (λ kind. none_wrong kind (lacks_column pack kind)

@@ -5,8 +5,8 @@ use Rattle.thorin_check.proofs.abbreviations.read.Goals as goal
 pub read_behind-requires : goal.read_behind-requires
 read_behind-requires c = record {
   inside = rw c.requires.tables
-      ((row_of_found c.args.pack.now c.args.object c.args.unit.now c.requires.is_found).inside
-      Abbrev);
+      ((row_of_found c.args.pack.now c.args.object c.args.unit.now
+      c.requires.is_found).inside Abbrev);
 }
 
 pub returns-in-Ok-clause-own : goal.returns-in-Ok-clause-own

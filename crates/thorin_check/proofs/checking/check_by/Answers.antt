@@ -30,8 +30,8 @@ returns-in-Ok-check_all g c =
 
 pub returns : goal.returns
 returns g c =
-    let grows = grown _ _ _ c.in-Err.ensures.1 (printed_some _ _ _ c.print.result
-    c.print.ensures) in
+    let grows = grown _ _ _ c.in-Err.ensures.1
+    (printed_some _ _ _ c.print.result c.print.ensures) in
     file_read _ _ _ _ _ _ _ _ c.in_ok-bytes.ensures.read c.as_slice.ensures.value
     (rw (c.in-Ok.ensures, ← c.has_no_index.ensures, c.if-has_no_index.false)
     (c.in-Err.ensures.0, grows))

@@ -1,6 +1,7 @@
 use Rattle.thorin_check.proofs.Checked.{broken_left, left_told, long_left, none_looked, on_next}
 use Rattle.thorin_check.proofs.Terms.{[], append-nil, arith, None, refl, true}
-use Rattle.thorin_check.proofs.Told.{none_told, tells_as, told_as, told_then}
+use Rattle.thorin_check.proofs.Told.{exit_is, none_told, stopped_behind, tells_as, told_as}
+use Rattle.thorin_check.proofs.Told.{told_then}
 use Rattle.thorin_check.proofs.executables.check_listed.Goals as goal
 
 pub loop-unit-init : goal.loop-unit-init
@@ -19,18 +20,25 @@ loop-unit-smaller g c =
 
 pub returns-then-not-has_room : goal.returns-then-not-has_room
 returns-then-not-has_room g c =
-    left_told _ _ _ _ _ _ _ _ _ _ c.tell_broken.result c.loop-unit.invariant
-    (tells_as _ _ c.tell_broken.result (long_left _ _ _ _ _ _
+    left_told _ _ _ _ c.loop-unit.is_first c.loop-unit.left c.loop-unit.units.listed _ _ _
+    c.tell_broken.result c.loop-unit.invariant (tells_as _ _ c.tell_broken.result
+    (long_left c.args.pack.now _ c.loop-unit.is_first _ _ _
     (c.in-Ok-Some.unit.target, c.next.new.self.path)
     (rw c.in-Ok-Some.field-0-is at c.in-Ok-Some.ensures.next)
     (rw c.path-path.ensures at c.has_room.ensures.long (cc))
     (rw c.path-path.ensures at c.has_room.ensures.over (cc))) c.tell_broken.ensures)
 
+pub returns-in_err-check_skeleton-in-Ok-Some : goal.returns-in_err-check_skeleton-in-Ok-Some
+returns-in_err-check_skeleton-in-Ok-Some g c =
+    rw (exit_is c.from_residual.result c.from_residual.ensures.1) (stopped_behind _
+    c.loop-unit.invariant c.in_err-check_skeleton-in-Ok-Some.ensures)
+
 pub returns-then-is_first : goal.returns-then-is_first
 returns-then-is_first g c =
     let next = rw c.in-Ok-None.field-0-is at c.in-Ok-None.ensures.next in
     let begun = rw (c.if-is_first.true, next.0) at c.loop-unit.invariant in
-    left_told _ _ _ _ true _ ([], None) _ _ _ c.tell_of.result begun c.tell_of.ensures
+    left_told _ _ _ _ true c.loop-unit.left ([], None) _ _ _ c.tell_of.result begun
+    c.tell_of.ensures
 
 pub returns-in-Ok-None : goal.returns-in-Ok-None
 returns-in-Ok-None g c =
@@ -40,7 +48,7 @@ returns-in-Ok-None g c =
 
 pub returns-in-Err : goal.returns-in-Err
 returns-in-Err g c =
-    left_told _ _ _ _ _ _ _ _ _ _ c.tell_error.result c.loop-unit.invariant
-    (broken_left _ _ _ _ _ _ _ _ c.tell_error.result c.in-Err.ensures.next
-    c.tell_error.ensures.known
-    c.tell_error.ensures.told)
+    left_told _ _ _ _ c.loop-unit.is_first c.loop-unit.left c.loop-unit.units.listed _ _ _
+    c.tell_error.result c.loop-unit.invariant
+    (broken_left c.args.pack.now _ c.loop-unit.is_first c.loop-unit.left _ _ _ _
+    c.tell_error.result c.in-Err.ensures.next c.tell_error.ensures.known c.tell_error.ensures.told)

@@ -1,6 +1,7 @@
 use Rattle.thorin_check.proofs.Told.{exit_is, none_told, stopped_behind, told_then}
 use Rattle.std.proofs.lemmas.List.Elements.{All-cons, All-nil, Contains-push}
-use Rattle.thorin_check.proofs.Terms.{[], arith, inl, inr, refl, ◌∷◌, ◌≡◌}
+use Rattle.thorin_check.proofs.Terms.{[], arith, inl, inr, refl, ◌+◌, ◌∷◌, ◌≡◌}
+use Rattle.thorin_check.{proofs.NamedRows.row_more, specs.Faults.IsUnnamed}
 use Rattle.thorin_check.proofs.tables.check_rows.Goals as goal
 
 pub loop-row-init : goal.loop-row-init
@@ -27,8 +28,9 @@ loop-row-preserved-then-is_named g c = record {
 pub loop-row-preserved : goal.loop-row-preserved
 loop-row-preserved g c = record {
   told = told_then (λ ls ms. row_more c.args.kind.now c.args.is_types c.args.entries.now
-      c.loop-row.row (c.loop-row.row ∷ []) ls ms (All-cons _ _ []
-      (omega arith, omega arith, c.is_named.ensures.unnamed c.if-is_named.false) (All-nil _))
+      c.loop-row.row (c.loop-row.row ∷ []) ls ms
+      (All-cons (IsUnnamed c.args.entries.now c.args.is_types (c.loop-row.row + 1)) c.loop-row.row
+      [] (omega arith, omega arith, c.is_named.ensures.unnamed c.if-is_named.false) (All-nil _))
       (inl (Contains-push [] c.loop-row.row)))
       c.loop-row.invariant.told c.in_ok-tell_row.ensures;
   past = record {
