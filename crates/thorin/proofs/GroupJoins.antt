@@ -14,7 +14,7 @@ use Rattle.std.proofs.{lemmas.List.map-id, lemmas.Map.Lookups.hash_map_IsPermuta
 use Rattle.std.proofs.{lemmas.Map.Keys.IsDistinct-from_apart, lemmas.Map.Made.keys_of-map_values}
 use Rattle.std.proofs.{lemmas.List.Folds.list_any-append, Math.Seq.drop-append_seam}
 use Rattle.indexmap.specs.Layout.{hash_map}
-use Rattle.thorin_join.proofs.Units.InRows.{joined_distinct, same_name-true, apart-none}
+use Rattle.thorin_join.proofs.Units.{apart-none, joined_distinct, same_name-true}
 use Rattle.std.{proofs.Math.ListN.get_or-map, specs.List.Sorted.apply_swaps}
 use Rattle.std.proofs.Math.Seq.{take-append_seam}
 use Rattle.thorin_again.proofs.Accepted.{count-again, equivalence, found-again}

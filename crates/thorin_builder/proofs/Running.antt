@@ -13,7 +13,7 @@ use Rattle.thorin_builder.specs.Taking.{MayRead, TakesNamed, TakesSkeletons}
 use Rattle.thorin_builder.specs.Reading.{DeclinesNamed, error_in, IsRead, OnDeclined}
 use Rattle.thorin_builder.specs.declared.reader.NotTaken.{NotTaken}
 use Rattle.thorin_errors.specs.{Errors.Memory, Inputs.input_error}
-use Rattle.thorin_join.proofs.Units.InRows.{keys-units}
+use Rattle.thorin_join.proofs.Units.{keys-units}
 
 abbrev pub Offer : Type 1
 Offer = List ℕ → Result (List ℕ) IoError → Type 0

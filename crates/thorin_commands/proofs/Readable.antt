@@ -6,7 +6,7 @@ use Rattle.dwp_elf.specs.FileText.{file_text, headers_place, Object}
 use Rattle.dwp_elf.specs.{Contents.KindsDiffer, Numbers.Fits, Written.written_elf}
 use Rattle.dwp_elf.proofs.KindCounts.{length-KindsDiffer}
 use Rattle.thorin_join.specs.{Join.IsPackageOf, Join.IsPackageOnceWritten, Meaning.Members}
-use Rattle.thorin_join.proofs.Files.Contents.{fitting}
+use Rattle.thorin_join.proofs.Files.{fitting}
 
 -- by the law of written files, what is written is read back
 pub readable : ((o : Object) → o.machine < 256 ^ 2

@@ -53,7 +53,7 @@ pub use Rattle.std.proofs.{lemmas.Bool.Decides.nat_tests, lemmas.Simd.map-map, M
 pub use Rattle.std.proofs.lemmas.List.Elements.{filter-append, filter_passes}
 pub use Rattle.std.proofs.lemmas.List.Folds.{flat_map-map, list_any-append, list_any_at}
 pub use Rattle.std.proofs.lemmas.Option.{none-some, same_Some}
-pub use Rattle.std.specs.{List.find, Map.lookup, Result.result_unwrap_or}
+pub use Rattle.std.specs.{Map.lookup, Result.result_unwrap_or}
 pub use Rattle.thorin_errors.specs.{Answers.as_error, Errors.ErrorValue, Errors.ParseUnitHeader}
 pub use Rattle.thorin_identity.specs.Identity.{first_identifier}
 pub use Rattle.thorin_index.specs.Entries.{contribution_to, entry_by}

@@ -3,7 +3,7 @@ use Terms.{arith, begun-now, Encoding, input-keeps, IsOfEncoding, IsPackageOf, I
 use Terms.{start, subst, sym, taken, units_in, ℕ, ◌≡◌}
 use Rattle.thorin.proofs.{GroupJoins.taken-joins, Running.as-written, Running.read-text}
 use Rattle.thorin_again.specs.Again.{HaveEncodingOf, input_encoding, MeansWhereTaken}
-use Rattle.thorin_join.proofs.Files.Finished.{finished-is}
+use Rattle.thorin_join.proofs.Files.{finished-is}
 use Rattle.thorin.proofs.again.refused_packages_mean_what_is_read.Goals as goal
 
 pub returns-clause-taken : goal.returns-clause-taken

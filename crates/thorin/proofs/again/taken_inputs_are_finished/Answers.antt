@@ -16,15 +16,14 @@ use Rattle.std.proofs.{ByRecursion.all_kept_by, lemmas.List.Filters.length-filte
 use Rattle.dwp_bytes.specs.Input.{Input, number_at, section, split_at}
 use Rattle.dwp_units.specs.Units.{header_at, initial_length_at, Unit as Header, unit_at}
 use Rattle.dwp_units.specs.declared.unit.UnitSection.{UnitSection}
-use Rattle.thorin_join.specs.Laid.{is_at, IsLaid, Lie}
+use Rattle.thorin_join.specs.{Builder.compilations, Builder.indexes_test, StandApart.contents_begun}
 use Rattle.dwp_bytes.specs.Encoding.{index_version_of}
 use Rattle.dwp_elf.specs.Growing.{Contents}
 use Rattle.dwp_table.specs.Columns.{column_of, contribution_kinds}
 use Rattle.thorin_errors.specs.Errors.{MixedInputEncodings, NoOutputObjectCreated, NumberTooLarge}
 use Rattle.thorin_index.specs.Entries.{contribution_to, offset_or_0, size_or_0}
-use Rattle.thorin_join.specs.Builder.{compilations, indexes_test, targets_test}
-use Rattle.thorin_join.specs.StandApart.{contents_begun, EachRow}
-use Rattle.thorin_join.proofs.{Rows.StandApart.sound-inside, Units.ReadInTurn.each-all}
+use Rattle.thorin_join.specs.{Builder.targets_test, Laid.is_at, Laid.IsLaid, Laid.Lie}
+use Rattle.thorin_join.{proofs.Joined.sound-inside, proofs.Units.each-all, specs.StandApart.EachRow}
 use Rattle.thorin_again.specs.InFormat.{HasEncodingOfOne, IsInFormat}
 use Rattle.std.proofs.lemmas.List.Sums.{count_by-le-length, length-filter}
 use Rattle.std.proofs.{Common.⊎_elim, lemmas.Bool.cases_lt}

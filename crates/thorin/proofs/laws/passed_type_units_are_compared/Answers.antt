@@ -7,13 +7,12 @@ use Terms.{UnitRead, Used, [], ℕ, ◌++◌, ◌∷◌, ◌≡◌}
 use Rattle.thorin.specs.Differing.{differing, differing_by, input_units, object_units, read_bytes}
 use Rattle.thorin.specs.Differing.{Bytes, own_bytes}
 use Rattle.thorin_input.specs.NewUnits.{Adding, New, NewUnit, with_first, with_unit}
-use Rattle.thorin_join.specs.Represents.{meaning_at, units_begun}
-use Rattle.thorin_join.specs.Builder.{differing_begun, package_or_new}
-use Rattle.thorin_join.specs.State.{adding, held_units, with_source}
+use Rattle.thorin_join.specs.{Builder.differing_begun, Represents.meaning_at}
+use Rattle.thorin_join.specs.{Builder.package_or_new, Represents.units_begun, State.with_source}
+use Rattle.thorin_join.{proofs.Joined.with_all_parts, proofs.Units.units-read, specs.State.adding}
 use Rattle.std.proofs.{lemmas.Map.Made.lookup-map_values, lemmas.Simd.map-map}
 use Rattle.dwp_units.specs.Units.{Unit as Header}
-use Rattle.thorin_join.proofs.Units.ReadInTurn.{Steps, units-read}
-use Rattle.thorin_join.proofs.{Joined.with_all_parts, Parts.Added.each-unit}
+use Rattle.thorin_join.{proofs.Parts.each-unit, proofs.Units.Steps, specs.State.held_units}
 use Rattle.thorin.proofs.laws.passed_type_units_are_compared.Goals as goal
 
 -- ---- what steps do

@@ -6,9 +6,9 @@ use Terms.{take-length, unit_bytes, UnitlessInput, with_all, with_input, with_mo
 use Terms.{with_parts, with_source, with_source_or_new, with_units, ℕ, [], ◌∙◌, ◌≡◌}
 use Rattle.thorin_join.proofs.Terms.{content_of, contribution_to, kind_of, part_of, place_of}
 use Rattle.thorin_input.specs.Encodings.{encoding_of}
-use Rattle.thorin_join.{proofs.Rows.OneAdded.not-shared, specs.Builder.source_for}
+use Rattle.thorin_join.{proofs.Rows.not-shared, specs.Builder.source_for}
 use Rattle.dwp_elf_read.specs.View.{elf}
-use Rattle.thorin_join.proofs.Parts.Added.{content-with_parts, parts-none}
+use Rattle.thorin_join.proofs.Parts.{content-with_parts, parts-none}
 use Rattle.thorin_builder.specs.Repeated.{AddsNoUnit}
 use Rattle.thorin_builder.proofs.AddedAgain.{later-refl, with_again}
 use Rattle.thorin_builder.proofs.Extending.{strings-extend, with_source-is}

@@ -2,7 +2,7 @@ use Rattle.thorin_builder.proofs.Terms.{building, Error, File, finish_test, Give
 use Rattle.thorin_builder.proofs.Terms.{IsFinishedState, Result, rules, State, units_in}
 use Rattle.thorin_again.proofs.Accepted.{own-all, own-by-new}
 use Rattle.thorin_again.specs.OwnAccepted.{IsAcceptedByNewOnceWritten, IsAcceptedOnceWritten}
-use Rattle.thorin_join.{proofs.Files.Finished.finished-is, specs.Join.IsPackageOnceWritten}
+use Rattle.thorin_join.{proofs.Files.finished-is, specs.Join.IsPackageOnceWritten}
 use Rattle.thorin_builder.proofs.package.DwarfPackage.finish_with_differing.Goals as goal
 
 -- what is so of what was finished, by a law
