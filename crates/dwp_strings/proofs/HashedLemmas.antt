@@ -6,9 +6,9 @@ use Terms.{IsBefore, IsHashed, IsIndexed, IsOrdered, IsPermutation-insert, IsPla
 use Terms.{IsZeroFree, List, None, Ok, OnErr, OnOk, Result, Some, StandsAt, [], ap, arith, cases_eq}
 use Terms.{cond-true, data_of, drop, false, filter, get_or, get_or-map, get_or-take, get_or_default}
 use Terms.{held, insert, length, length-append, length-take, lt-ltb, ltb, ltb-true, map}
-use Terms.{nat_eq_equiv, nat_list_cmp_total, offset_of, refl, split_at, string_from, strings_in, suc}
+use Terms.{nat_eq_equiv, nat_list_cmp_total, offset_of, refl, split_at, string_from, strings_in}
 use Terms.{sym, take, take-append-drop, take_at, terminated, tied_itself, with_string, ℕ, ⊎_elim}
-use Terms.{◌++◌, ◌+◌, ◌-◌, ◌<◌, ◌^◌, ◌∙◌, ◌∷◌, ◌≡◌, ◌≢◌, ◌≤◌}
+use Terms.{suc, ◌++◌, ◌+◌, ◌-◌, ◌<◌, ◌^◌, ◌∙◌, ◌∷◌, ◌≡◌, ◌≢◌, ◌≤◌}
 use Rattle.std.proofs.lemmas.List.Elements.{All-cons, All-filter, All-push, All-take, filter_passes}
 use Rattle.std.proofs.lemmas.List.Elements.{Contains-append_right, Contains-get_or}
 use Rattle.std.proofs.lemmas.List.Elements.{Contains-push_cases}
@@ -49,7 +49,8 @@ positions_few bytes positions table =
     let known = known_offset_in bytes positions (string_from bytes p) p table
     (table.begun i d within) refl in
     let there = get_or-map (offset_of ss) ss known.0.0 (string_from bytes p) p known.0.1 in
-    (known.0.0, omega (arith, known.0.1, length-map ss (offset_of ss)), grind (arith, there, known)) in
+    let many = length-map ss (offset_of ss) in
+    (known.0.0, omega (arith, known.0.1, many), grind (arith, there, known)) in
     let apart = λ (i j d : ℕ). not_before_itself (string_from bytes (get_or positions j d)) in
     let few = length-le_from_is_member nat_eq_equiv positions offsets
     (IsDistinct-from_AllPairs Decides-eqb positions
@@ -91,7 +92,8 @@ indexed_more bytes positions s r p table stands begins is = record {
 }
 
 -- a string goes last
-module _ (bytes positions s : List ℕ) (table : IsIndexed bytes positions) (free : IsZeroFree s) where
+module _ (bytes positions s : List ℕ) (table : IsIndexed bytes positions)
+    (free : IsZeroFree s) where
   pub strings_push : (strings_in (bytes ++ terminated s) ≡ strings_in bytes ++ s ∷ [])
       × (data_of (strings_in (bytes ++ terminated s)) ≡ bytes ++ terminated s)
   strings_push =
@@ -164,7 +166,7 @@ indexed_take bytes positions n m table long =
     (λ i j d less within. grind (arith, length-take, get_or-take, table.distinct i j d less)) in
     let begun : All (λ p. BeginsAt short p) few = λ i d within.
     let low = ltb-true _ m (filter_passes (λ p. ltb p m) positions i d within) in
-    let there = All-filter (λ p. ltb p m) (λ p. BeginsAt bytes p) positions table.begun i d within in
+    let there = All-filter (λ p. ltb p m) (BeginsAt bytes) positions table.begun i d within in
     record {
       within = omega (arith, low, there.within, length-take m bytes);
       behind = λ some. grind (arith, get_or-take, there.behind, low);

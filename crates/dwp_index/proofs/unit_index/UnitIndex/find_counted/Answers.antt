@@ -1,4 +1,5 @@
-use Rattle.std.proofs.Common.{List, None, Option, ap, arith, inl, inr, length, refl, sym, ℕ, ◌+◌, ◌∙◌, ◌≡◌, ◌≤◌}
+use Rattle.std.proofs.Common.{List, None, Option, ap, arith, inl, inr, length, refl, sym, ℕ, ◌+◌}
+use Rattle.std.proofs.Common.{◌∙◌, ◌≡◌, ◌≤◌}
 use Rattle.dwp_table.proofs.Tables.{finds_exactly, count_within, few_slots}
 use Rattle.dwp_index.proofs.Terms.{FindsExactly, IsIndex, found_row, look_count, row_of}
 use Rattle.dwp_index.proofs.Views.{end-on, end-start, ended, row_of-used, slots-length, unended}
