@@ -115,9 +115,9 @@ impl StringTable {
         };
         if place == SHARED {
             let found = search(self.entries.bytes.as_slice(), &self.entries.ordered, string);
-            return match found.0 {
-                Ok(place) => (Some(place), found.1),
-                Err(_) => (None, found.1),
+            return match found.place {
+                Ok(place) => (Some(place), found.compared),
+                Err(_) => (None, found.compared),
             };
         }
         if stands_at(self.entries.bytes.as_slice(), place, string) {

@@ -16,10 +16,10 @@ pub returns-in-Err-2-clause-found : goal.returns-in-Err-2-clause-found
 returns-in-Err-2-clause-found c = rw (← c.self.view_is) (is_absent (unplaced _ c.self.invariant
     c.args.string.now c.hash.result c.hash.ensures c.if-self.false c.in-Err-2.ensures.none))
 
-pub returns-in-Err-0₀-clause-found : goal.returns-in-Err-0₀-clause-found
-returns-in-Err-0₀-clause-found c =
+pub returns-in-Err-place-clause-found : goal.returns-in-Err-place-clause-found
+returns-in-Err-place-clause-found c =
     let absent = c.search-found.ensures.absent in
-    let stands = rw (c.in-Err-0₀.is, c.as_slice.ensures.value) at absent in
+    let stands = rw (c.in-Err-place.is, c.as_slice.ensures.value) at absent in
     rw (← c.self.view_is) (is_absent (unordered _ c.self.invariant c.args.string.now c.hash.result
     c.hash.ensures _ (grind (arith, c.match-seek.branch)) stands))
 
