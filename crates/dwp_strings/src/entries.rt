@@ -29,7 +29,7 @@ pub(crate) struct Entries {
     pub ordered: Positions,
 }
 
-#[tactic(auto, using(crate::proofs::HashedLemmas::entries_few))]
+#[tactic(auto, using(crate::proofs::Hashed::entries_few))]
 impl Entries {
     /// No strings, which take no memory.
     pub fn new(alloc: Global) -> Self

@@ -16,7 +16,7 @@ use std::simd::prelude::*;
 const LANES: usize = 32;
 
 /// How the string at a place, whose end isn't looked for, stands to one without zero bytes.
-#[tactic(auto, using(crate::proofs::CompareLemmas::compared_at, crate::proofs::CompareLemmas::compared_short))]
+#[tactic(auto, using(crate::proofs::Named::compared_at, crate::proofs::Named::compared_short))]
 pub(crate) fn compare_at(bytes: &[u8], at: usize, string: &[u8]) -> Ordering
     requires within { at ≤ length bytes.now }
     requires zero_free { IsZeroFree string.now }
@@ -39,7 +39,7 @@ pub(crate) fn begins_at(bytes: &[u8], at: usize) -> bool
 }
 
 /// Whether this string begins at a place of a section of ended strings.
-#[tactic(auto, using(crate::proofs::CompareLemmas::alike_at))]
+#[tactic(auto, using(crate::proofs::Named::alike_at))]
 #[inline(always)]
 pub(crate) fn stands_at(bytes: &[u8], at: usize, string: &[u8]) -> bool
     requires { IsZeroFree string.now }

@@ -1,6 +1,6 @@
-use Rattle.dwp_strings.proofs.Terms.{refl, sym, ◌∙◌}
-use Rattle.dwp_strings.proofs.HashedLemmas.{carried_among, hashed_kept, inserted_or}
-use Rattle.dwp_strings.proofs.{HashedLemmas.known_offset_in, Named.string_was}
+use Rattle.dwp_strings.proofs.Hashed.{carried_among, hashed_kept, inserted_or, known_offset_in}
+use Rattle.dwp_strings.proofs.Named.{string_was}
+use Rattle.std.proofs.Common.{refl, sym, ◌∙◌}
 use Rattle.dwp_strings.proofs.entries.Entries.keep_ordered.Goals as goal
 
 pub returns-in-Ok-place-clause-there : goal.returns-in-Ok-place-clause-there

@@ -1,7 +1,8 @@
-use Rattle.dwp_strings.proofs.Terms.{All-contains, Contains, IsZeroFree, arith, false, false≢true}
-use Rattle.dwp_strings.proofs.Terms.{held, offset_of, refl, sym, true, ◌↔◌, ◌∙◌, ◌≡◌}
-use Rattle.dwp_strings.proofs.HashedLemmas.{known_offset_in, misplaced, unordered, unplaced}
-use Rattle.dwp_strings.proofs.{Named.zero_free-strings_in, Named.zero_within}
+use Rattle.dwp_strings.proofs.Hashed.{known_offset_in, misplaced, unordered, unplaced}
+use Rattle.std.proofs.Common.{Contains, arith, false, refl, sym, true, ◌↔◌, ◌∙◌, ◌≡◌}
+use Rattle.dwp_strings.specs.{Hashed.held, Strings.IsZeroFree, Strings.offset_of}
+use Rattle.std.proofs.lemmas.{Bool.false≢true, List.Elements.All-contains}
+use Rattle.dwp_strings.proofs.Named.{zero_free-strings_in, zero_within}
 use Rattle.dwp_strings.proofs.table.StringTable.find_counted.Goals as goal
 
 is_absent : {P : Type 0} → (P → ⊥) → (false ≡ true) ↔ P
