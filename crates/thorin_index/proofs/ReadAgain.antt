@@ -24,7 +24,7 @@ use Rattle.std.proofs.lemmas.List.Sums.{count_by-le-length, length-filter}
 use Rattle.std.proofs.lemmas.Option.{get_or_from_slice_get, slice_get_within}
 use Rattle.std.specs.List.{list_any, position_from, range_with_len}
 use Rattle.dwp_base.specs.{declared.section.SectionKind.TheVariants.Info, Sections.rank_of}
-use Rattle.dwp_index.proofs.{Columns.kind_of_number, NumberLists.is_some-position}
+use Rattle.dwp_index.proofs.Indexes.{is_some-position, kind_of_number}
 use Rattle.dwp_index.specs.Index.{column_place, contribution, Index, range_in, Ranges, row_in}
 use Rattle.dwp_table.specs.Columns.{kind_of_column}
 use Rattle.thorin_index.specs.{EntryTests.tests_under, IndexText.version_bytes, ReadBack.index_with}

@@ -37,7 +37,7 @@ pub use Rattle.dwp_elf.specs.Contents.{appended, content_of, count_of, KindsDiff
 pub use Rattle.dwp_elf.specs.FileText.{file_text, Object as File}
 pub use Rattle.dwp_elf.specs.Growing.{Contents, contribution_put, HasFront, with_bytes}
 pub use Rattle.dwp_elf_read.specs.Elf.{Elf, elf_of}
-pub use Rattle.dwp_index.proofs.HeldContents.{another_kind, held_content}
+pub use Rattle.dwp_index.proofs.Packages.{another_kind, held_content}
 pub use Rattle.dwp_index.specs.Holding.{HasContent, sections_of}
 pub use Rattle.dwp_index.specs.Index.{column_place, Index, Ranges}
 pub use Rattle.dwp_index.specs.Package.{index_for, is_outside, kind_of, Package, part_of, place_of}

@@ -12,7 +12,7 @@ use Rattle.dwp_elf.proofs.ReadingBack.{elf_of-file_text}
 use Rattle.dwp_elf.specs.FileText.{headers_place, name_table, Object}
 use Rattle.dwp_elf.specs.{Numbers.Fits, Written.written_elf, Written.written_sections}
 use Rattle.dwp_elf_read.specs.Layout.{word_size}
-use Rattle.dwp_index.proofs.HeldContents.{empty, foreign, index_missing, package_is}
+use Rattle.dwp_index.proofs.Packages.{empty, foreign, index_missing, package_is}
 use Rattle.dwp_index.specs.IndexBytes.{index_of, version_of}
 use Rattle.dwp_index.specs.Package.{index_in_section, package_of}
 use Rattle.thorin_index.proofs.ReadAgain.{index_is_read, written_rows}

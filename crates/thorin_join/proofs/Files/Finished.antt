@@ -11,8 +11,8 @@ use Terms.{Package, part_of, range_in, refl, row_bytes, rows_of, same_kind, same
 use Terms.{sections_of, slice_get, slice_index, Some, suc, sym, take-length, true, units_in}
 use Terms.{units_of, UnitSection, with_bytes, zero, [], ℕ, ◌++◌, ◌+◌, ◌<◌, ◌∙◌, ◌∷◌, ◌≡◌, ◌≤◌}
 use Rattle.thorin_join.proofs.Units.InRows.{chosen-sort, distinct_chosen, same-sort, same_name-true}
-use Rattle.dwp_index.{proofs.UsedOnce.entries_once, specs.Contents.content}
-use Rattle.dwp_index.proofs.PackageLookUp.{absent_unit, no_index, present_unit}
+use Rattle.dwp_index.proofs.Packages.{absent_unit, no_index, present_unit}
+use Rattle.dwp_index.{proofs.Indexes.entries_once, specs.Contents.content}
 use Rattle.thorin_index.specs.ReadRows.{HasContributions, HasEntries, non_empty}
 use Rattle.thorin_join.proofs.Files.Contents.{chosen-fit, HasRows, index-read, package_held}
 use Rattle.thorin_join.specs.Builder.{finish_test, indexes_test, IsFinishedState, State}

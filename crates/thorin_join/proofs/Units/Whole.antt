@@ -9,7 +9,7 @@ use Terms.{unit_taken, UnitRead, UnitSection, [], ℕ, ◌++◌, ◌+◌, ◌-�
 use Rattle.thorin_join.proofs.Units.ReadInTurn.{each-all, name-identity, sections-are, WasRead}
 use Rattle.thorin_join.proofs.Moved.{FiveOrType, IsShifted, unit-five, unit-moves}
 use Rattle.dwp_units.specs.Units.{unit_at, units}
-use Rattle.dwp_index.proofs.TwoPlaces.{unit_anywhere, units_alone, within_at}
+use Rattle.dwp_index.proofs.UnitBytes.{unit_anywhere, units_alone, within_at}
 use Rattle.thorin_join.proofs.{Moved.plain, Units.ReadInTurn.Reads}
 use Rattle.dwp_dwarf.specs.Entries.{DebugAttribute}
 use Rattle.dwp_units.specs.declared.unit.UnitSection.TheVariants as places
