@@ -25,7 +25,7 @@ use Rattle.dwp_units.specs.Units.{header_at, older_at, older_type_at, unit_at, u
 use Rattle.thorin_join.proofs.{Joined.takes, Rows.OfUnits.whole-part, Rows.StandApart.sound-inside}
 use Rattle.thorin_join.proofs.Units.{InRows.same_name-self, InRows.same_name-true, Whole.units-go}
 use Rattle.dwp_dwarf.specs.{Abbreviations.Declaration, Abbreviations.declaration, Offsets.from_at}
-use Rattle.dwp_dwarf.proofs.{Offsets.from_is, Offsets.from_within, Tables.next_takes, Tables.said}
+use Rattle.dwp_dwarf.proofs.Tables.{from_is, from_within, next_takes, said}
 use Rattle.thorin_join.proofs.Rows.OneAdded.{grows-with_bytes, keep-part, own-place, part-inside}
 use Rattle.thorin_join.proofs.Joined.{grows-with_parts, keys-held, Made, same-begun, source-made}
 use Rattle.thorin_join.proofs.Parts.Added.{content-with_bytes, content-with_parts, parts-copied}
