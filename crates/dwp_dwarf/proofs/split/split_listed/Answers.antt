@@ -1,7 +1,6 @@
-use Rattle.dwp_dwarf.proofs.Terms
-use Terms.{◌+◌, ap, attribute_of, attributes, attributes_of, drop, drop_more, map, specification_of}
-use Terms.{SplitAttributes, sym, ◌∙◌}
+use Rattle.dwp_dwarf.proofs.Terms.{SplitAttributes, attribute_of, attributes_of, specification_of}
 use Rattle.dwp_dwarf.specs.declared.abbrev.AttributeSpecification.{AttributeSpecification}
+use Rattle.dwp_dwarf.proofs.Terms.{ap, attributes, drop, drop_more, map, sym, ◌+◌, ◌∙◌}
 use Rattle.dwp_dwarf.proofs.Values.{after_first, joined_rest}
 use Rattle.dwp_dwarf.proofs.split.split_listed.Goals as goal
 

@@ -1,6 +1,5 @@
-use Rattle.dwp_dwarf.proofs.Terms
-use Terms.{attributes, attributes_of, drop, map, specification_of, split_in, ◌≡◌}
-use Rattle.dwp_dwarf.proofs.Values.{joined_rest}
+use Rattle.dwp_dwarf.proofs.Terms.{attributes, attributes_of, drop, map, split_in, ◌≡◌}
+use Rattle.dwp_dwarf.proofs.{Terms.specification_of, Values.joined_rest}
 use Rattle.dwp_dwarf.proofs.split.split_listed.Given as goal
 
 -- those found and those left have the meaning of all
