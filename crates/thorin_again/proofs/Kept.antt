@@ -25,7 +25,7 @@ use Rattle.dwp_units.specs.Units.{header_at, older_at, older_type_at, unit_at, u
 use Rattle.thorin_join.proofs.Joined.{Made, names-added, same-begun, sound-inside, source-made}
 use Rattle.thorin_join.proofs.Parts.{each-unit as unit-by-unit, joined_parts-other, parts-copied}
 use Rattle.dwp_dwarf.specs.{Abbreviations.Declaration, Abbreviations.declaration, Offsets.from_at}
-use Rattle.dwp_dwarf.proofs.{Offsets.from_is, Offsets.from_within, Tables.next_takes, Tables.said}
+use Rattle.dwp_dwarf.proofs.Tables.{from_is, from_within, next_takes, said}
 use Rattle.thorin_join.proofs.Rows.{adjusted-plain, front-long, grows-trans, row-part, whole_behind}
 use Rattle.thorin_join.proofs.Rows.{content-put, IsUnitRow, part-inside, row-name, whole-else}
 use Rattle.thorin_join.proofs.Units.{added-keys, AllSo, AreAdded, each-all, IsKnown, Listed, Reads}

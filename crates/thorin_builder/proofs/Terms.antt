@@ -28,7 +28,7 @@ pub use Rattle.dwp_elf.specs.{FileText.Object, FileText.Object as File, Growing.
 pub use Rattle.thorin_errors.specs.Answers.{Gives, MemoryAside}
 pub use Rattle.thorin_errors.specs.{declared.error.Error.Error, Errors.error_of}
 pub use Rattle.thorin_errors.specs.declared.error.InputError.TheVariants.{Io, Memory}
-pub use Rattle.thorin_index.{proofs.RowLemmas.at_least, specs.Rows.blank}
+pub use Rattle.thorin_index.{proofs.Rows.at_least, specs.Rows.blank}
 pub use Rattle.thorin_input.specs.Encodings.{common, one_encoding}
 pub use Rattle.thorin_input.specs.{Held.unit_bytes, Names.with_name, UnitView.new_of, View.part}
 pub use Rattle.thorin_input.specs.NewUnits.{none_met, or_held, SeenSections}

@@ -12,7 +12,7 @@ use Rattle.thorin_check.specs.Remembered.{bytes_at, is_in_types, IsReadIn, numbe
 use Rattle.std.specs.{BTreeMap.insert_entry, declared.cmp.Ordering.Ordering, Map.values_of}
 use Rattle.thorin_check.specs.{declared.abbreviations.UnitPlace.UnitPlace, Faults.is_of}
 use Rattle.std.proofs.{Common.option_map, lemmas.Map.Views.All-values-insert_entry}
-use Rattle.{dwp_bytes.specs.Input.section, dwp_index.proofs.PackageLookUp.by_row}
+use Rattle.{dwp_bytes.specs.Input.section, dwp_index.proofs.Packages.by_row}
 use Rattle.dwp_index.specs.Finding.{LiesInside, own_bytes, own_place}
 use Rattle.thorin_check.specs.Remembered.{own_at, place_in, said_of}
 use Rattle.dwp_index.specs.Package.{found, part_of, unit_in}

@@ -16,7 +16,7 @@ use Rattle.dwp_index.specs.Package.{found, FoundUnit, Package, row_bytes, unit_i
 use Rattle.{std.specs.Option.option_eq, thorin_check.proofs.Own.row_of_found}
 use Rattle.std.proofs.lemmas.List.Folds.{list_any_at, list_any_none}
 use Rattle.memchr.specs.Find.{is_byte, IsLastByte, Nowhere, Passes}
-use Rattle.dwp_index.proofs.PackageLookUp.{by_row}
+use Rattle.dwp_index.proofs.Packages.{by_row}
 use Rattle.thorin_check.specs.contracts.strings.StringRangePartialEq.TheImpl as ranges
 
 module _ (strings : List ℕ) where

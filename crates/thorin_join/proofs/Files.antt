@@ -19,12 +19,12 @@ use Rattle.dwp_elf.specs.FileText.{headers_place, name_table, Object}
 use Rattle.dwp_elf.specs.{Numbers.Fits, Written.written_sections}
 use Rattle.dwp_elf.{proofs.ReadingBack.elf_of-file_text, specs.Written.written_elf}
 use Rattle.dwp_elf_read.specs.Layout.{word_size}
-use Rattle.dwp_index.proofs.HeldContents.{empty, foreign, index_missing, package_is}
-use Rattle.dwp_index.proofs.PackageLookUp.{absent_unit, no_index, present_unit}
+use Rattle.dwp_index.proofs.Packages.{empty, foreign, index_missing, package_is}
+use Rattle.dwp_index.proofs.Packages.{absent_unit, no_index, present_unit}
 use Rattle.dwp_index.specs.Finding.{IsNotNamed, own_place, unit_of}
 use Rattle.dwp_index.specs.{Contents.content, Finding.IsUnitOf, IndexBytes.version_of}
 use Rattle.dwp_index.specs.{Finding.own_bytes, Package.index_in_section, Package.package_of}
-use Rattle.dwp_index.{proofs.UsedOnce.entries_once, specs.IndexBytes.index_of}
+use Rattle.dwp_index.{proofs.Indexes.entries_once, specs.IndexBytes.index_of}
 use Rattle.thorin_index.proofs.ReadAgain.{index_is_read, written_rows}
 use Rattle.thorin_index.specs.ReadRows.{HasContributions, HasEntries, non_empty}
 use Rattle.thorin_join.proofs.Rows.{Grows, grows-trans, grows-with_bytes, keep-rows}

@@ -24,7 +24,7 @@ pub use Rattle.dwp_elf.specs.FileText.{file_text, Object as File}
 pub use Rattle.dwp_elf.specs.Growing.{contribution_put, HasFront, with_bytes}
 pub use Rattle.dwp_elf.{proofs.KindCounts.length-KindsDiffer, specs.Growing.Contents}
 pub use Rattle.dwp_elf_read.specs.Elf.{Elf, elf_of}
-pub use Rattle.dwp_index.proofs.HeldContents.{another_kind, held_content}
+pub use Rattle.dwp_index.proofs.Packages.{another_kind, held_content}
 pub use Rattle.dwp_index.specs.Package.{is_outside, kind_of, Package, part_of, place_of}
 pub use Rattle.dwp_index.specs.{Holding.HasContent, Holding.sections_of, Index.Index}
 pub use Rattle.dwp_index.specs.{Index.column_place, Index.Ranges, Package.index_for}

@@ -18,7 +18,7 @@ use Terms.{same-ok, same_name, section, SectionKind, slice_get, Some, Source, so
 use Terms.{sym, take-append-drop, take-length, true, type_signature, unit_section, unit_taken}
 use Terms.{UnitRead, units_of, UnitSection, Used, with_unit, [], ℕ, ◌++◌, ◌+◌, ◌-◌, ◌∙◌, ◌∷◌, ◌≡◌}
 use Rattle.dwp_dwarf.specs.Entries.{DebugAttribute}
-use Rattle.dwp_index.proofs.TwoPlaces.{unit_anywhere, units_alone, within_at}
+use Rattle.dwp_index.proofs.UnitBytes.{unit_anywhere, units_alone, within_at}
 use Rattle.dwp_units.specs.Units.{unit_at, units}
 use Rattle.std.proofs.lemmas.List.{Kept.AllPairs-filter, Quantifiers.all_pairs_push}
 use Rattle.std.proofs.lemmas.Map.Made.{is_some-lookup}

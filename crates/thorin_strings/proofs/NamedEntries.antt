@@ -99,7 +99,8 @@ module _ (order : Endianness) (encoding : Encoding) (section bytes : List ℕ) w
       entries first.2 in
       let all = entries_keep n before first.0 table first.1 in
       let named = bind-was (named_at order encoding section bytes n) _ entry.0 entry.1 in
-      let fit = bind-was (fitting_offset encoding.format (offset_of first.0.1 named.0)) _ _ named.2 in
+      let fit = bind-was (fitting_offset encoding.format (offset_of first.0.1 named.0)) _ _
+      named.2 in
       let fits = guard-ok (ltb (offset_limit encoding.format) _) _ _ fit.0 fit.1 in
       let next = used first.0.1 named.0 all.table (named_free n named.0 named.1) in
       rw (← same-ok _ _ entry.2, ← same-ok _ _ fit.2) (record {
@@ -150,7 +151,8 @@ module _ (order : Endianness) (encoding : Encoding) (section bytes : List ℕ) w
         long = λ _. long;
         named = λ i less.
             let entry = keep.each i less in
-            let read = entry_read order encoding.format entries.0.0 i (omega (arith, less, keep.long))
+            let read = entry_read order encoding.format entries.0.0 i
+            (omega (arith, less, keep.long))
             entry.fits in
             let past = drop_at header.0 tail (header_size encoding) front in
             record {

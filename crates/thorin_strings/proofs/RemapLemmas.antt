@@ -77,7 +77,8 @@ in_range Dwarf64 index front size = grind (arith, nat_tests)
 
 -- the offset that was read of an entry
 pub entry_was : (order : Endianness) (encoding : Encoding) (bytes : List ℕ) (index named : ℕ)
-    → entry_in order encoding bytes index ≡ Some named → entry_at order encoding bytes index ≡ Ok named
+    → entry_in order encoding bytes index ≡ Some named → entry_at order encoding bytes
+    index ≡ Ok named
 unfolding entry_in offset_at
 entry_was order encoding bytes index named is =
     grind (arith, in_range encoding.format index (header_size encoding) (length bytes))

@@ -17,7 +17,7 @@ pub use Rattle.dwp_base.specs.Numbers.{number, number_bytes}
 pub use Rattle.dwp_base.specs.declared.endian.Endianness.TheVariants.{Big, Little}
 pub use Rattle.dwp_bytes.specs.{declared.encoding.Encoding.Encoding, Encoding.offset_size}
 pub use Rattle.dwp_bytes.specs.StringOffsets.{entry_count, header_size}
-pub use Rattle.dwp_strings.proofs.CompareLemmas.{ended_free, ended_front, front_string}
+pub use Rattle.dwp_strings.proofs.Named.{ended_free, ended_front, front_string}
 pub use Rattle.dwp_strings.proofs.Named.{offset_within, there_later, there_once_used}
 pub use Rattle.dwp_strings.specs.{Ends.IsFirstZero, Strings.IsPlaced, Strings.IsZeroFree}
 pub use Rattle.thorin_errors.specs.Errors.{ErrorValue, NumberTooLarge}

@@ -18,7 +18,7 @@ use Rattle.dwp_index.specs.{Index.Index, Index.range_in, Index.Ranges, Package.p
 use Rattle.thorin_input.specs.Indexes.{index_for, index_in, indexes_of, is_package, version_test}
 use Rattle.dwp_bytes.specs.declared.error.ReadError.{ReadError}
 use Rattle.dwp_base.specs.declared.section.SectionKind.TheVariants.{CuIndex, TuIndex}
-use Rattle.dwp_index.proofs.HeldContents.{found-passes, named-of}
+use Rattle.dwp_index.proofs.Packages.{found-passes, named-of}
 use Rattle.dwp_index.specs.Contents.{content, content_among, contents_of, is_of_kind}
 use Rattle.std.proofs.lemmas.List.Folds.{find-append}
 use Rattle.thorin_input.proofs.Walking.{kind-full}

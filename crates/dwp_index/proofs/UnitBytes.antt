@@ -1,23 +1,87 @@
--- What a reading gave of a section it gives again elsewhere, of the bytes alone that it took; so a
--- unit is read again from its own bytes.
-use Rattle.std.proofs.Common.{Bool, Err, List, Ok, Result, ℕ, ◌&&◌, ◌+◌, ◌-◌, ◌∙◌, ◌≡◌, ◌≤◌, ◌⊎◌}
-use Rattle.std.proofs.Common.{add-zero, add_assoc, arith, cond, drop, false, length, refl, subst}
-use Rattle.std.proofs.Common.{ap, eqb, inl, inr, leb, ltb, suc, sym, take, true, zero}
-use Rattle.std.proofs.lemmas.List.{drop-drop, get_or-take, length-drop, length-take, length-take-le}
-use Rattle.std.proofs.lemmas.List.{drop-take, take-take}
-use Rattle.std.specs.Prelude.{slice_get, Some, []}
-use Rattle.dwp_index.proofs.Terms.{Dwarf32, Dwarf64, Encoding, Endianness, number, ReadError, ◌>>=◌}
-use Rattle.dwp_index.proofs.Terms.{bind-was, encoding_in, UnexpectedEof, UnitSection}
-use Rattle.dwp_bytes.specs.Input.{is_address_size, number_at, offset_at, relocated_at, split_at}
-use Rattle.dwp_bytes.specs.Input.{after, byte_at, Input, section}
-use Rattle.dwp_units.proofs.Readings.{error_gives, more_gives, test_gives, then_gives, value_gives}
-use Rattle.dwp_units.proofs.{Readings.Gives, Readings.then_split, Units.unit_taken}
+-- The first unit of a section, and the header of a split compilation unit of DWARF 5, in the 32-bit
+-- format. What a reading gave of a section it gives again elsewhere, of the bytes alone that it
+-- took; so a unit is read again from its own bytes.
+use Rattle.std.proofs.Common.{Result, arith, false, get_or, le-ltb, length, subst, true, zero, ◌&&◌}
+use Rattle.std.proofs.Common.{Err, Ok, [], ap, eqb, inl, inr, leb, ltb, suc, sym, ℕ, ◌+◌, ◌-◌, ◌<◌}
+use Rattle.dwp_bytes.specs.Input.{Input, after, byte_at, number_at, offset_at, section, split_at}
+use Rattle.std.proofs.Common.{Bool, List, Some, cond, drop, refl, take, ◌∙◌, ◌∷◌, ◌≡◌, ◌≤◌, ◌⊎◌}
+use Rattle.dwp_base.specs.{Numbers.number, Reading.◌>>=◌, declared.endian.Endianness.Endianness}
+use Rattle.std.proofs.lemmas.{Bool.Decides.nat_tests, Grind.get_or_after_one, List.drop-take}
+use Rattle.std.proofs.Common.{get_or-drop, get_or-take, length-drop, length-take, take-take}
+use Rattle.dwp_units.specs.Units.{Unit, listed, newer_at, older_at, type_at, unit_at, units}
+use Rattle.dwp_units.{proofs.Units.units-cases, specs.declared.unit.UnitSection.UnitSection}
+use Rattle.dwp_units.proofs.Readings.{Gives, more_gives, test_gives, then_gives, then_split}
+use Rattle.dwp_bytes.specs.{Encoding.offset_size, Input.is_address_size, Input.relocated_at}
+use Rattle.std.proofs.Common.{add-zero, add_assoc, drop-drop, lt-ltb, ltb-false, slice_get}
+use Rattle.dwp_units.proofs.{Readings.error_gives, Readings.value_gives, Units.unit_taken}
+use Rattle.dwp_bytes.specs.declared.error.ReadError.{ReadError, TheVariants.UnexpectedEof}
+use Rattle.dwp_units.specs.Units.{header_at, unit_code_at, unit_type_at, units_within}
 use Rattle.dwp_units.specs.Units.{address_size_at, initial_length_at, older_type_at}
-use Rattle.dwp_units.specs.Units.{header_at, newer_at, unit_code_at, unit_type_at, units_within}
-use Rattle.dwp_units.specs.Units.{listed, older_at, type_at, Unit, unit_at, units}
-use Rattle.std.proofs.lemmas.Bool.{le-ltb, ltb-false}
-use Rattle.dwp_bytes.specs.{declared.encoding.Format.Format, Encoding.offset_size}
+use Rattle.dwp_bytes.specs.declared.encoding.Format.TheVariants.{Dwarf32, Dwarf64}
+use Rattle.{dwp_base.proofs.Steps.bind-was, dwp_index.specs.Package.encoding_in}
+use Rattle.dwp_bytes.specs.declared.encoding.{Encoding.Encoding, Format.Format}
 use Rattle.dwp_units.specs.declared.unit.UnitSection.TheVariants.{Info, Types}
+use Rattle.std.proofs.Common.{length-take-le}
+
+-- the encoding of the first of these units
+abbrev first_encoding : List (Result Unit ReadError) → Result Encoding ReadError
+first_encoding [] = Err UnexpectedEof
+first_encoding (unit ∷ units) = unit >>= λ u. Ok u.encoding
+
+no_unit : (place : UnitSection) (i : Input) → length i.bytes ≡ 0
+    → unit_at place i ≡ Err UnexpectedEof
+unfolding unit_at initial_length_at number_at
+no_unit place i e = rw e refl
+
+-- it is what is read of the bytes
+pub encoding_first : (order : Endianness) (place : UnitSection) (bytes : List ℕ)
+    → encoding_in order place bytes ≡ first_encoding (units place (section order bytes))
+unfolding encoding_in
+encoding_first order place bytes =
+    let i = section order bytes in grind (arith, nat_tests, units-cases place i, no_unit place i)
+
+-- the encoding of such a header, whatever follows it
+header_goes : (place : UnitSection) (whole i rest : Input) → 16 ≤ length i.bytes → number i.order
+    2 i.bytes ≡ 5 → get_or (drop 2 i.bytes) 0 0 ≡ 5 → get_or (drop 1 (drop 2 i.bytes)) 0 0 ≡ 8
+    → ((header_at place Dwarf32 whole i >>= λ (unit : Unit). Ok (unit, rest))
+    >>= λ (unit : Unit × Input). Ok unit.0.encoding) ≡ Ok
+    (record { version = 5; format = Dwarf32; address_size = 8 })
+unfolding header_at newer_at unit_code_at address_size_at unit_type_at
+    offset_at relocated_at number_at byte_at
+header_goes place whole i rest h version five eight =
+    let two = length-drop 2 i.bytes in
+    let three = length-drop 1 (drop 2 i.bytes) in
+    let four = length-drop 1 (drop 1 (drop 2 i.bytes)) in
+    let last = length-drop 4 (drop 1 (drop 1 (drop 2 i.bytes))) in rw (
+      le-ltb (length i.bytes) 2 (omega arith),
+      version,
+      le-ltb (length (drop 2 i.bytes)) 1 (omega arith),
+      five,
+      le-ltb (length (drop 1 (drop 2 i.bytes))) 1 (omega arith),
+      eight,
+      le-ltb (length (drop 1 (drop 1 (drop 2 i.bytes)))) 4 (omega arith),
+      le-ltb (length (drop 4 (drop 1 (drop 1 (drop 2 i.bytes))))) 8 (omega arith),
+    ) refl
+
+-- the encoding of such a unit, wherever it stands
+pub split_encoding : (order : Endianness) (place : UnitSection) (bytes body : List ℕ) (n : ℕ)
+    → number order 4 bytes ≡ n → n < 0xfffffff0 → 16 ≤ n → n + 4 ≤ length bytes
+    → body ≡ take n (drop 4 bytes) → number order 2 body ≡ 5 → get_or body 2 0 ≡ 5
+    → get_or body 3 0 ≡ 8 → encoding_in order place bytes
+    ≡ Ok (record { version = 5; format = Dwarf32; address_size = 8 })
+unfolding encoding_in unit_at initial_length_at split_at number_at
+split_encoding order place bytes body n length_is narrow enough fits same version five eight =
+    let left = length-drop 4 bytes in
+    let long = ap length same ∙ length-take-le n (drop 4 bytes) (omega arith) in rw (
+      le-ltb (length bytes) 4 (omega arith),
+      length_is,
+      lt-ltb n 0xfffffff0 narrow,
+      le-ltb (length (drop 4 bytes)) n (omega arith),
+      le-ltb (length bytes) (0 + 4 + n - 0) (omega arith),
+      ← same,
+    ) (header_goes place _ (record (section order bytes) { place = 0 + 4; bytes = body }) _
+    (omega arith) version (get_or-drop 2 body 0 0 ∙ five)
+    (get_or_after_one (drop 2 body) 0 0 ∙ get_or-drop 2 body 1 0 ∙ eight))
 
 -- bytes that nothing relocates, from a place on
 abbrev pub plain : Endianness → ℕ → List ℕ → Input

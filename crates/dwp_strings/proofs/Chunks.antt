@@ -1,20 +1,21 @@
 -- A list cut into pieces: where each begins, what a rank finds, and how the whole changes with
 -- them. No piece is long: it is cut in its middle before it would be.
-use Rattle.std.proofs.lemmas.List.{drop-map, drop_all, get_or-append_right, get_or_append_left}
-use Rattle.std.proofs.lemmas.List.{length-map, map-append, map-set, map_more, set-get_or, set_split}
-use Rattle.std.proofs.lemmas.List.{take-map, take_all, take_more, take_more_set}
-use Rattle.std.proofs.lemmas.List.Edits.{get_or-insert_above, get_or-insert_at, get_or-insert_below}
-use Rattle.std.proofs.lemmas.List.Edits.{insert-append_left, insert-append_right, length-insert}
-use Rattle.std.proofs.lemmas.List.Edits.{map_over_more}
+use Rattle.std.proofs.Common.{Bool, ap₂, drop, filter, length-drop, map, refl, take, ◌++◌, ◌<◌, ◌∙◌}
+use Rattle.std.proofs.Common.{Vec, length, length-set, length-take, take-append-drop, take_all, ◌≤◌}
+use Rattle.std.proofs.lemmas.List.Edits.{get_or-insert_at, get_or-insert_below, insert-append_right}
+use Rattle.std.proofs.lemmas.List.{Folds.concat-append, Sums.count_by-le-length, Sums.length-filter}
+use Rattle.std.proofs.lemmas.List.{get_or-map, get_or_append_left, map_more, set-get_or, take_more}
+use Rattle.dwp_strings.specs.Chunks.{AreShort, IsChunked, IsHalved, IsPieceOf, pieces, starts_from}
+use Rattle.std.proofs.lemmas.List.Edits.{get_or-insert_above, insert-append_left, map_over_more}
+use Rattle.std.proofs.lemmas.List.{drop-map, drop_all, get_or-append_right, map-append, map-set}
+use Rattle.std.proofs.{Common.append_assoc, Math.Seq.split_at, lemmas.List.Edits.length-insert}
+use Rattle.std.proofs.Common.{[], add-one, insert, length-append, set, sym, zero, ℕ, ◌-◌, ◌∷◌}
+use Rattle.std.proofs.lemmas.List.{get_or_default, length-map, set_split, take-map, take_rest}
+use Rattle.std.proofs.Common.{List, ap, append-nil, arith, get_or, suc, ◌+◌, ◌/◌, ◌≡◌, ◌⊎◌}
+use Rattle.std.proofs.lemmas.{Grind.common_steps, Grind.get_or-set_at, List.take_more_set}
 use Rattle.std.proofs.lemmas.List.Elements.{All-cons, All-map, All-set, filter-append}
-use Rattle.std.proofs.lemmas.List.Sums.{count_by-le-length, length-filter}
-use Rattle.dwp_strings.proofs.Terms
-use Terms.{All-permutation, Bool, IsChunked, IsPermutation-insert, List, Vec, [], add-one, ap}
-use Terms.{append-nil, append_assoc, ap₂, arith, common_steps, concat, concat-append, drop, filter}
-use Terms.{get_or, get_or-map, get_or-set_at, get_or_default, insert, length, length-append}
-use Terms.{length-drop, length-set, length-take, map, pieces, refl, set, split_at, suc, sym, take}
-use Terms.{take-append-drop, take_rest, zero, ℕ, ◌++◌, ◌+◌, ◌-◌, ◌/◌, ◌<◌, ◌∙◌, ◌∷◌, ◌≡◌, ◌≤◌, ◌⊎◌}
-use Rattle.dwp_strings.specs.Chunks.{AreShort, IsHalved, IsPieceOf, starts_from}
+use Rattle.std.proofs.lemmas.List.Sorted.{All-permutation, IsPermutation-insert}
+use Rattle.std.specs.List.{concat}
 
 pub length-starts_from : (n : ℕ) (ps : List (List ℕ)) → length (starts_from n ps) ≡ length ps
 length-starts_from n [] = refl

@@ -1,13 +1,59 @@
--- What a mask of at most 64 bytes says of each.
-use Rattle.std.proofs.lemmas.Simd.{bit_mask_l, get_or-zip2, length-chunk, length-sel_l, length-zip2}
-use Rattle.std.proofs.lemmas.Simd.{get_or-chunk, get_or-replicate, get_or-sel_l, tops_compared}
-use Rattle.std.proofs.{lemmas.Nat.Bits.bit_at-trailing_zeros, lemmas.Simd.mask_l-mod}
-use Rattle.std.specs.{Int.bit_at, Int.Count.trailing_of_zero, Int.trailing_zeros}
-use Rattle.std.specs.Simd.Lanes.{mask_l, sel_l, top, zip2}
-use Rattle.dwp_strings.proofs.Terms
-use Terms.{Bool, List, ap, ap₂, arith, cases_lt, cond, drop, elements, eqb, eqb-false, false}
-use Terms.{get_or, get_or-take, length, length-replicate, length-take, ltb, map, nat_tests, not}
-use Terms.{replicate, sym, take, true, w64, w8, ℕ, ◌%◌, ◌+◌, ◌<◌, ◌^◌, ◌∙◌, ◌≡◌, ◌≢◌, ◌≤◌}
+-- What a vector that is stored makes of a copy, and what a mask of at most 64 bytes says of each.
+use Rattle.std.proofs.Common.{Bool, drop, eqb, false, length-take-le, true, ◌-◌, ◌<◌, ◌^◌, ◌∙◌, ◌≤◌}
+use Rattle.std.proofs.lemmas.Simd.{bit_mask_l, get_or-zip2, length-chunk, length-sel_l, mask_l-mod}
+use Rattle.std.proofs.lemmas.Simd.{get_or-chunk, get_or-put_chunk_above, get_or-sel_l, length-zip2}
+use Rattle.std.specs.{Int.Count.trailing_of_zero, Int.bit_at, Int.trailing_zeros, Vec.with_items}
+use Rattle.std.proofs.Common.{List, ap₂, arith, cond, get_or, length, ltb, not, take, w8, ℕ, ◌≡◌}
+use Rattle.std.proofs.lemmas.{Grind.elements, Simd.get_or-put_chunk_below, Simd.tops_compared}
+use Rattle.std.proofs.lemmas.Simd.{get_or-put_chunk_at, get_or-replicate, length-put_chunk}
+use Rattle.std.proofs.Common.{ap, get_or-take, length-append, length-take, map, ◌%◌, ◌++◌}
+use Rattle.std.proofs.{Math.Seq.take-append-add, lemmas.Nat.Bits.bit_at-trailing_zeros}
+use Rattle.std.proofs.lemmas.List.{length-replicate, take-append-le, with_items_is}
+use Rattle.std.proofs.Common.{Vec, length-drop, replicate, sym, w64, ◌+◌, ◌≢◌}
+use Rattle.std.proofs.lemmas.Bool.{Decides.nat_tests, cases_lt, eqb-false}
+use Rattle.std.specs.Simd.Lanes.{mask_l, put_chunk, sel_l, top, zip2}
+
+-- so many bytes of a place
+module _ (bytes room : List ℕ) (at n : ℕ) (within : at + n ≤ length bytes)
+    (fits : at + n ≤ length room) where
+  abbrev taken : List ℕ
+  taken = take n (drop at bytes)
+
+  -- these are the same then
+  pub stored_there : (k : ℕ) → at ≤ k → k < at + n
+      → get_or (put_chunk at room taken) k 0 ≡ get_or bytes k 0
+  stored_there k low less =
+      let put = get_or-put_chunk_at at room taken (k - at) 0 in
+      let got = get_or-chunk at n bytes (k - at) 0 in
+      grind (arith, put, got, length-chunk at n bytes within)
+
+  -- and those that were
+  pub stored_kept : (k : ℕ) → get_or room k 0 ≡ get_or bytes k 0
+      → get_or (put_chunk at room taken) k 0 ≡ get_or bytes k 0
+  stored_kept k was =
+      let below = get_or-put_chunk_below at room taken k 0 in
+      let above = get_or-put_chunk_above at room taken k 0 in
+      let long = length-chunk at n bytes within in
+      grind (arith, below, above, stored_there k, long, cases_lt k at, cases_lt k (at + n))
+
+-- how long it stays, too
+pub ruleset stored = (stored_there, stored_kept, length-put_chunk)
+
+-- room of a list, once it is written to:
+-- what stands in it is behind what is used
+pub in_room : {Z : Type 0} (v : Vec ℕ Z) (items room : List ℕ) (used k n : ℕ)
+    → length items ≡ v.len → used ≤ length items → length room ≡ length items - used
+    → k ≡ length items - used → n ≤ length room
+    → take (used + n) (with_items v (take used items ++ (room ++ drop k (drop used items)))).items
+    ≡ take used items ++ take n room
+in_room v items room used k n whole within long is fits =
+    let front = take used items in
+    let behind = drop k (drop used items) in
+    ap (take (used + n)) (with_items_is v (front ++ (room ++ behind))
+    (grind (arith, length-append, length-take-le, length-drop)))
+    ∙ ap (λ u. take (u + n) (front ++ (room ++ behind))) (sym (length-take-le used items within))
+    ∙ take-append-add front (room ++ behind) n
+    ∙ ap (λ l. front ++ l) (take-append-le n room behind fits)
 
 -- the mask of a test of two vectors of bytes, as it is computed
 abbrev mask_of : (ℕ → ℕ → Bool) → List ℕ → List ℕ → ℕ

@@ -1,30 +1,166 @@
 -- The strings of a table: some positions of them, in their order; places at which they begin, and
--- strings that are used. Strings of entries, found by their hashes, or else by their order.
-use Rattle.dwp_strings.proofs.Terms
-use Terms.{All, All-contains, All-permutation, AllPairs, BeginsAt, Bool, Contains, Decides-eqb, Err}
-use Terms.{IsBefore, IsHashed, IsIndexed, IsOrdered, IsPermutation-insert, IsPlaced, IsTable}
-use Terms.{IsZeroFree, List, None, Ok, OnErr, OnOk, Result, Some, StandsAt, [], ap, arith, cases_eq}
-use Terms.{cond-true, data_of, drop, false, filter, get_or, get_or-map, get_or-take, get_or_default}
-use Terms.{held, insert, length, length-append, length-take, lt-ltb, ltb, ltb-true, map}
-use Terms.{nat_eq_equiv, nat_list_cmp_total, offset_of, refl, split_at, string_from, strings_in, suc}
-use Terms.{sym, take, take-append-drop, take_at, terminated, tied_itself, with_string, ℕ, ⊎_elim}
-use Terms.{◌++◌, ◌+◌, ◌-◌, ◌<◌, ◌^◌, ◌∙◌, ◌∷◌, ◌≡◌, ◌≢◌, ◌≤◌}
-use Rattle.std.proofs.lemmas.List.Elements.{All-cons, All-filter, All-push, All-take, filter_passes}
-use Rattle.std.proofs.lemmas.List.Elements.{Contains-append_right, Contains-get_or}
-use Rattle.std.proofs.lemmas.List.Elements.{Contains-push_cases}
-use Rattle.dwp_strings.proofs.Named.{begins_there, begun_later, distinct_push, has_Decides}
-use Rattle.dwp_strings.proofs.Named.{known_offset, length-data_of-cons, offset_of-absent}
-use Rattle.dwp_strings.proofs.Named.{strings_in-data_of, there_later, there_once_used}
-use Rattle.dwp_strings.proofs.Named.{zero_free-strings_in}
-use Rattle.std.proofs.lemmas.List.{length-map, Elements.filter-append, Sorted.Contains-permutation}
-use Rattle.std.proofs.{lemmas.List.flat_map_more, lemmas.Map.Made.is_member-Decides}
-use Rattle.std.proofs.lemmas.List.{Concat.flat_map-append, Edits.length-insert}
-use Rattle.std.proofs.lemmas.List.{Kept.AllPairs-filter}
-use Rattle.dwp_strings.specs.{Hashed.IsFound, Places.hash, Places.place_in, Places.shared}
-use Rattle.dwp_strings.specs.declared.entries.Entries.{Entries}
+-- strings that are used. Strings of entries, found by their hashes, or else by their order. The
+-- hash of a string, made of blocks of sixteen bytes, and places of strings by hashes, in slots.
+use Rattle.std.proofs.Common
+use Common.{OnErr, Result, arith, false, filter, get_or, insert, length, lt-ltb, take_at, ⊎_elim}
+use Common.{Bool, List, None, OnOk, Some, drop, refl, take, zero, ◌++◌, ◌∙◌, ◌∷◌, ◌≡◌, ◌≢◌, ◌≤◌}
+use Common.{All, Err, Ok, [], ap, ltb, map, set, suc, sym, ℕ, ◌%◌, ◌*◌, ◌+◌, ◌-◌, ◌/◌, ◌<◌, ◌^◌}
+use Common.{AllPairs, Contains, get_or-drop, get_or-take, length-append, length-take, ltb-true}
+use Common.{get_or-set_other, get_or-set_same, take-append-drop}
+use Rattle.dwp_strings.proofs.Named.{distinct_push, known_offset, offset_of-absent, there_once_used}
 use Rattle.std.proofs.lemmas.List.Edits.{get_or-insert_above, get_or-insert_at, get_or-insert_below}
-use Rattle.std.proofs.lemmas.Map.Made.{IsDistinct-from_AllPairs, length-le_from_is_member}
-use Rattle.std.specs.declared.alloc.AllocError.{AllocError}
+use Rattle.dwp_strings.proofs.Named.{length-data_of-cons, strings_in-data_of, zero_free-strings_in}
+use Rattle.std.proofs.lemmas.{Cmp.nat_eq_equiv, Cmp.tied_itself, Map.Made.length-le_from_is_member}
+use Rattle.dwp_strings.specs.Places.{IsSlotOf, free, hash, home, place_in, place_of, shared, wide}
+use Rattle.dwp_strings.specs.Strings.{IsZeroFree, offset_of, strings_in, terminated, with_string}
+use Rattle.dwp_strings.specs.Strings.{BeginsAt, IsBefore, IsIndexed, IsPlaced, StandsAt, data_of}
+use Rattle.{dwp_bytes.specs.StringOffsets.string_from, std.proofs.lemmas.Cmp.nat_list_cmp_total}
+use Rattle.std.proofs.lemmas.List.Elements.{Contains-get_or, Contains-push_cases, filter_passes}
+use Rattle.std.proofs.lemmas.List.{Concat.flat_map-append, Elements.All-cons, Elements.All-push}
+use Rattle.std.proofs.lemmas.Bool.{Decides.Decides-eqb, cases_eq, cases_lt, cond-true, lt-leb}
+use Rattle.std.proofs.lemmas.List.Elements.{All-contains, All-filter, All-take, filter-append}
+use Rattle.std.proofs.lemmas.List.{Edits.length-insert, Kept.AllPairs-filter, get_or_default}
+use Rattle.dwp_strings.specs.{Hashed.IsFound, Hashed.IsHashed, Hashed.held, Strings.IsTable}
+use Rattle.std.proofs.lemmas.List.{Elements.Contains-append_right, Sorted.All-permutation}
+use Rattle.dwp_strings.proofs.Named.{begins_there, begun_later, has_Decides, there_later}
+use Rattle.dwp_strings.specs.Places.{IsOrdered, after_block, after_blocks, place_from}
+use Rattle.std.proofs.lemmas.List.{flat_map_more, get_or-map, get_or_past, length-map}
+use Rattle.std.proofs.lemmas.List.Sorted.{Contains-permutation, IsPermutation-insert}
+use Rattle.std.{proofs.Math.Seq.split_at, specs.declared.alloc.AllocError.AllocError}
+use Rattle.std.proofs.lemmas.Map.Made.{IsDistinct-from_AllPairs, is_member-Decides}
+use Rattle.dwp_strings.specs.declared.{entries.Entries.Entries, places.Slot.Slot}
+use Rattle.std.specs.Hash.FoldHasher.{initial, mix, read_u32}
+
+-- the state after the blocks before a place
+unfoldable pub mixed_to : List ℕ → ℕ → ℕ
+mixed_to bytes at = after_blocks bytes ((0x243f_6a88_85a3_08d3 + length bytes) % 2 ^ 64) (at / 16)
+
+-- before any
+pub mixed_first : (bytes : List ℕ) (state : ℕ)
+    → state ≡ (0x243f_6a88_85a3_08d3 + length bytes) % 2 ^ 64 → state ≡ mixed_to bytes 0
+unfolding mixed_to after_blocks
+mixed_first bytes state is = is
+
+-- after one more
+pub mixed_more : (bytes : List ℕ) (state at to new : ℕ) → at % 16 ≡ 0 → to ≡ at + 16
+    → state ≡ mixed_to bytes at → new ≡ after_block bytes state at → new ≡ mixed_to bytes to
+unfolding mixed_to after_blocks
+mixed_more bytes state at to new whole is so_far mixed =
+    let here : at ≡ 16 * (at / 16) = omega (arith, whole) in
+    let more : to / 16 ≡ suc (at / 16) = omega (arith, whole, is) in
+    rw (mixed, more, so_far, ← here)
+
+-- after all
+pub mixed_all : (bytes : List ℕ) (state at last : ℕ) → 8 < length bytes → at % 16 ≡ 0
+    → at < length bytes → length bytes - at < 17 → last ≡ length bytes - 16
+    → state ≡ mixed_to bytes at
+    → mix bytes state last (length bytes - 8) ≡ wide bytes
+unfolding mixed_to wide initial
+mixed_all bytes state at last long whole within near is so_far =
+    let count : (length bytes - 1) / 16 ≡ at / 16 = omega (arith, whole, within, near) in
+    rw (lt-leb (length bytes) 8 long, count, so_far, is)
+
+-- four bytes of those from a place on
+pub read_behind : (bytes rest : List ℕ) (at k to : ℕ) → rest ≡ drop at bytes → to ≡ at + k
+    → read_u32 rest k ≡ read_u32 bytes to
+unfolding read_u32
+read_behind bytes rest at k to is there = grind (arith, is, there, get_or-drop)
+
+-- past all slots each is free
+pub free_past : (slots : List Slot) (k : ℕ) → length slots ≤ k → (get_or slots k free).behind ≡ 0
+free_past slots k past = ap (λ (t : Slot). t.behind) (get_or_past slots k free past)
+
+pub slot_within : (slots : List Slot) (k : ℕ) → (get_or slots k free).behind ≢ 0 → k < length slots
+slot_within slots k used = grind (arith, cases_lt k (length slots), free_past slots k)
+
+-- the slots from a place on, as far as another one, are used and of other hashes
+abbrev pub ArePassed : List Slot → ℕ → ℕ → ℕ → Type 0
+ArePassed slots at k h = (j : ℕ) → at ≤ j → j < k → ((get_or slots j free).behind ≢ 0)
+    × ((get_or slots j free).hash ≢ h)
+
+module _ (slots : List Slot) (h k : ℕ) where
+  abbrev slot : Slot
+  slot = get_or slots k free
+
+  -- one more is
+  pub passed_more : (at : ℕ) → slot.behind ≢ 0 → slot.hash ≢ h → ArePassed slots at k h
+      → ArePassed slots at (k + 1) h
+  passed_more at some other passed = λ j low less. grind arith
+
+  -- a slot of the hash behind such ones tells its place
+  slot_from : (at n : ℕ) → at ≤ k → ArePassed slots at k h → k < at + n → slot.behind ≢ 0
+      → slot.hash ≡ h → place_from slots at n h ≡ Some (slot.behind - 1)
+  slot_from at zero low passed high some same = absurd (omega arith)
+  slot_from at (suc n) low passed high some same = grind (arith, slot_from (at + 1) n, passed at)
+
+  -- a free one, or the end of those that are looked at, that there is none
+  none_from : (at n : ℕ) → at ≤ k → ArePassed slots at k h → (k < at + n → slot.behind ≡ 0)
+      → place_from slots at n h ≡ None
+  none_from at zero low passed none = refl
+  none_from at (suc n) low passed none = grind (arith, none_from (at + 1) n, passed at)
+
+  -- the same where the hash begins
+  pub found_of : (size : ℕ) → IsSlotOf slots size h k → place_of slots size h
+      ≡ Some (slot.behind - 1)
+  unfolding place_of
+  found_of size is =
+      grind (arith, slot_from (home size h) 128 is.from is.passed is.within is.used is.same)
+
+  pub none_of : (size : ℕ) → home size h ≤ k → ArePassed slots (home size h) k h
+      → (k < home size h + 128 → slot.behind ≡ 0) → place_of slots size h ≡ None
+  unfolding place_of
+  none_of size low passed none = grind (arith, none_from (home size h) 128 low passed none)
+
+-- each slot has its place among others, and so has each hash
+pub each_from : (slots new : List Slot) (size at n h p : ℕ)
+    → ((j : ℕ) → (get_or slots j free).behind ≢ 0
+    → place_of new size (get_or slots j free).hash ≡ Some ((get_or slots j free).behind - 1))
+    → place_from slots at n h ≡ Some p → place_of new size h ≡ Some p
+each_from slots new size at zero h p each is = cc
+each_from slots new size at (suc n) h p each is =
+    grind (arith, each_from slots new size (at + 1) n h p, each at)
+
+-- a slot is put at a place
+module _ (slots : List Slot) (s : Slot) (k : ℕ) where
+  -- what had a place keeps it, where the slot there was free
+  pub kept_from : (at n h p : ℕ) → (get_or slots k free).behind ≡ 0
+      → place_from slots at n h ≡ Some p → place_from (set slots k s) at n h ≡ Some p
+  kept_from at zero h p was is = is
+  kept_from at (suc n) h p was is =
+      grind (arith, kept_from (at + 1) n h p, get_or-set_other slots k at s free)
+
+  module _ (within : k < length slots) (some : s.behind ≢ 0) where
+    -- its hash has its place, where it is the next one for it
+    pub put_from : (at n : ℕ) → at ≤ k → k < at + n
+        → ((j : ℕ) → at ≤ j → j < k → (get_or slots j free).behind ≢ 0)
+        → place_from slots at n s.hash ≡ None
+        → place_from (set slots k s) at n s.hash ≡ Some (s.behind - 1)
+    put_from at zero low high used none = absurd (omega arith)
+    put_from at (suc n) low high used none =
+        let here = get_or-set_same slots k s free within in
+        grind (arith, put_from (at + 1) n, used at, here, get_or-set_other slots k at s free)
+
+    -- or where it has one, once that is another
+    pub given_of : (size : ℕ) → IsSlotOf slots size s.hash k
+        → place_of (set slots k s) size s.hash ≡ Some (s.behind - 1)
+    given_of size is =
+        let here = get_or-set_same slots k s free within in
+        rw here at (found_of (set slots k s) s.hash k size (record {
+          used = rw here some;
+          same = rw here refl;
+          from = is.from;
+          within = is.within;
+          passed = λ j l m. rw (get_or-set_other slots k j s free (omega arith)) (is.passed j l m);
+        }))
+
+    -- and other hashes have theirs
+    pub others_from : (at n h : ℕ) → s.hash ≡ (get_or slots k free).hash
+        → (get_or slots k free).behind ≢ 0 → h ≢ s.hash
+        → place_from (set slots k s) at n h ≡ place_from slots at n h
+    others_from at zero h same was other = refl
+    others_from at (suc n) h same was other =
+        let here = get_or-set_same slots k s free within in
+        grind (arith, others_from (at + 1) n h, here, get_or-set_other slots k at s free)
 
 -- no string comes before itself
 not_before_itself : (s : List ℕ) → IsBefore s s → ⊥
@@ -49,7 +185,8 @@ positions_few bytes positions table =
     let known = known_offset_in bytes positions (string_from bytes p) p table
     (table.begun i d within) refl in
     let there = get_or-map (offset_of ss) ss known.0.0 (string_from bytes p) p known.0.1 in
-    (known.0.0, omega (arith, known.0.1, length-map ss (offset_of ss)), grind (arith, there, known)) in
+    let many = length-map ss (offset_of ss) in
+    (known.0.0, omega (arith, known.0.1, many), grind (arith, there, known)) in
     let apart = λ (i j d : ℕ). not_before_itself (string_from bytes (get_or positions j d)) in
     let few = length-le_from_is_member nat_eq_equiv positions offsets
     (IsDistinct-from_AllPairs Decides-eqb positions
@@ -91,7 +228,8 @@ indexed_more bytes positions s r p table stands begins is = record {
 }
 
 -- a string goes last
-module _ (bytes positions s : List ℕ) (table : IsIndexed bytes positions) (free : IsZeroFree s) where
+module _ (bytes positions s : List ℕ) (table : IsIndexed bytes positions)
+    (free : IsZeroFree s) where
   pub strings_push : (strings_in (bytes ++ terminated s) ≡ strings_in bytes ++ s ∷ [])
       × (data_of (strings_in (bytes ++ terminated s)) ≡ bytes ++ terminated s)
   strings_push =
@@ -164,7 +302,7 @@ indexed_take bytes positions n m table long =
     (λ i j d less within. grind (arith, length-take, get_or-take, table.distinct i j d less)) in
     let begun : All (λ p. BeginsAt short p) few = λ i d within.
     let low = ltb-true _ m (filter_passes (λ p. ltb p m) positions i d within) in
-    let there = All-filter (λ p. ltb p m) (λ p. BeginsAt bytes p) positions table.begun i d within in
+    let there = All-filter (λ p. ltb p m) (BeginsAt bytes) positions table.begun i d within in
     record {
       within = omega (arith, low, there.within, length-take m bytes);
       behind = λ some. grind (arith, get_or-take, there.behind, low);
