@@ -5,7 +5,7 @@ use Rattle.std.specs.Prelude.{Err, Ok, pos, Some, ℤ, ◌≢◌, ◌⊎◌}
 use Rattle.std.proofs.lemmas.Int.{ints}
 use Rattle.dwp_elf_read.specs.Elf.{elf_of}
 use Rattle.dwp_decompress.specs.Result.{decompressed_of, plain_length_of}
-use Rattle.dwp_decompress.{proofs.Lengths.length_fails, specs.declared.asked.Asked.TheVariants.All}
+use Rattle.dwp_decompress.{proofs.Sections.length_fails, specs.declared.asked.Asked.TheVariants.All}
 use Rattle.dwp_decompress.specs.declared.error.DecompressError.{DecompressError}
 use Rattle.thorin_c.specs.Plain.{Decompresses, IsError, NeedsRoom, status_of, TellsError}
 
