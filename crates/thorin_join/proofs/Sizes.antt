@@ -18,7 +18,7 @@ use Rattle.thorin_join.proofs.Joined.{same-begun, source-brings, source-made, ta
 use Rattle.thorin_join.proofs.Parts.Added.{each-brings, each-unit, long, placed_bytes, used-most}
 use Rattle.thorin_join.proofs.Units.ReadInTurn.{AreAdded, each-named, News, Reads, units-joined}
 use Rattle.dwp_elf.specs.FileText.{content_bytes, names_of}
-use Rattle.dwp_elf.proofs.Limits.{length-file_text, length-number_bytes}
+use Rattle.dwp_elf.proofs.ReadingBack.{length-file_text, length-number_bytes}
 use Rattle.thorin_index.specs.IndexText.{index_bytes}
 use Rattle.thorin_join.specs.{FirstUse.strings_begun, Meaning.named_at, Meaning.named_sections}
 

@@ -32,7 +32,7 @@ pub use Rattle.dwp_bytes.specs.Input.{after, Input, is_address_size, section}
 pub use Rattle.dwp_bytes.specs.StringOffsets.{entry_count, header_size, string_for}
 pub use Rattle.dwp_bytes.specs.declared.encoding.Encoding.{Encoding}
 pub use Rattle.dwp_bytes.specs.{declared.encoding.Format.Format, declared.error.ReadError.ReadError}
-pub use Rattle.dwp_elf.proofs.KindCounts.{length-KindsDiffer}
+pub use Rattle.dwp_elf.proofs.Changes.{length-KindsDiffer}
 pub use Rattle.dwp_elf.specs.Contents.{appended, content_of, count_of, KindsDiffer}
 pub use Rattle.dwp_elf.specs.FileText.{file_text, Object as File}
 pub use Rattle.dwp_elf.specs.Growing.{Contents, contribution_put, HasFront, with_bytes}
