@@ -32,7 +32,7 @@ pub use Rattle.thorin_index.{proofs.RowLemmas.at_least, specs.Rows.blank}
 pub use Rattle.thorin_input.specs.Encodings.{common, one_encoding}
 pub use Rattle.thorin_input.specs.{Held.unit_bytes, Names.with_name, UnitView.new_of, View.part}
 pub use Rattle.thorin_input.specs.NewUnits.{none_met, or_held, SeenSections}
-pub use Rattle.thorin_strings.proofs.RemapLemmas.{kept_more}
+pub use Rattle.thorin_strings.proofs.Remapping.{kept_more}
 pub use Rattle.thorin_join.specs.{Builder.with_own, State.Extends, State.held_units}
 pub use Rattle.thorin_builder.specs.{BuilderView.building, RowsByIndex.rows_in, Taking.came}
 pub use Rattle.thorin_builder.specs.Reading.{input_error_in, outcome_of, unread}

@@ -71,7 +71,7 @@ pub use Rattle.thorin_join.specs.Laid.{IsWhole, name_signature, type_signature}
 pub use Rattle.thorin_join.specs.Sizes.{bytes_of_contents, bytes_of_strings, offsets_used}
 pub use Rattle.thorin_join.specs.State.{adding, InProgress, names_of, row_at, with_unit_added}
 pub use Rattle.thorin_package_input.specs.ReadStrings.{ReadsAlike}
-pub use Rattle.thorin_strings.proofs.{NamedEntries.range_named, RemapLemmas.kept_more}
+pub use Rattle.thorin_strings.proofs.{Remapping.range_named, Remapping.kept_more}
 unfoldable pub use Rattle.thorin_input.specs.Parts.{with_each_part, with_offsets, with_parts}
 unfoldable pub use Rattle.dwp_bytes.specs.StringOffsets.{entry_in, string_at, string_in}
 unfoldable pub use Rattle.dwp_index.specs.Index.{range_in, row_in}

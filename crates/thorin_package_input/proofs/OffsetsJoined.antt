@@ -10,7 +10,7 @@ use Rattle.dwp_base.{proofs.Steps.bind-was, proofs.Steps.guard-ok, specs.Numbers
 use Rattle.dwp_bytes.specs.declared.encoding.Format.{Format}
 use Rattle.dwp_bytes.specs.StringOffsets.{entry_count, entry_in, string_at, string_in}
 use Rattle.thorin_strings.specs.StringOffsets.{named_at, offset_at}
-use Rattle.thorin_strings.proofs.NamedEntries.{as_error_ok}
+use Rattle.thorin_strings.proofs.Remapping.{as_error_ok}
 
 -- a number in front doesn't depend on what follows it
 pub number_front : (order : Endianness) (format : Format) (xs ys : List ℕ) → offset_size format ≤

@@ -10,7 +10,7 @@ use Rattle.thorin_package_input.specs.PackagedReading.{PackageReadsAlike, RangeR
 use Rattle.std.proofs.Math.Nat.{div-add-mod}
 use Rattle.std.proofs.lemmas.List.{drop_at, length-take-le, take_all, take_at}
 use Rattle.dwp_base.proofs.Steps.{bind-was, same-ok}
-use Rattle.thorin_strings.proofs.NamedEntries.{range_named}
+use Rattle.thorin_strings.proofs.Remapping.{range_named}
 use Rattle.thorin_package_input.specs.PackagedOffsets.{packaged_offsets}
 use Rattle.thorin_package_input.{proofs.OffsetsJoined.strings_again, proofs.RewriteSteps.IsNext}
 use Rattle.thorin_package_input.{proofs.RewriteSteps.next_passed, specs.PackagedReading.range_bytes}

@@ -16,5 +16,5 @@ pub use Rattle.std.specs.{BTreeSet.insert_key, List.position_from, List.range_wi
 pub use Rattle.thorin_package_input.specs.PackagedOffsets.{place_cmp, with_ranges, with_rows}
 pub use Rattle.thorin_package_input.specs.{RangeKeys.range_at, ReadStrings.ReadsAlike}
 pub use Rattle.thorin_package_input.specs.RowPlaces.{is_range, range_of_row}
-pub use Rattle.thorin_strings.proofs.RemapLemmas.{kept_more}
+pub use Rattle.thorin_strings.proofs.Remapping.{kept_more}
 pub use Rattle.thorin_strings.specs.{Rewritten.NamesTheSame, StringOffsets.remapped}
