@@ -43,7 +43,7 @@ use Rattle.thorin_join.proofs.Parts.Added.{rewritten-package, slice-long}
 use Rattle.thorin_index.proofs.ReadAgain.{index_is_read, written_rows}
 use Rattle.thorin_join.specs.Builder.{source_for, State, with_units}
 use Rattle.dwp_base.proofs.EveryKind.{kind-named, not-older}
-use Rattle.thorin_package_input.proofs.FirstRow.{range_is}
+use Rattle.thorin_package_input.proofs.Rows.{range_is}
 use Rattle.dwp_elf_read.specs.Identification.{identity_of}
 use Rattle.dwp_index.specs.Contents.{is_of_kind}
 use Rattle.dwp_table.specs.Columns.{column_of}

@@ -17,8 +17,8 @@ pub use Rattle.thorin_join.specs.Meaning.{joining, keys, Meaning, Members, sourc
 pub use Rattle.thorin_join.specs.Represents.{AreApart, AreRowsOf, LieInside, units_in, units_of}
 pub use Rattle.thorin_join.specs.Represents.{IsSoundBegun, meaning_at, Represents, units_begun}
 pub use Rattle.thorin_join.specs.Represents.{IsRowOf, IsSound, Owns, Shares}
-pub use Rattle.thorin_package_input.proofs.OffsetsJoined.{joined_read, number_front, strings_again}
-pub use Rattle.thorin_package_input.proofs.OffsetsJoined.{no_header}
+pub use Rattle.thorin_package_input.proofs.ReadAlike.{joined_read, number_front, strings_again}
+pub use Rattle.thorin_package_input.proofs.ReadAlike.{no_header}
 pub use Rattle.dwp_base.proofs.Bools.{by-bool}
 pub use Rattle.dwp_base.proofs.EveryKind.{every, is-same, same-each, same-self}
 pub use Rattle.dwp_base.proofs.Steps.{bind-ok, bind-was, same-ok}
@@ -71,7 +71,7 @@ pub use Rattle.thorin_join.specs.Laid.{IsWhole, name_signature, type_signature}
 pub use Rattle.thorin_join.specs.Sizes.{bytes_of_contents, bytes_of_strings, offsets_used}
 pub use Rattle.thorin_join.specs.State.{adding, InProgress, names_of, row_at, with_unit_added}
 pub use Rattle.thorin_package_input.specs.ReadStrings.{ReadsAlike}
-pub use Rattle.thorin_strings.proofs.{Remapping.range_named, Remapping.kept_more}
+pub use Rattle.thorin_strings.proofs.Remapping.{kept_more, range_named}
 unfoldable pub use Rattle.thorin_input.specs.Parts.{with_each_part, with_offsets, with_parts}
 unfoldable pub use Rattle.dwp_bytes.specs.StringOffsets.{entry_in, string_at, string_in}
 unfoldable pub use Rattle.dwp_index.specs.Index.{range_in, row_in}

@@ -22,7 +22,7 @@ use Rattle.thorin_join.proofs.Parts.Ranges.{count-fits, count-none, range-of}
 use Rattle.thorin_join.{proofs.Units.ReadInTurn.News, specs.Strings.each_from}
 use Rattle.thorin_join.specs.FirstUse.{named_by_ranges, named_by_section, named_in, with_strings}
 use Rattle.thorin_join.specs.{Strings.offset_of_entry, Strings.strings_at, Sizes.carried}
-use Rattle.thorin_package_input.proofs.RewriteSteps.{next_passed}
+use Rattle.thorin_package_input.proofs.ReadAlike.{next_passed}
 use Rattle.thorin_package_input.specs.PackagedOffsets.{ranges_test, rewritten_from}
 use Rattle.thorin_strings.proofs.Remapping.{entries_long, header_long}
 use Rattle.thorin_strings.specs.StringOffsets.{offset_at, remapped_entries, remapped_entry}
