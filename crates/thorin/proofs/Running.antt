@@ -11,7 +11,7 @@ use Rattle.thorin_errors.specs.declared.error.MissingReferencedObjectBehaviour.{
 use Rattle.thorin_executable.specs.Skeletons.{Listed, named_skeletons_of, skeletons_of}
 use Rattle.thorin_builder.specs.Taking.{Came, came, TakesBytes, TakesExecutableRead, TakesRead}
 use Rattle.thorin_builder.specs.Taking.{TakesReferred, TakesSkeleton, TakesSkeletons, with_target}
-use Rattle.thorin_builder.proofs.Running.{Offer}
+use Rattle.thorin_builder.proofs.Inputs.{Offer}
 use Rattle.thorin.specs.declared.packing.Input.TheVariants as inputs
 
 -- a run goes on with one more input

@@ -1,6 +1,6 @@
 -- The names that proofs of this crate cite most, passed on from one place. Declares nothing.
 unfoldable pub use Rattle.thorin.specs.Groups.{taken_each}
-unfoldable pub use Rattle.thorin_builder.proofs.Terms.{finish_test, taken}
+unfoldable pub use Rattle.thorin_join.specs.Builder.{finish_test, taken}
 unfoldable pub use Rattle.thorin_index.specs.EntryTests.{tests_under}
 use Rattle.thorin_join.proofs.Terms as Joined
 pub use Joined.{ap, append-nil, append_assoc, arith, as_error, bind-ok, bind-was, Bool, can_join}
@@ -18,8 +18,10 @@ pub use Rattle.std.proofs.Common.{take_all}
 pub use Rattle.thorin.specs.Groups.{bytes_in, HaveTheirEncodings, IsPackedInGroups, ArePackedAlone}
 pub use Rattle.thorin.specs.Groups.{IsPackageOfAll, IsPackedAlone, PacksInGroups, AreJoined}
 pub use Rattle.thorin.specs.Groups.{groups_in, inputs_of, PacksAlone}
-pub use Rattle.thorin_builder.proofs.Terms.{accepted_of, drop_more, IsFinishedState, find, get_or}
-pub use Rattle.thorin_builder.proofs.Terms.{IfOk, names_in, Outcome, rules, State}
+pub use Rattle.{thorin_builder.specs.Taking.accepted_of, thorin_join.specs.Builder.IsFinishedState}
+pub use Rattle.std.proofs.{Common.find, Common.get_or, lemmas.List.drop_more}
+pub use Rattle.{std.proofs.Common.IfOk, std.proofs.Common.rules, thorin_builder.specs.Taking.Outcome}
+pub use Rattle.thorin_join.specs.Builder.{names_in, State}
 pub use Rattle.dwp_base.proofs.Bools.{both, both as both-true, is-false}
 pub use Rattle.dwp_base.proofs.Steps.{bind-err, by-choice}
 pub use Rattle.dwp_elf.specs.Written.{written_elf}
