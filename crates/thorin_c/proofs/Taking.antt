@@ -1,7 +1,10 @@
 -- Inputs taken one after the other.
-use Rattle.thorin.proofs.Terms.{ap, arith, finish_test, [], ℕ, ◌+◌, ◌<◌, ◌∙◌, ◌∷◌, ◌≡◌, ◌≤◌, ◌⊎◌}
-use Rattle.thorin.proofs.Terms.{bind-ok, get_or, length, length-map, map_more, taken_each, units_in}
-use Rattle.thorin.proofs.Terms.{inl, inr, List, map, Ok, refl, start, State, sym, take, taken}
+use Rattle.thorin_join.proofs.Terms.{ap, arith, bind-ok, inl, [], ◌+◌, ◌<◌, ◌∙◌, ◌∷◌, ◌≡◌, ◌≤◌, ◌⊎◌}
+use Rattle.thorin.{proofs.Running.join-append, proofs.Running.taken-then, specs.Groups.taken_each}
+use Rattle.thorin_join.proofs.Terms.{inr, length, length-map, List, map, Ok, refl, sym, take}
+use Rattle.thorin_join.specs.Builder.{finish_test, start, State, taken}
+use Rattle.std.proofs.{Common.get_or, lemmas.List.map_more}
+use Rattle.thorin_join.proofs.Terms.{units_in, ℕ}
 use Rattle.std.specs.Prelude.{pos, ℤ, ◌≢◌}
 use Rattle.thorin_c.specs.Packing.{IsDifferingStatus, RunsOutAfter, TellsRefused, TellsUnfinished}
 use Rattle.thorin_c.specs.Packing.{Accepts, bytes_of, IsFailure, Refuses, RunsOutAt, StopsAt}
@@ -10,7 +13,6 @@ use Rattle.thorin_c.specs.{declared.types.ThorinReport.ThorinReport, Errors.Tell
 use Rattle.thorin_errors.specs.Errors.{error_of, NoOutputObjectCreated}
 use Rattle.dwp_table.specs.declared.object.DebugTypeSignature.{DebugTypeSignature}
 use Rattle.thorin_join.specs.{Builder.differing_in, Builder.targets_test, Join.Joins}
-use Rattle.thorin.proofs.Running.{join-append, taken-then}
 use Rattle.thorin_c.specs.declared.types.ThorinBytes.{ThorinBytes}
 use Rattle.thorin_errors.specs.declared.error.Error.TheVariants as errors
 

@@ -1,5 +1,6 @@
 use Rattle.std.proofs.Common.{ap, inr, length, refl, rules, sym, ◌<◌, ◌∙◌}
-use Rattle.thorin.proofs.{Running.each-taken, Terms.length-map, Terms.start, Terms.units_in}
+use Rattle.thorin_join.{proofs.Terms.length-map, proofs.Terms.units_in, specs.Builder.start}
+use Rattle.thorin.proofs.Running.{each-taken}
 use Rattle.thorin_c.specs.Packing.{bytes_of}
 use Rattle.thorin_c.proofs.packing.package_of.Goals as goal
 
