@@ -31,7 +31,7 @@ use Rattle.std.proofs.lemmas.List.Elements.{All-nil, All-push, All-tail, All-tak
 use Rattle.thorin_join.specs.Builder.{IsFinishedState, source_for, State, with_units}
 use Rattle.thorin_again.proofs.{Kept.joined, Kept.part-middle, Kept.range_at, Offsets.at-row}
 use Rattle.thorin_input.specs.{Encodings.encoding_of, Rows.row_abbreviations, Rows.row_test}
-use Rattle.thorin_package_input.{proofs.FirstRow.first_found, specs.RowPlaces.row_by_place}
+use Rattle.thorin_package_input.{proofs.Rows.first_found, specs.RowPlaces.row_by_place}
 use Rattle.std.proofs.Math.{Dec.eqb-suc-zero, Seq.drop-append_seam, Seq.take-append_seam}
 use Rattle.thorin_again.specs.OwnInput.{IsOwn, own_source, written_object, written_used}
 use Rattle.thorin_join.specs.Builder.{finish_test, order_of, taken, with_source_or_new}

@@ -35,9 +35,9 @@ use Rattle.std.{proofs.Common.⊎_elim, specs.BTreeSet.insert_key, specs.List.ra
 use Rattle.thorin_join.{proofs.Ranges.count-again, proofs.Ranges.range-of, specs.StandApart.EachRow}
 use Rattle.std.proofs.lemmas.List.Elements.{All-from_recursion, recursion_from_All}
 use Rattle.thorin_package_input.specs.RowPlaces.{is_range, range_of_row, ranges_of}
-use Rattle.thorin_package_input.proofs.RowRanges.{compilation_there, type_there}
+use Rattle.thorin_package_input.proofs.Rows.{compilation_there, type_there}
 use Rattle.thorin_again.proofs.Kept.{RowHas, rows-share, with-any, with-each}
-use Rattle.thorin_package_input.proofs.FirstRow.{range_is, range_of_found}
+use Rattle.thorin_package_input.proofs.Rows.{range_is, range_of_found}
 use Rattle.thorin_package_input.specs.PackagedReading.{range_bytes}
 use Rattle.thorin_strings.specs.StringOffsets.{remapped_entry}
 use Rattle.thorin_index.specs.ReadRows.{HasContributions}

@@ -42,7 +42,7 @@ use Rattle.dwp_base.specs.declared.section.SectionKind.TheVariants.{Info}
 use Rattle.thorin_join.{proofs.Files.no-bytes, proofs.Parts.slice-long, specs.Builder.order_of}
 use Rattle.thorin_index.proofs.ReadAgain.{index_is_read, written_rows}
 use Rattle.dwp_base.proofs.EveryKind.{kind-named, not-older}
-use Rattle.thorin_package_input.proofs.FirstRow.{range_is}
+use Rattle.thorin_package_input.proofs.Rows.{range_is}
 use Rattle.dwp_elf_read.specs.Identification.{identity_of}
 use Rattle.dwp_index.specs.Contents.{is_of_kind}
 use Rattle.dwp_table.specs.Columns.{column_of}

@@ -4,7 +4,7 @@ use Rattle.std.specs.Prelude.{Ok}
 use Rattle.dwp_elf_read.specs.{Elf.elf_of, Layout.word_size}
 use Rattle.dwp_elf.specs.FileText.{file_text, headers_place, Object}
 use Rattle.dwp_elf.specs.{Contents.KindsDiffer, Numbers.Fits, Written.written_elf}
-use Rattle.dwp_elf.proofs.KindCounts.{length-KindsDiffer}
+use Rattle.dwp_elf.proofs.Changes.{length-KindsDiffer}
 use Rattle.thorin_join.specs.{Join.IsPackageOf, Join.IsPackageOnceWritten, Meaning.Members}
 use Rattle.thorin_join.proofs.Files.{fitting}
 

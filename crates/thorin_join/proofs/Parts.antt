@@ -27,8 +27,8 @@ use Rattle.thorin_join.specs.Strings.{each_from, offset_of_entry, strings_at}
 use Rattle.thorin_join.{proofs.Ranges.whole-read, proofs.Units.News, specs.Sizes.carried}
 use Rattle.thorin_package_input.proofs.ReadAlike.{package_reads_alike}
 use Rattle.thorin_package_input.specs.PackagedOffsets.{ranges_test, rewritten_from}
-use Rattle.thorin_package_input.{proofs.RewriteSteps.next_passed, specs.PackagedReading.range_bytes}
-use Rattle.thorin_strings.proofs.NamedEntries.{entries_long, header_long}
+use Rattle.thorin_package_input.{proofs.ReadAlike.next_passed, specs.PackagedReading.range_bytes}
+use Rattle.thorin_strings.proofs.Remapping.{entries_long, header_long}
 use Rattle.thorin_strings.specs.StringOffsets.{offset_at, remapped_entries, remapped_entry}
 
 -- bytes that are added to a section

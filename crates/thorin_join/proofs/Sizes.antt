@@ -9,7 +9,7 @@ use Terms.{length-KindsDiffer, length-map, List, map, name_of, nat_le, nat_tests
 use Terms.{offsets_used, Ok, Option, refl, same-ok, SectionKind, Some, Source, Str, suc, sum_by}
 use Terms.{sym, unit_section, UnitRead, units_whole, UnitSection, Used, with_bytes, with_input}
 use Terms.{with_new_units, with_parts, with_source, [], ℕ, ◌*◌, ◌++◌, ◌+◌, ◌∙◌, ◌∷◌, ◌≡◌, ◌≤◌}
-use Rattle.dwp_elf.proofs.Limits.{length-file_text, length-number_bytes}
+use Rattle.dwp_elf.proofs.ReadingBack.{length-file_text, length-number_bytes}
 use Rattle.dwp_elf.specs.FileText.{content_bytes, names_of}
 use Rattle.std.proofs.lemmas.List.Sums.{sum_by-append, sum_by-le-sum_by}
 use Rattle.std.proofs.lemmas.List.{Concat.length-flat_map, Sums.sum_by-cons}

@@ -22,7 +22,7 @@ pub use Rattle.dwp_bytes.specs.declared.{encoding.Encoding.Encoding, error.ReadE
 pub use Rattle.dwp_elf.specs.Contents.{appended, content_of, count_of, KindsDiffer}
 pub use Rattle.dwp_elf.specs.FileText.{file_text, Object as File}
 pub use Rattle.dwp_elf.specs.Growing.{contribution_put, HasFront, with_bytes}
-pub use Rattle.dwp_elf.{proofs.KindCounts.length-KindsDiffer, specs.Growing.Contents}
+pub use Rattle.dwp_elf.{proofs.Changes.length-KindsDiffer, specs.Growing.Contents}
 pub use Rattle.dwp_elf_read.specs.Elf.{Elf, elf_of}
 pub use Rattle.dwp_index.proofs.Packages.{another_kind, held_content}
 pub use Rattle.dwp_index.specs.Package.{is_outside, kind_of, Package, part_of, place_of}
@@ -64,9 +64,9 @@ pub use Rattle.thorin_join.specs.Represents.{LieInside, meaning_at, Owns, Repres
 pub use Rattle.thorin_join.specs.Sizes.{bytes_of_contents, bytes_of_strings, offsets_used}
 pub use Rattle.thorin_join.specs.State.{adding, InProgress, names_of, row_at, with_unit_added}
 pub use Rattle.thorin_join.specs.{Join.GivesNone, Join.Joins, Meaning.keys, Strings.strings_of}
-pub use Rattle.thorin_package_input.proofs.OffsetsJoined.{joined_read, number_front, strings_again}
-pub use Rattle.thorin_package_input.{proofs.OffsetsJoined.no_header, specs.ReadStrings.ReadsAlike}
-pub use Rattle.thorin_strings.proofs.{NamedEntries.range_named, RemapLemmas.kept_more}
+pub use Rattle.thorin_package_input.proofs.ReadAlike.{joined_read, number_front, strings_again}
+pub use Rattle.thorin_package_input.{proofs.ReadAlike.no_header, specs.ReadStrings.ReadsAlike}
+pub use Rattle.thorin_strings.proofs.Remapping.{kept_more, range_named}
 unfoldable pub use Rattle.thorin_input.specs.Parts.{with_each_part, with_offsets, with_parts}
 unfoldable pub use Rattle.dwp_bytes.specs.StringOffsets.{entry_in, string_at, string_in}
 unfoldable pub use Rattle.dwp_index.specs.Index.{range_in, row_in}

@@ -1,7 +1,7 @@
+use Rattle.dwp_bytes.proofs.Reading.{cast_less, cast_lowest, fits, signed_more, sleb_big}
+use Rattle.dwp_bytes.proofs.Reading.{sleb_fails, sleb_high, sleb_low}
+use Rattle.std.proofs.lemmas.{Int.ints, Result.err_from_is_err_and}
 use Rattle.std.proofs.Common.{ap, arith, ◌*◌, ◌-◌, ◌<◌, ◌^◌, ◌≡◌}
-use Rattle.dwp_bytes.proofs.Lebs.{cast_less, cast_lowest, fits, signed_more, sleb_fails, sleb_high}
-use Rattle.dwp_bytes.proofs.Lebs.{sleb_big, sleb_low}
-use Rattle.std.proofs.{lemmas.Int.ints, lemmas.Result.err_from_is_err_and}
 use Rattle.dwp_bytes.proofs.reader.Reader.read_sleb128.Goals as goal
 
 pub returns-in_err-byte : goal.returns-in_err-byte
