@@ -1,44 +1,44 @@
 -- Where no fault was told, the package is sound. And what was told of the units that an executable
 -- names, and what was checked.
-use Rattle.std.proofs.Common.{append-nil, append_assoc, false, get_or, length, OnOk, Option, Result}
+use Rattle.std.proofs.Common.{[], ap, append-nil, append_assoc, get_or, length, None, Ok, Option, ℕ}
 use Rattle.std.proofs.lemmas.List.Sorted.{All-permutation, Contains-permutation, length_permutation}
-use Rattle.thorin_check.specs.Checking.{ChecksIndexed, Finishes, TellsExecutable, TellsStringsOfAll}
-use Rattle.thorin_check.specs.Faults.{missing_text, room_of, TellsListed, TellsRowsOf, TellsStrings}
+use Rattle.std.proofs.{Common.Result, Common.subst, KnownBytes.Appends-trans, KnownBytes.Keeps-refl}
+use Rattle.thorin_check.specs.Checking.{ChecksIndexed, FailsOne, TellsExecutable, TellsStringsOfAll}
+use Rattle.thorin_check.specs.Faults.{missing_text, room_of, TellsLooked, TellsRowsOf, TellsStrings}
 use Rattle.thorin_check.specs.Telling.{fault_count, ForEach, InTurn, Progress, Tells, TellsOr, Told}
 use Rattle.std.proofs.Common.{Bor, Err, inl, inr, suc, sym, ◌+◌, ◌<◌, ◌∙◌, ◌∷◌, ◌≡◌, ◌≢◌, ◌≤◌, ◌⊎◌}
-use Rattle.thorin_check.specs.{Rendering.FaultValue, Rendering.of_unit, Sound.IsSound, Sound.slots}
-use Rattle.{std.specs.List.All, thorin_check.specs.Apart.AreApartIn, thorin_check.specs.Telling.Is}
-use Rattle.std.proofs.Common.{arith, Bool, codes, List, None, refl, Some, subst, true, zero, ◌++◌}
-use Rattle.thorin_check.specs.Faults.{long_bytes, strings_of, TellsFound, TellsInRow, TellsLooked}
+use Rattle.std.proofs.Common.{arith, Bool, codes, false, List, OnOk, refl, Some, true, zero, ◌++◌}
+use Rattle.thorin_check.specs.Faults.{long_bytes, strings_of, TellsFound, TellsInRow, TellsListed}
 use Rattle.thorin_check.specs.Faults.{longest_path, missing_faults, TellsNumbered, TellsStringsOf}
-use Rattle.thorin_check.specs.{Indexes.column_faults, Indexes.lacks_column, Strings.HasStringsOf}
-use Rattle.thorin_errors.specs.{Answers.MemoryAside, declared.error.Error.Error, Errors.error_of}
-use Rattle.{dwp_base.specs.declared.section.SectionKind.SectionKind, std.specs.Result.result_err}
-use Rattle.{std.specs.List.flat_map, thorin_errors.specs.declared.error.Error.TheVariants.Memory}
+use Rattle.{dwp_base.specs.declared.section.SectionKind.SectionKind, dwp_index.specs.Index.Index}
+use Rattle.dwp_index.specs.declared.{error.PackageError.PackageError, units.UnitEntry.UnitEntry}
 use Rattle.dwp_table.specs.{Columns.contribution_kinds, declared.object.DwarfObject.DwarfObject}
-use Rattle.std.proofs.{Common.[], Common.ap, Common.Ok, Common.ℕ, lemmas.Bool.Decides.nat_tests}
-use Rattle.std.proofs.{KnownBytes.Appends-trans, KnownBytes.Keeps-refl, lemmas.Option.same_Some}
 use Rattle.std.proofs.lemmas.List.FromFn.{get_or-map-range_with_len, length-map-range_with_len}
+use Rattle.thorin_check.specs.{Own.own_of, Rendering.FaultValue, Rendering.of_unit, Telling.Is}
 use Rattle.thorin_check.specs.Sound.{AreNamed, Executables, HasUnitsOf, IsSoundUnit, NameOnce}
-use Rattle.{dwp_index.specs.declared.units.UnitEntry.UnitEntry, thorin_find.specs.Files.Offer}
-use Rattle.{std.specs.declared.io.Error.Error as IoError, thorin_find.specs.Files.FailsToRead}
+use Rattle.thorin_check.specs.{Ends.AllEnd, Indexes.column_faults, Sound.IsSound, Sound.slots}
 use Rattle.thorin_check.specs.Checking.{ChecksBytes, IsOfChecking, IsOfReading, TellsPackage}
-use Rattle.thorin_check.specs.{declared.executables.Reading.Reading, Ends.AllEnd, Own.own_of}
-use Rattle.thorin_check.specs.Faults.{long_size, row_fault, TellsNamed, TellsOwn, TellsUnit}
-use Rattle.thorin_check.specs.Checking.{Checks, FailsOne, status_of, TellsSlot, TellsSlots}
+use Rattle.thorin_check.specs.Faults.{long_size, row_fault, TellsEnd, TellsNamed, TellsUnit}
+use Rattle.thorin_check.specs.{Apart.AreApartIn, Indexes.lacks_column, Strings.HasStringsOf}
+use Rattle.std.specs.{declared.io.Error.Error as IoError, List.flat_map, Result.result_err}
+use Rattle.thorin_check.specs.Checking.{Checks, Finishes, status_of, TellsSlot, TellsSlots}
 use Rattle.thorin_print.{proofs.Printed.none_grown, specs.declared.output.Failure.Failure}
-use Rattle.std.proofs.lemmas.List.{length-map, nil_from_length, Sorted.IsPermutation-sym}
 use Rattle.std.proofs.lemmas.List.Elements.{All-cons, All-contains, All-nil, All-weaker}
-use Rattle.thorin_find.specs.{Finding.string_count, Finding.string_of, Listing.AreByRow}
+use Rattle.{std.specs.List.All, thorin_check.specs.declared.executables.Reading.Reading}
 use Rattle.thorin_check.specs.Indexes.{mixed_versions, section_faults, versions_faults}
+use Rattle.std.proofs.lemmas.{List.length-map, List.nil_from_length, Option.same_Some}
 use Rattle.thorin_check.proofs.Packages.{all_ends, own_once, range_ends, row_of_found}
-use Rattle.thorin_check.specs.Faults.{is_bare, IsBroken, IsUnread, row_end, TellsEnd}
+use Rattle.thorin_check.specs.Faults.{is_bare, IsBroken, IsUnread, row_end, TellsOwn}
+use Rattle.std.proofs.lemmas.{Bool.Decides.nat_tests, List.Sorted.IsPermutation-sym}
 use Rattle.thorin_check.proofs.Told.{counted_from, stopped_behind, then_or, told_as}
-use Rattle.dwp_index.specs.{declared.error.PackageError.PackageError, Index.Index}
+use Rattle.thorin_errors.specs.declared.error.Error.{Error, TheVariants.Memory}
+use Rattle.thorin_find.specs.{Files.FailsToRead, Files.Offer, Listing.AreByRow}
 use Rattle.thorin_print.specs.Answers.{Grows, IsOfPrinting, Outcome, Prints}
 use Rattle.dwp_index.specs.Package.{found, FoundUnit, Package, package_of}
 use Rattle.thorin_executable.specs.Skeletons.{Listed, Named, skeletons_by}
+use Rattle.thorin_errors.specs.{Answers.MemoryAside, Errors.error_of}
 use Rattle.dwp_bytes.specs.StringOffsets.{entry_in, string_in}
+use Rattle.thorin_find.specs.Finding.{string_count, string_of}
 use Rattle.dwp_base.specs.declared.section.SectionKind.TheVariants as kinds
 
 -- ---- no faults

@@ -2,47 +2,47 @@
 -- are read alike; the unit that a look-up finds is that of a row, whose ranges lie inside their
 -- sections; the identifiers that units' own bytes give; which strings end, as the last zero byte of
 -- all tells, and the strings of units, by the string offsets that they share.
-use Rattle.dwp_base.specs.declared.{endian.Endianness.Endianness, section.Contribution.Contribution}
 use Rattle.dwp_index.specs.Package.{first_outside, found_counted, lies_inside, unit_at_row, unit_in}
-use Rattle.std.proofs.Common.{[], Bool, drop, find, inl, inr, List, Some, suc, take, ◌++◌, ◌∙◌, ◌≤◌}
-use Rattle.std.proofs.Common.{add-one, get_or, get_or-drop, length, length-drop, option_map, Result}
-use Rattle.std.proofs.Common.{arith, false, IsTrue, nat_eq, None, Option, refl, true, zero, ℕ, ◌||◌}
+use Rattle.std.proofs.Common.{[], Bool, eqb, Err, find, None, refl, sym, take, true, ◌+◌, ◌-◌, ◌||◌}
+use Rattle.std.proofs.Common.{add-one, get_or-drop, IsTrue, length, length-drop, nat_eq, option_map}
+use Rattle.std.proofs.Common.{arith, drop, false, get_or, List, Option, Result, Some, zero, ℕ, ◌++◌}
 use Rattle.std.proofs.lemmas.List.Elements.{All-more, All-push, Contains-append_left, Contains-push}
-use Rattle.std.proofs.lemmas.List.{drop-take, Elements.All-nil, Folds.list_any_none, get_or_default}
 use Rattle.thorin_check.specs.Strings.{HasStringsIn, HasStringsOf, IsRangeOfOne, range_by, range_of}
-use Rattle.dwp_index.specs.Package.{FoundUnit, index_for, is_outside, kind_of, place_of, row_bytes}
+use Rattle.thorin_check.specs.declared.{overlaps.Placed.Placed, strings.UnreadStrings.UnreadStrings}
+use Rattle.dwp_index.specs.Package.{FoundUnit, index_for, is_outside, part_of, place_of, row_bytes}
 use Rattle.dwp_index.{proofs.PackageLookUp.by_row, specs.Contents.content, specs.Contents.Sections}
+use Rattle.std.proofs.lemmas.{Bool.cases_lt, List.drop-take, List.get_or_default, Option.same_Some}
+use Rattle.std.specs.{BTreeMap.insert_entry, Option.option_eq, Result.result_err, Result.result_ok}
 use Rattle.thorin_check.specs.Apart.{AreApart, AreApartIn, HasRange, HasRanges, IsApart, tables_by}
-use Rattle.thorin_check.specs.{Ends.AllEnd, Ends.HasEnds, Ends.is_inside, Ends.IsReach, Own.own_of}
-use Rattle.{dwp_table.specs.declared.object.DwarfObject.DwarfObject, thorin_check.specs.Own.own_by}
-use Rattle.{thorin_check.specs.declared.strings.Ends.Ends, thorin_identity.specs.Identity.identity}
-use Rattle.std.specs.{declared.cmp.Ordering.Ordering, List.Sorted.IsPermutation, Option.option_eq}
-use Rattle.thorin_check.specs.Remembered.{bytes_at, is_in_types, IsReadIn, numbers_of, section_by}
+use Rattle.dwp_base.specs.declared.{endian.Endianness.Endianness, section.SectionKind.SectionKind}
+use Rattle.thorin_check.specs.Remembered.{bytes_at, is_in_types, numbers_of, place_in, section_by}
 use Rattle.dwp_index.specs.declared.{error.PackageError.PackageError, units.UnitEntry.UnitEntry}
-use Rattle.std.specs.{BTreeMap.insert_entry, Map.values_of, Result.result_err, Result.result_ok}
-use Rattle.thorin_check.specs.Gathered.{Gathered, IsGathered, IsGatheredIn, IsOfUnit, string_by}
-use Rattle.thorin_check.specs.declared.{overlaps.Placed.Placed, strings.StringRange.StringRange}
+use Rattle.dwp_table.specs.{Columns.contribution_kinds, declared.object.DwarfObject.DwarfObject}
+use Rattle.thorin_check.specs.Gathered.{AllEndIn, Gathered, IsGathered, IsGatheredIn, string_by}
+use Rattle.thorin_check.specs.{declared.strings.StringRange.StringRange, Own.own_by, Own.own_of}
+use Rattle.std.specs.{declared.cmp.Ordering.Ordering, List.Sorted.IsPermutation, Map.values_of}
 use Rattle.thorin_check.specs.declared.abbreviations.{PlaceRead.PlaceRead, UnitPlace.UnitPlace}
 use Rattle.dwp_base.proofs.{Bools.by-bool, EveryKind.each, EveryKind.HoldsAll, Steps.same-ok}
 use Rattle.dwp_base.specs.declared.section.SectionKind.TheVariants.{Abbrev, Str, StrOffsets}
-use Rattle.std.proofs.lemmas.{Bool.cases_lt, Bool.Decides.nat_tests, List.Folds.list_any_at}
-use Rattle.dwp_base.{proofs.Bools.neither, specs.declared.section.SectionKind.SectionKind}
-use Rattle.thorin_check.specs.{declared.strings.UnreadStrings.UnreadStrings, Faults.is_of}
+use Rattle.dwp_base.{proofs.Bools.neither, specs.declared.section.Contribution.Contribution}
+use Rattle.std.proofs.lemmas.List.{Elements.All-nil, Folds.list_any_at, Folds.list_any_none}
+use Rattle.std.proofs.lemmas.{Bool.Decides.nat_tests, Map.Views.All-values-insert_entry}
 use Rattle.std.specs.List.{All, AllAdjacentBelow, AllPairs, Contains, IsAmong, list_any}
 use Rattle.thorin_check.specs.Overlaps.{overlap, range_by_index, same_range, slot_range}
+use Rattle.{dwp_table.specs.Columns.column_of, thorin_identity.specs.Identity.identity}
 use Rattle.dwp_bytes.specs.StringOffsets.{entry_count, entry_in, string_at, string_in}
-use Rattle.std.proofs.Common.{eqb, Err, not, Ok, sym, ◌+◌, ◌-◌, ◌<◌, ◌∷◌, ◌≡◌, ◌⊎◌}
+use Rattle.std.proofs.Common.{inl, inr, not, Ok, suc, ◌<◌, ◌∙◌, ◌∷◌, ◌≡◌, ◌≤◌, ◌⊎◌}
 use Rattle.std.proofs.lemmas.List.Sorted.{all_adjacent_more, Contains-permutation}
-use Rattle.std.proofs.lemmas.{Map.Views.All-values-insert_entry, Option.same_Some}
 use Rattle.thorin_find.specs.{Finding.string_of, Names.first_of, Names.header_in}
 use Rattle.dwp_index.specs.Index.{column_place, Index, range_in, Ranges, row_in}
 use Rattle.dwp_bytes.specs.{declared.encoding.Encoding.Encoding, Input.section}
-use Rattle.thorin_check.specs.Gathered.{Adds, AllEndIn, Gathers, Listed, Lists}
+use Rattle.thorin_check.specs.Gathered.{Adds, Gathers, IsOfUnit, Listed, Lists}
+use Rattle.thorin_check.specs.Ends.{AllEnd, HasEnds, is_inside, IsReach}
+use Rattle.thorin_check.specs.{declared.strings.Ends.Ends, Faults.is_of}
 use Rattle.dwp_index.specs.Finding.{LiesInside, own_bytes, own_place}
-use Rattle.thorin_check.specs.Remembered.{own_at, place_in, said_of}
+use Rattle.thorin_check.specs.Remembered.{IsReadIn, own_at, said_of}
 use Rattle.memchr.specs.Find.{is_byte, IsLastByte, Nowhere, Passes}
-use Rattle.dwp_table.specs.Columns.{column_of, contribution_kinds}
-use Rattle.dwp_index.specs.Package.{found, Package, part_of}
+use Rattle.dwp_index.specs.Package.{found, kind_of, Package}
 use Rattle.dwp_units.specs.Units.{Unit as Header, units}
 use Rattle.dwp_base.specs.declared.section.SectionKind.TheVariants as kinds
 use Rattle.thorin_check.specs.contracts.abbreviations.UnitPlacePartialEq.TheImpl as places

@@ -1,38 +1,38 @@
 -- Inputs that stand for others, taken one after the other, and where a path is read; why something
 -- wasn't taken, and what was told of it; and why packing failed.
-use Rattle.std.proofs.Common.{drop, Err, inl, inr, None, OnOk, refl, Some, ◌++◌, ◌+◌, ◌-◌, ◌<◌, ◌⊎◌}
-use Rattle.thorin_commands.specs.Cause.{Alone, Archive, IsUnfit, Reasons, Refuses, StopsIn, Untaken}
+use Rattle.std.proofs.Common.{drop, inl, inr, List, map, None, OnOk, refl, ◌++◌, ◌+◌, ◌-◌, ◌<◌, ◌⊎◌}
+use Rattle.thorin_commands.specs.Cause.{Archive, IsUnfit, Plain, Reasons, Refuses, StopsAt, StopsIn}
 use Rattle.thorin_commands.specs.Cause.{Finishing, IsCauseOf, IsRefused, IsUntaken, Told, told_text}
-use Rattle.thorin_commands.specs.Cause.{IsMalformed, IsTakenNot, IsUnfinished, refusal_text, Unread}
+use Rattle.thorin_commands.specs.Cause.{IsMalformed, IsUnfinished, refusal_text, Taking, Unfinished}
 use Rattle.thorin_commands.specs.{Failing.IsWhy, Opened.TookAll, Taken.IsReadInto, Taken.IsTakenFor}
-use Rattle.std.proofs.Common.{Bool, false, get_or, IfErr, length, List, Option, Result, take, true}
-use Rattle.thorin_commands.specs.Cause.{AreRefused, IsCauseFor, IsNotTaken, StopsAmong, Unfinished}
+use Rattle.std.proofs.Common.{Bool, false, get_or, IfErr, length, Option, Result, Some, take, true}
+use Rattle.thorin_commands.specs.Cause.{AreRefused, IsCauseFor, IsNotTaken, IsTakenNot, StopsAmong}
 use Rattle.thorin_commands.specs.Opened.{added_in, Fills, TookEach, TookInputs, TookNext, TookNone}
 use Rattle.thorin_commands.specs.{Naming.IsNameless, Naming.IsUncounted, Taken.Manner, Taken.Offer}
-use Rattle.thorin_commands.specs.Cause.{Among, Bad, Cause, Plain, Stops, StopsAt, Taking, Tells}
-use Rattle.thorin_commands.specs.Packing.{AreAsked, IsAmong, IsPackageFor, manner_of, paths_in}
-use Rattle.{dwp_archive.specs.Members.members_of, std.specs.declared.io.Error.Error as IoError}
+use Rattle.thorin_commands.specs.Cause.{Alone, Among, Bad, Cause, Stops, Tells, Unread, Untaken}
+use Rattle.thorin_commands.specs.Packing.{AreAsked, IsPackageFor, manner_of, paths_in, through}
 use Rattle.thorin_commands.specs.Archives.{AreTakenFor, is_archive, split_contents, StandsFor}
 use Rattle.thorin_commands.specs.Opened.{accepted_in, AreAllAccepted, TookMembers, unit_count}
 use Rattle.thorin_errors.specs.declared.error.Error.{Error, TheVariants.NoOutputObjectCreated}
 use Rattle.thorin_join.specs.{Builder.start, Builder.State, Join.JoinAll, Represents.units_in}
-use Rattle.std.specs.{Borrow.Bor, declared.path.Path.Path, List.slice_get, Path.path_bytes}
+use Rattle.thorin.specs.{declared.packing.Input.Input, Run.DeclinesInput, Run.Ran, Run.Took}
 use Rattle.std.proofs.lemmas.List.{append-nil, append_assoc, map-append, take-append-drop}
 use Rattle.thorin_commands.specs.declared.packing.{NoPackage.NoPackage, Packing.Packing}
 use Rattle.thorin_output.specs.{Files.IsOfWriting, Files.IsWhyUnwritten, Reads.Identity}
 use Rattle.dwp_archive.specs.{declared.error.ArchiveError.ArchiveError, Entries.Member}
 use Rattle.thorin_builder.specs.declared.reader.NotTaken.TheVariants.{Declined, Failed}
 use Rattle.thorin_errors.specs.{declared.error.InputError.InputError, Errors.error_of}
-use Rattle.thorin_commands.specs.Packing.{asked, asks, Fails, out_of, Packs, through}
+use Rattle.thorin_commands.specs.Packing.{asked, asks, Fails, IsAmong, out_of, Packs}
+use Rattle.{dwp_archive.specs.Members.members_of, thorin.proofs.Running.join-append}
 use Rattle.thorin_builder.specs.{declared.reader.NotTaken.NotTaken, Taking.Outcome}
-use Rattle.thorin.{proofs.Running.join-append, specs.declared.packing.Input.Input}
 use Rattle.thorin_builder.specs.Reading.{IsRead, OnDeclined, outcome_of, unread}
 use Rattle.thorin_print.specs.{Answers.FailsBy, declared.output.Failure.Failure}
 use Rattle.thorin_inputs.specs.{declared.growth.Growth.Growth, Prefixes.mapped}
-use Rattle.std.proofs.Common.{[], ap, map, Ok, sym, ℕ, ◌∙◌, ◌∷◌, ◌≡◌, ◌≢◌}
+use Rattle.std.proofs.Common.{[], ap, Err, Ok, sym, ℕ, ◌∙◌, ◌∷◌, ◌≡◌, ◌≢◌}
+use Rattle.std.specs.declared.{io.Error.Error as IoError, path.Path.Path}
 use Rattle.std.proofs.lemmas.List.{Elements.filter-append, take_more}
+use Rattle.std.specs.{Borrow.Bor, List.slice_get, Path.path_bytes}
 use Rattle.dwp_elf.specs.FileText.{file_text, Object as File}
-use Rattle.thorin.specs.Run.{DeclinesInput, Ran, Took}
 use Rattle.dwp_archive.specs.View as view
 use Rattle.dwp_archive.specs.declared.error.ArchiveError.TheVariants as archive_errors
 use Rattle.dwp_archive.specs.declared.member.Member as declared

@@ -1,17 +1,15 @@
 -- What was told where a package was made, and what was made of inputs.
-use Rattle.std.proofs.Common.{Err, inr, List, map, None, refl, Some, sym, true, ◌++◌, ◌∷◌, ◌≤◌, ◌⊎◌}
-use Rattle.std.proofs.Common.{arith, Bool, false, get_or, IfErr, length, OnOk, Option, Result, take}
-use Rattle.thorin_commands.specs.Cause.{Archive, Bad, IsNotTaken, IsUnfinished, StopsIn, Unfinished}
-use Rattle.thorin_commands.specs.Warned.{AreLacks, IsLeftLine, TellsInputs, TellsMacros, TellsNamed}
-use Rattle.thorin_commands.specs.Warned.{IsNamedLine, names, PacksTelling, TellsTaking, TellUnsplit}
+use Rattle.std.proofs.Common.{Bool, Err, inl, inr, None, OnOk, refl, sym, take, ◌++◌, ◌+◌, ◌<◌, ◌⊎◌}
+use Rattle.std.proofs.Common.{arith, false, get_or, IfErr, length, List, Option, Result, Some, true}
+use Rattle.thorin_commands.specs.Cause.{Bad, IsNotTaken, IsUnfinished, Reasons, StopsIn, Unfinished}
+use Rattle.thorin_commands.specs.Warned.{AreLacks, IsNamedLine, TellsNamed, TellsTaken, TellsTaking}
 use Rattle.thorin_commands.specs.Warned.{TellsUnsplit, TellsUnsplitRun, TellUnsplitBy, unsplit_line}
-use Rattle.thorin_commands.specs.Warned.{left_line, missing_in, named_line, TellsAdded, TellsTaken}
-use Rattle.{std.proofs.KnownBytes.Appends-nil, thorin_output.specs.declared.warnings.Warned.Warned}
-use Rattle.thorin_commands.specs.Cause.{Among, Cause, Plain, Reasons, Refuses, StopsAt, Unread}
+use Rattle.thorin_commands.specs.Warned.{names, PacksTelling, TellsInputs, TellsMacros, TellUnsplit}
+use Rattle.thorin_commands.specs.Warned.{IsLeftLine, left_line, missing_in, named_line, TellsAdded}
+use Rattle.{std.specs.Io.KnownBytes.Appends, thorin_output.specs.declared.warnings.Warned.Warned}
+use Rattle.thorin_commands.specs.Cause.{Alone, Among, Archive, Cause, Refuses, StopsAt, Unread}
 use Rattle.thorin_errors.specs.declared.error.Error.{Error, TheVariants.NoOutputObjectCreated}
 use Rattle.std.proofs.lemmas.List.{append-nil, append_assoc, map-append, take_all, take_more}
-use Rattle.{std.proofs.KnownBytes.Appends-trans, thorin.specs.declared.packing.Input.Input}
-use Rattle.{std.specs.Io.KnownBytes.Appends, thorin_inputs.specs.declared.notes.Lack.Lack}
 use Rattle.thorin_commands.specs.declared.packing.{NoPackage.NoPackage, Packing.Packing}
 use Rattle.thorin_commands.specs.Opened.{added_in, left, TookAll, TookNone, unit_count}
 use Rattle.thorin_commands.specs.Warned.{InOrder, InTurn, others, path_of, TellsLeft}
@@ -19,15 +17,17 @@ use Rattle.thorin_commands.specs.Packing.{AreAsked, asked, asks, manner_of, out_
 use Rattle.dwp_table.specs.declared.object.DebugTypeSignature.{DebugTypeSignature}
 use Rattle.thorin_print.specs.{Answers.Outcome, Answers.Prints, Told.taken_line}
 use Rattle.thorin_commands.specs.Made.{IsMade, IsMadeFor, IsReady, TookTelling}
-use Rattle.std.proofs.Common.{[], ap, inl, Ok, ℕ, ◌+◌, ◌-◌, ◌<◌, ◌∙◌, ◌≡◌}
+use Rattle.thorin_inputs.specs.declared.notes.Lack.{Lack, TheVariants.Types}
+use Rattle.std.proofs.Common.{[], ap, map, Ok, ℕ, ◌-◌, ◌∙◌, ◌∷◌, ◌≡◌, ◌≤◌}
 use Rattle.thorin_errors.specs.Errors.{NoOutputObjectCreated as NoneBegun}
-use Rattle.thorin_commands.specs.{Cause.Alone, Taken.Manner, Taken.Offer}
+use Rattle.thorin_commands.specs.{Cause.Plain, Taken.Manner, Taken.Offer}
 use Rattle.thorin_join.specs.Builder.{differing_in, finish_test, State}
-use Rattle.thorin_inputs.specs.declared.notes.Lack.TheVariants.{Types}
 use Rattle.dwp_table.specs.declared.object.DwarfObject.{DwarfObject}
 use Rattle.thorin_commands.proofs.Causes.{added_more, took_more}
 use Rattle.thorin_output.specs.Warnings.{IsPrinted, IsWarning}
 use Rattle.dwp_elf.specs.FileText.{file_text, Object as File}
+use Rattle.std.proofs.KnownBytes.{Appends-nil, Appends-trans}
+use Rattle.thorin.specs.declared.packing.Input.{Input}
 use Rattle.thorin_commands.specs.declared.packing.NoPackage.TheVariants as refusals
 
 -- ---- one text after the other

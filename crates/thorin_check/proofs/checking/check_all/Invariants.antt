@@ -1,5 +1,5 @@
-use Rattle.{std.proofs.Common.take, thorin_check.specs.Checking.TellsExecutables}
-use Rattle.thorin_check.specs.Telling.{so_far, Told}
+use Rattle.thorin_check.specs.{Checking.TellsExecutables, Telling.so_far, Telling.Told}
+use Rattle.std.proofs.Common.{take}
 use Rattle.thorin_check.proofs.checking.check_all.Given as goal
 
 -- the faults of the executables so far

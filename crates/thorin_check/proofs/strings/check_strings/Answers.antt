@@ -1,8 +1,8 @@
-use Rattle.thorin_check.proofs.Told.{first_again, first_more, first_none, none_told, stopped_behind}
-use Rattle.{std.proofs.lemmas.List.Sorted.All-permutation, thorin_print.proofs.Printed.none_grown}
+use Rattle.thorin_check.proofs.Told.{first_again, first_all, first_more, first_none, stopped_behind}
+use Rattle.std.proofs.{Common.sym, Common.◌∙◌, lemmas.List.Sorted.All-permutation}
 use Rattle.thorin_check.{proofs.Packages.same_offsets, specs.Gathered.IsOfUnit}
-use Rattle.thorin_check.proofs.Told.{exit_is, first_all, told_as, told_then}
-use Rattle.std.{proofs.Common.sym, proofs.Common.◌∙◌, specs.List.All}
+use Rattle.thorin_check.proofs.Told.{exit_is, none_told, told_as, told_then}
+use Rattle.{std.specs.List.All, thorin_print.proofs.Printed.none_grown}
 use Rattle.thorin_check.proofs.strings.check_strings.Goals as goal
 
 pub loop-i-init : goal.loop-i-init

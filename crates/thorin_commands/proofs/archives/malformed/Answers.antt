@@ -1,5 +1,5 @@
-use Rattle.{dwp_archive.specs.Texts.archive_text, thorin_commands.proofs.Lines.followed}
-use Rattle.thorin_commands.specs.Cause.{Malformed}
+use Rattle.thorin_commands.{proofs.Lines.followed, specs.Cause.Malformed}
+use Rattle.dwp_archive.specs.Texts.{archive_text}
 use Rattle.std.proofs.Common.{refl, rules, Some}
 use Rattle.thorin_commands.proofs.archives.malformed.Goals as goal
 

@@ -1,8 +1,8 @@
-use Rattle.{std.proofs.lemmas.Result.IfOk-weaker, thorin_commands.specs.Warned.TellsInputs}
 use Rattle.thorin_commands.proofs.Warned.{made_for, made_ready, made_twice, no_macros}
 use Rattle.std.proofs.Common.{[], inl, map, refl, rules, string_bytes, true, ◌≡◌}
+use Rattle.thorin_commands.{proofs.Causes.empty_for, specs.Warned.TellsInputs}
 use Rattle.thorin_commands.specs.Packing.{asked, asks, declines, reads}
-use Rattle.thorin_commands.proofs.Causes.{empty_for}
+use Rattle.std.proofs.lemmas.Result.{IfOk-weaker}
 use Rattle.thorin_commands.proofs.packing.packed.Goals as goal
 
 pub returns-in-Ok-clause-ready : goal.returns-in-Ok-clause-ready
