@@ -278,6 +278,8 @@ pub some_fault : (faults : List FaultValue) (status : ℕ) → status ≡ status
     → status ≡ 1 → faults ≢ []
 some_fault faults status e is none = let told = rw none at e in omega arith
 
+-- ---- units that an executable names
+
 module _ (executable : List ℕ) (named : Named)
     (looked : Result (Option FoundUnit) PackageError) where
   pub missing_some : (unit : FoundUnit) → looked ≡ Ok (Some unit)

@@ -167,7 +167,7 @@ module _ (pack : Package) (slots : List UnitEntry) (kind : SectionKind) (i : ℕ
       let lt = is.1 in
       let there = has is.0 slot (omega arith) range (rw is.2 here) in rw is.2 at there
 
--- ---- its ranges
+-- ---- the ranges of a unit
 
 -- what holds of each that isn't found, and of some behind these
 find_misses : {X : Type 0} (p : X → Bool) (Q : X → Type 0) → ((x : X) → p x ≡ false → Q x)
@@ -337,6 +337,8 @@ own_once pack is_types a b one other is so here there same =
     let middle : own_in_row pack a one.row ≡ own_in_row pack b other.row =
     rw (ranges, both.1) refl in
     from_row pack a one here ∙ middle ∙ sym (from_row pack b other there)
+
+-- ---- where strings end
 
 module _ (strings : List ℕ) where
   behind : (from offset : ℕ) → Nowhere (Passes (is_byte 0) strings) from (length strings)

@@ -252,6 +252,8 @@ pub string_faulty : (object : DwarfObject) (i : ℕ) (read : Result (Option (Lis
     → TellsString object i read (of_unit object text ∷ [])
 string_faulty object i read error e text is = grind (arith)
 
+-- ---- rows that no slot names
+
 -- what was told of one more row: a slot names it, or no slot does
 pub row_more : (kind : List ℕ) (is_types : Bool) (slots : List UnitEntry) (row : ℕ)
     (new : List ℕ) (faults more : List FaultValue) → All (IsUnnamed slots is_types (row + 1)) new
@@ -302,6 +304,8 @@ none_names is_types row slots i e sorted before lt picked other named =
           let below = le_of (get_or slots i e).row named.slot.row is_types
           (get_or slots i e).object named.slot.object kind named.is_kind rise in omega arith)
     ]
+
+-- ---- units, one of each range of string offsets
 
 -- string offsets behind some, if there are some, have this number or a higher one
 abbrev pub bound : Option StringRange → ℕ

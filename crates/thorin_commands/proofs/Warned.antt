@@ -285,6 +285,8 @@ taken_told verbose warns partial list added state lacks a b c d p q r = record {
       (Appends-trans b c d q.text r.text q.added r.added);
 }
 
+-- ---- what was made of inputs
+
 -- the type units that differ don't go where units that executables refer to do
 pub differing_left : (partial : Bool) (state : State)
     → differing_in (left partial state) ≡ differing_in state

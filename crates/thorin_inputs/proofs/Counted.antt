@@ -241,6 +241,8 @@ sized strings at =
     let rest = length-drop at strings in
     grind (arith, nat_tests, first, long, rest)
 
+-- ---- sections that strings are named by
+
 -- what was met, with what is left, is the first of all
 pub met_next : (kind : SectionKind) (xs : List SectionMeaning) (i : ℕ) (s : SectionMeaning)
     (before : Option (List ℕ)) → slice_get xs i ≡ Some s
@@ -279,6 +281,8 @@ between_next file i s first behind is was =
       left = λ step at. was.left step at
           ∙ section_passed file.order step at file.sections i s is other;
     }))
+
+-- ---- files that were read
 
 file_test : (x y : File) → is_at (file_cmp x) y ≡ is_file x y
 file_test x y = grind (arith, nat_tests)

@@ -101,6 +101,8 @@ shorter (x ∷ f) [] text r s a b u = absurd (cc u)
 shorter (x ∷ f) (y ∷ g) [] r s a b u = absurd (cc a)
 shorter (x ∷ f) (y ∷ g) (z ∷ text) r s a b u = grind (arith, nat_tests, shorter f g text r s)
 
+-- ---- FROMs in order
+
 abbrev pub order : Bor (List ℕ) → Bor (List ℕ) → Ordering
 order x y = slice_cmp nat_cmp x.now y.now
 
@@ -208,6 +210,8 @@ module _ (es : Entries) (count : ℕ) (text : List ℕ) (short : count ≤ lengt
           let other = eqb-false k (place - 1) e in
           walked.others k d (omega (arith, ltb-false k (place - 1) b, other)) hi));
     }
+
+-- ---- the longest FROM that a path begins with
 
 longer-none : (r : Replaced) → longer r None ≡ r
 longer-none r = grind arith
