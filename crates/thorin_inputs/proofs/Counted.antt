@@ -1,23 +1,41 @@
--- Places of strings that are counted one after another, and what their strings have together.
-use Rattle.std.proofs.Common.{Bool, suc, zero, [], ℕ, ◌&&◌, ◌+◌, ◌-◌, ◌<◌, ◌||◌, ◌∙◌, ◌∷◌, ◌≡◌, ◌≤◌}
-use Rattle.std.proofs.Common.{ap, arith, cond, drop, eqb, List, ltb, refl, Some, subst, sym, true}
-use Rattle.std.proofs.Common.{false, leb, length, length-drop, length-take, nat_lt, slice_get}
-use Rattle.std.proofs.Common.{sum_by}
-use Rattle.std.proofs.{lemmas.Bool.Decides.nat_tests, lemmas.Bool.ltb-false}
-use Rattle.std.specs.{BTreeSet.BTreeSet, List.position_or_len, List.range_with_len}
-use Rattle.std.specs.{BTreeSet.contains, BTreeSet.Updates, List.list_any, Ordering.nat_cmp}
-use Rattle.std.specs.Prelude.{Err, Ok, Result}
-use Rattle.std.proofs.lemmas.List.Sums.{sum_by-cons, sum_by-le-sum_by}
-use Rattle.dwp_bytes.specs.StringOffsets.{string_at}
-use Rattle.dwp_bytes.specs.declared.error.ReadError.{ReadError}
-use Rattle.dwp_decompress.proofs.Sections.{drop_step}
-use Rattle.dwp_elf_read.specs.Elf.{holds, SectionMeaning}
-use Rattle.dwp_base.specs.declared.endian.Endianness.{Endianness}
-use Rattle.dwp_base.specs.declared.section.SectionKind.TheVariants.{StrOffsets}
+-- What is counted of inputs: sizes of sections that are added up; places of strings, one after
+-- another, and what their strings have together; the sections that strings are named by, met one
+-- after another; and files, looked up among those that were read.
+use Rattle.std.proofs.Common.{drop, Err, leb, List, min, refl, true, zero, ◌-◌, ◌<◌, ◌^◌, ◌||◌, ◌≤◌}
+use Rattle.std.proofs.Common.{length-drop, length-take, nat_lt, Option, option_map, slice_get, ◌&&◌}
+use Rattle.std.specs.{List.position_or_len, List.range_with_len, Option.option_or, Ordering.nat_cmp}
+use Rattle.{dwp_decompress.proofs.Sections.drop_step, thorin_inputs.specs.RepetitionFields.file_cmp}
+use Rattle.thorin_inputs.specs.InnerStrings.{has_word, names, plain_content, sizes_at, string_size}
+use Rattle.thorin_inputs.specs.{InnerStrings.most_inner, UsedSections.AreBetween, UsedSections.met}
+use Rattle.std.proofs.Common.{arith, Bool, cond, false, length, None, Result, Some, subst, sum_by}
+use Rattle.thorin_inputs.specs.{InnerStrings.first_content, Repetitions.File, Repetitions.is_file}
+use Rattle.thorin_inputs.specs.{declared.overlaps.InnerStrings.InnerStrings, Overlaps.each_size}
+use Rattle.dwp_base.specs.declared.section.SectionKind.{SectionKind, TheVariants.StrOffsets}
+use Rattle.{dwp_base.proofs.Bools.by-bool, std.specs.List.list_any, std.specs.Map.lookup}
+use Rattle.dwp_bytes.specs.{declared.error.ReadError.ReadError, StringOffsets.string_at}
+use Rattle.dwp_base.{proofs.Finds.find_at, specs.declared.endian.Endianness.Endianness}
+use Rattle.std.proofs.lemmas.List.{drop_all, Sums.sum_by-cons, Sums.sum_by-le-sum_by}
+use Rattle.std.proofs.Common.{[], ap, eqb, ltb, Ok, suc, sym, ℕ, ◌+◌, ◌∙◌, ◌∷◌, ◌≡◌}
 use Rattle.thorin_inputs.specs.InnerPlaces.{Counts, is_counted, IsSummed, IsWithin}
-use Rattle.thorin_inputs.specs.InnerStrings.{has_word, most_inner, names}
-use Rattle.thorin_inputs.specs.InnerStrings.{plain_content, sizes_at, string_size}
-use Rattle.thorin_inputs.specs.declared.overlaps.InnerStrings.{InnerStrings}
+use Rattle.std.proofs.lemmas.Bool.{Decides.nat_tests, eqb-true, ltb-false}
+use Rattle.std.specs.BTreeMap.{BTreeMap, is_at, Updates as MapUpdates}
+use Rattle.dwp_elf_read.specs.Elf.{Elf, holds, SectionMeaning}
+use Rattle.std.specs.BTreeSet.{BTreeSet, contains, Updates}
+
+abbrev left : List SectionMeaning → ℕ → ℕ
+left sections i = sum_by each_size (drop i sections)
+
+pub each_step : (sections : List SectionMeaning) (i size here more : ℕ) (section : SectionMeaning)
+    → slice_get sections i ≡ Some section → here ≡ each_size section
+    → more ≡ min (size + here) (2 ^ 64 - 1)
+    → min (more + left sections (i + 1)) (2 ^ 64 - 1) ≡ min (size + left sections i) (2 ^ 64 - 1)
+each_step sections i size here more section at h m =
+    let all = ap (sum_by each_size) (drop_step sections i section at)
+    ∙ sum_by-cons each_size section (drop (i + 1) sections) in
+    omega (arith, all, h, m)
+
+pub each_end : (sections : List SectionMeaning) (i : ℕ) → length sections ≤ i → left sections i ≡ 0
+each_end sections i h = ap (sum_by each_size) (drop_all i sections h)
 
 -- ---- sizes
 
@@ -222,3 +240,61 @@ sized strings at =
     let long = length-take (position_or_len (λ b. eqb b 0) bytes) bytes in
     let rest = length-drop at strings in
     grind (arith, nat_tests, first, long, rest)
+
+-- ---- sections that strings are named by
+
+-- what was met, with what is left, is the first of all
+pub met_next : (kind : SectionKind) (xs : List SectionMeaning) (i : ℕ) (s : SectionMeaning)
+    (before : Option (List ℕ)) → slice_get xs i ≡ Some s
+    → option_or before (first_content kind (drop i xs)) ≡ first_content kind xs
+    → option_or (met kind before s) (first_content kind (drop (i + 1) xs)) ≡ first_content kind xs
+met_next kind xs i s (Some x) at h = h
+met_next kind xs i s None at h =
+    let here = ap (option_map plain_content) (find_at (holds kind) xs i s at) in
+    by-bool _ (holds kind s) (λ its. rw its (sym (rw its at here) ∙ h))
+    (λ none. rw none (sym (rw none at here) ∙ h))
+
+-- the first section of string offsets, and the last, once one more section is met
+pub between_next : (file : Elf) (i : ℕ) (s : SectionMeaning) (first behind : ℕ)
+    → slice_get file.sections i ≡ Some s → AreBetween file first behind i
+    → AreBetween file (cond (holds StrOffsets s && eqb behind 0) i first)
+    (cond (holds StrOffsets s) (i + 1) behind) (i + 1)
+between_next file i s first behind is was =
+    by-bool _ (holds StrOffsets s)
+    (λ yes. by-bool _ (eqb behind 0)
+    (λ none_behind. rw (yes, none_behind) (record {
+      low = omega arith;
+      high = omega arith;
+      before = λ step at. sym (rw (eqb-true behind 0 none_behind) at (was.left step at));
+      left = λ step at. refl;
+    }))
+    (λ some. rw (yes, some) (record {
+      low = omega (arith, was.low, was.high);
+      high = omega arith;
+      before = was.before;
+      left = λ step at. refl;
+    })))
+    (λ other. rw other (record {
+      low = was.low;
+      high = omega (arith, was.high);
+      before = was.before;
+      left = λ step at. was.left step at
+          ∙ section_passed file.order step at file.sections i s is other;
+    }))
+
+-- ---- files that were read
+
+file_test : (x y : File) → is_at (file_cmp x) y ≡ is_file x y
+file_test x y = grind (arith, nat_tests)
+
+pub file_tests : (λ (x : File). is_at (file_cmp x)) ≡ is_file
+file_tests = λ i x y. file_test x y i
+
+-- one more
+pub noted_at : (old new : BTreeMap File ℕ) (key : File) (input : ℕ)
+    → MapUpdates file_cmp old new key (Some input) → (file : File)
+    → lookup (is_file file) new.entries
+    ≡ cond (is_file key file) (Some input) (lookup (is_file file) old.entries)
+noted_at old new key input updates =
+    subst (λ (is : File → File → Bool). (file : File) → lookup (is file) new.entries
+    ≡ cond (is key file) (Some input) (lookup (is file) old.entries)) file_tests updates.0
