@@ -1,3 +1,1 @@
-pub mod Found
-pub mod Lebs
-pub mod Forward
+pub mod Reading

@@ -185,7 +185,7 @@ pub trait Reader: Copy {
 
     /// An unsigned number of variable length. Errors: `BigLeb` past 10 bytes or 64 bits,
     /// `UnexpectedEof` where the bytes end before the number.
-    #[tactic(auto, using(crate::proofs::Lebs::small, crate::proofs::Lebs::seven_more))]
+    #[tactic(auto, using(crate::proofs::Reading::small, crate::proofs::Reading::seven_more))]
     fn read_uleb128(&mut self) -> Result<u64, ReadError>
         ensures { Reads (λ x. x) result (input self.old) (input self.new) uleb_at }
     {
@@ -211,7 +211,7 @@ pub trait Reader: Copy {
 
     /// A signed number of variable length. Errors: `BigLeb` past 10 bytes or 64 bits,
     /// `UnexpectedEof` where the bytes end before the number.
-    #[tactic(auto, using(crate::proofs::Lebs::small, crate::proofs::Lebs::seven_more))]
+    #[tactic(auto, using(crate::proofs::Reading::small, crate::proofs::Reading::seven_more))]
     fn read_sleb128(&mut self) -> Result<i64, ReadError>
         ensures { Reads (λ x. x) result (input self.old) (input self.new) sleb_at }
     {

@@ -1,4 +1,1 @@
-pub mod Lengths
-pub mod Limit
 pub mod Sections
-pub mod Sums

@@ -88,7 +88,7 @@ fn with_plain(
 /// than zlib could write (`plain_length`); and `Memory`. The result is read again and compared
 /// before it is given: where it were to mean anything else, the answer would be `Unrepresentable`
 /// too.
-#[tactic(auto, unfolding(crate::specs::Result::decompressed_of, crate::specs::Result::plain_length_of), using(crate::proofs::Limit::nothing_more))]
+#[tactic(auto, unfolding(crate::specs::Result::decompressed_of, crate::specs::Result::plain_length_of), using(crate::proofs::Sections::nothing_more))]
 pub fn decompressed(
     alloc: Global,
     bytes: &[u8],

@@ -43,7 +43,7 @@ pub fn names_number(bytes: &[u8], file: &ElfFile<'_>) -> Option<usize>
 }
 
 /// Adds the plain name of a section, if that is asked for, compressed, and has an older name.
-#[tactic(auto, unfolding(crate::specs::Names::added_name_of, crate::specs::Names::plain_name), using(crate::proofs::Sums::older_long))]
+#[tactic(auto, unfolding(crate::specs::Names::added_name_of, crate::specs::Names::plain_name), using(crate::proofs::Sections::older_long))]
 fn add_name_of(asked: Asked, section: &Section<'_>, added: &mut Vec<u8>) -> Result<(), AllocError>
     ensures { OnOk result (added.new.items
         ≡ added.old.items ++ added_name_of asked (view.section section.now)) }
@@ -111,7 +111,7 @@ fn told_sizes(
 }
 
 /// How many bytes the table of names gets for a section.
-#[tactic(auto, unfolding(crate::specs::Names::added_name_of), using(crate::proofs::Sums::older_adds))]
+#[tactic(auto, unfolding(crate::specs::Names::added_name_of), using(crate::proofs::Sections::older_adds))]
 fn added_size(asked: Asked, section: &Section<'_>) -> usize
     ensures { result ≡ length (added_name_of asked (view.section section.now)) }
 {
@@ -122,7 +122,7 @@ fn added_size(asked: Asked, section: &Section<'_>) -> usize
 }
 
 /// How many it gets for all of them.
-#[tactic(auto, using(crate::proofs::Sums::added_step, crate::proofs::Sums::added_end))]
+#[tactic(auto, using(crate::proofs::Sections::added_step, crate::proofs::Sections::added_end))]
 fn added_sizes(asked: Asked, file: &ElfFile<'_>) -> Option<u64>
     ensures { IfSome result (λ size. size ≡ length (added_names asked (elf file.now).sections)) }
 {
@@ -143,7 +143,7 @@ pub fn size_of(file: &ElfFile<'_>, number: usize) -> u64
 
 /// Whether the plain contents are said to have more bytes than zlib could write of as many bytes as
 /// the file has, or its compressed sections.
-#[tactic(auto, unfolding(crate::specs::Sizes::tells_more), using(crate::proofs::Sums::more_told, crate::proofs::Sums::few_told))]
+#[tactic(auto, unfolding(crate::specs::Sizes::tells_more), using(crate::proofs::Sections::more_told, crate::proofs::Sections::few_told))]
 fn tells_more(asked: Asked, bytes: &[u8], file: &ElfFile<'_>, told: u64) -> bool
     ensures { result ≡ tells_more asked bytes.now (elf file.now) told }
 {
@@ -177,7 +177,7 @@ fn length_with(asked: Asked, bytes: &[u8], file: &ElfFile<'_>, told: u64) -> Opt
 }
 
 /// How many bytes a file has once its compressed sections are plain.
-#[tactic(auto, unfolding(crate::specs::Sizes::length_of), using(crate::proofs::Limit::limit_error))]
+#[tactic(auto, unfolding(crate::specs::Sizes::length_of), using(crate::proofs::Sections::limit_error))]
 pub(crate) fn length(asked: Asked, bytes: &[u8], file: &ElfFile<'_>) -> Result<u64, DecompressError>
     ensures size { GivesFile (λ size. size) result (length_of asked bytes.now (elf file.now)) }
     ensures limit { IsTrue (sum_tells_more asked bytes.now (elf file.now)
@@ -194,7 +194,7 @@ pub(crate) fn length(asked: Asked, bytes: &[u8], file: &ElfFile<'_>) -> Result<u
 /// `Unrepresentable`, as of `decompressed`: so where more than 1,032 bytes are told for each byte
 /// of the file, or of its compressed sections if these have more. Streams of zstd could write 32
 /// times as many.
-#[tactic(auto, unfolding(crate::specs::Result::plain_length_of), using(crate::proofs::Limit::nothing_more))]
+#[tactic(auto, unfolding(crate::specs::Result::plain_length_of), using(crate::proofs::Sections::nothing_more))]
 pub fn plain_length(bytes: &[u8], asked: Asked) -> Result<Option<u64>, DecompressError>
     ensures length { GivesFile (λ size. size) result (plain_length_of asked bytes.now) }
     ensures limit { IsTrue (tells_too_much asked bytes.now (elf_of bytes.now))
@@ -220,7 +220,7 @@ fn size_in(asked: Asked, section: &Section<'_>) -> u64
 }
 
 /// Whether the compressed sections that are asked for have more bytes than these.
-#[tactic(auto, using(crate::proofs::Sums::size_step, crate::proofs::Sums::size_end, dwp_base::proofs::Finds::slice_get_none))]
+#[tactic(auto, using(crate::proofs::Sections::size_step, crate::proofs::Sections::size_end, dwp_base::proofs::Finds::slice_get_none))]
 fn have_more(asked: Asked, file: &ElfFile<'_>, room: u64) -> bool
     ensures { result ≡ nat_lt room (compressed_size asked (elf file.now).sections) }
 {

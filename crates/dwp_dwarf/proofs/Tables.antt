@@ -1,23 +1,43 @@
 -- A table of abbreviations: its readings go forward, and its lists and look-ups go by what stands
--- first.
-use Rattle.dwp_dwarf.proofs.Terms
-use Terms.{◌++◌, ◌<◌, ◌>>=◌, [], ap, arith, Bool, by-bool, byte_at, cond, Declaration, declaration}
-use Terms.{declaration_at, eq-eqb, eqb, eqb-false, eqb-true, Err, false, Goes, IfSome, Input}
-use Terms.{leb_at, length, List, ne_eqb, next_at, None, Ok, Option, pairs_in, past_specifications}
-use Terms.{ReadError, refl, Result, Some, Specification, subst, suc, sym, take, uleb_at}
-use Terms.{UnexpectedEof, zero, ℕ, ◌↔◌, ◌∙◌, ◌∷◌, ◌≡◌, ◌≢◌}
-use Rattle.dwp_dwarf.specs.Abbreviations.{constant_at, is_last, specification_at, specifications_at}
-use Rattle.dwp_dwarf.specs.Abbreviations.{declaration_within, pairs_within, specifications_within}
-use Rattle.dwp_dwarf.specs.Abbreviations.{children_at, pairs_from, tag_at}
-use Rattle.dwp_units.proofs.Readings.{bind-bind, error_gives, goes_length, value_gives, value_reads}
-use Rattle.dwp_units.proofs.Readings.{bind-cond, goes_none, reads_sleb, takes_then, told_there, was}
-use Rattle.dwp_units.proofs.Readings.{Answer, by-result, by_step, Gives, goes_some, shorter, Steps}
-use Rattle.dwp_units.proofs.Readings.{bind_alike, error_reads, more_gives, test_gives, then_gives}
-use Rattle.dwp_units.proofs.Readings.{reads_byte, reads_uleb, some_reads, test_reads, then_reads}
-use Rattle.dwp_units.proofs.Readings.{goes, Reads, size, Takes}
-use Rattle.dwp_units.specs.AbbreviationCodes.{code_at}
+-- first. What stands at an offset of a section.
+use Rattle.dwp_dwarf.proofs.Terms.{by-bool, byte_at, eq-eqb, le-ltb, leb_at, length, lt-ltb, ne_eqb}
+use Rattle.dwp_units.proofs.Readings.{error_gives, error_reads, then_gives, then_reads, told_there}
+use Rattle.dwp_units.proofs.Readings.{Answer, Gives, Reads, Steps, Takes, by_step, goes, size, was}
+use Rattle.dwp_dwarf.proofs.Terms.{IfSome, Input, Option, Result, arith, false, subst, ◌++◌, ◌>>=◌}
+use Rattle.dwp_dwarf.proofs.Terms.{Err, Ok, [], ap, eqb, ltb, suc, sym, ℕ, ◌<◌, ◌↔◌, ◌∙◌, ◌∷◌, ◌≡◌}
+use Rattle.dwp_dwarf.proofs.Terms.{OffsetOutOfRange, Specification, UnexpectedEof, declaration_at}
+use Rattle.dwp_dwarf.proofs.Terms.{Bool, Goes, List, None, Some, cond, refl, take, zero, ◌≢◌, ◌≤◌}
+use Rattle.dwp_units.proofs.Readings.{reads_uleb, some_reads, takes_then, test_gives, test_reads}
+use Rattle.dwp_units.proofs.Readings.{bind_alike, goes_some, more_gives, reads_byte, reads_sleb}
+use Rattle.dwp_dwarf.specs.Abbreviations.{children_at, constant_at, is_last, pairs_from, tag_at}
+use Rattle.dwp_dwarf.proofs.Terms.{Declaration, ReadError, declaration, eqb-false, ltb-false}
+use Rattle.dwp_dwarf.specs.Abbreviations.{pairs_within, specification_at, specifications_at}
+use Rattle.dwp_units.proofs.Readings.{bind-bind, bind-cond, by-result, goes_none, shorter}
+use Rattle.dwp_dwarf.proofs.Terms.{eqb-true, from_at, next_at, pairs_in, skip_at, uleb_at}
+use Rattle.{dwp_units.specs.AbbreviationCodes.code_at, std.specs.List.AllByRecursion}
+use Rattle.{dwp_bytes.specs.Input.after, dwp_dwarf.proofs.Terms.past_specifications}
+use Rattle.dwp_dwarf.specs.Abbreviations.{declaration_within, specifications_within}
+use Rattle.dwp_units.proofs.Readings.{goes_length, value_gives, value_reads}
 use Rattle.dwp_dwarf.specs.Grammar.{DeclarationsLie, IsBehindOthers}
-use Rattle.std.specs.List.{AllByRecursion}
+
+-- past the end nothing stands
+pub past_end : (place : ℕ) (section : Input) → length section.bytes < place → from_at place section
+    ≡ Err OffsetOutOfRange
+unfolding from_at
+past_end place section h = rw (lt-ltb _ _ h) refl
+
+-- within the section the rest of it does
+pub from_within : (offset : ℕ) (section : Input) → offset ≤ length section.bytes
+    → from_at offset section ≡ Ok (after offset section)
+unfolding from_at skip_at
+from_within offset section fits = rw (le-ltb (length section.bytes) offset fits) refl
+
+pub from_is : (offset : ℕ) (section i : Input) → from_at offset section ≡ Ok i
+    → (offset ≤ length section.bytes) × (i ≡ after offset section)
+unfolding from_at skip_at
+from_is offset section i e = (test_gives {P = λ j. (offset ≤ length section.bytes)
+    × (j ≡ after offset section)} (ltb (length section.bytes) offset) (λ _. error_gives)
+    (λ fits. rw fits (value_gives (ltb-false _ _ fits, refl)))).gives i e
 
 reads_constant : (form : ℕ) → Reads 0 (Unit {0}) (constant_at form)
 unfolding constant_at

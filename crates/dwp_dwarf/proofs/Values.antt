@@ -1,26 +1,31 @@
 -- The values of a root entry lie in its unit: each part that is read stands right behind the one
--- before it.
+-- before it. Attributes whose values have no bytes have no number and name no place, so the
+-- attributes that are needed tell what all tell.
 use Rattle.dwp_dwarf.proofs.Terms
-use Terms.{◌++◌, ◌-◌, ◌>>=◌, [], ap, arith, attribute_at, attributes, byte_at, cond, DebugAttribute}
-use Terms.{DebugEntry, Declaration, declaration, Encoding, eqb, eqb-true, Err, Fixed, front, Goes}
-use Terms.{IfSome, Input, layout_of, leb_at, List, map, named_form_at, None, Ok, ok_or, Option}
-use Terms.{past_value, ReadError, refl, Result, Some, Specification, suc, uleb_at, Unit}
-use Terms.{UnknownCode, UnknownForm, value_at, zero, ℕ, ◌∙◌, ◌∷◌, ◌≡◌, ◌≢◌}
-use Rattle.dwp_units.proofs.Readings.{error_gives, number_goes, test_gives, then_gives, value_gives}
-use Rattle.dwp_units.proofs.Readings.{goes_some, goes_then, reads_sleb, reads_uleb, size, skip_goes}
-use Rattle.dwp_units.proofs.Readings.{Answer, by_step, Gives, goes, goes_none, shorter, Steps, was}
-use Rattle.dwp_units.proofs.Readings.{bind_alike, bind-bind, bind-cond, goes_after, more_gives}
-use Rattle.dwp_units.proofs.Readings.{reads_byte, then_split}
-use Rattle.dwp_bytes.specs.Input.{after, found_at}
-use Rattle.dwp_dwarf.specs.Entries.{entry_at, root_at}
-use Rattle.dwp_units.specs.AbbreviationCodes.{root_code_at}
-use Rattle.dwp_dwarf.specs.Values.{LiesFirst, LiesInUnit, RootValuesLie, ValuesLie}
-use Rattle.dwp_dwarf.proofs.Tables.{code_goes}
-use Rattle.dwp_units.proofs.Units.{listed_ok, Onward, unit_takes}
-use Rattle.dwp_dwarf.specs.declared.value.{BlockLength.BlockLength, FormLayout.FormLayout}
+use Terms.{Declaration, UnknownCode, UnknownForm, attribute_at, attributes, declaration, past_value}
+use Terms.{Err, Goes, List, None, Ok, [], ap, eqb, map, met, suc, sym, ℕ, ◌-◌, ◌∙◌, ◌∷◌, ◌≡◌, ◌≢◌}
+use Terms.{DebugEntry, ReadError, has_bytes, is_needed, layout_of, split_at, split_in, value_at}
+use Terms.{Encoding, add-zero, eqb-true, is_none, is_unmet, neither, none_met, skip_at, uleb_at}
+use Terms.{Fixed, Input, Some, Unit, arith, cond, false, front, ok_or, refl, zero, ◌++◌, ◌>>=◌}
+use Terms.{Format, IfSome, Option, Result, by-bool, byte_at, le-ltb, leb_at, length, needed}
+use Terms.{DebugAttribute, Specification, SplitAttributes, first_number, named_form_at}
+use Rattle.dwp_units.proofs.Readings.{error_gives, number_goes, then_gives, then_split, value_gives}
+use Rattle.dwp_units.proofs.Readings.{more_gives, reads_byte, reads_sleb, reads_uleb, test_gives}
 use Rattle.dwp_dwarf.specs.declared.value.FormLayout.TheVariants.{Block, Signed, Text, Unsigned}
+use Rattle.dwp_dwarf.specs.declared.{needed.UnmetNames.UnmetNames, value.FormLayout.FormLayout}
+use Rattle.dwp_units.proofs.Readings.{after-zero, bind_alike, goes_after, goes_then, skip_goes}
+use Rattle.{dwp_dwarf.proofs.Tables.code_goes, dwp_units.specs.AbbreviationCodes.root_code_at}
+use Rattle.dwp_units.proofs.Readings.{Answer, Gives, Steps, by_step, goes, shorter, size, was}
+use Rattle.dwp_units.proofs.Readings.{bind-bind, bind-cond, by-result, goes_none, goes_some}
+use Rattle.dwp_dwarf.specs.Split.{all_read, none_found, split_attributes, with_attribute}
 use Rattle.dwp_dwarf.specs.declared.value.BlockLength.TheVariants.{Four, Leb, One, Two}
+use Rattle.dwp_dwarf.specs.Values.{LiesFirst, LiesInUnit, RootValuesLie, ValuesLie}
+use Rattle.dwp_dwarf.specs.Entries.{entry_at, number_of, place_of, root_at}
 use Rattle.dwp_dwarf.specs.Forms.{block_length_at, named_within, text_at}
+use Rattle.dwp_dwarf.specs.declared.value.BlockLength.{BlockLength}
+use Rattle.dwp_units.proofs.Units.{Onward, listed_ok, unit_takes}
+use Rattle.std.{proofs.Math.Nat.sub_self, specs.Option.option_or}
+use Rattle.dwp_bytes.specs.Input.{after, found_at}
 
 -- ---- the names of forms
 
@@ -157,3 +162,122 @@ pub root_values_lie : RootValuesLie
 root_values_lie section i rest table u e read others unit root =
     let inside = ((unit_takes section i).gives (u, rest) unit).inside in
     (root_lies u table inside).gives (Some e) root read others
+
+-- ---- an attribute whose value has no bytes
+
+abbrev pub empty : Specification → Input → DebugAttribute
+empty s i = record { name = s.name; form = s.form; value = front 0 i }
+
+-- what such an attribute is, and that it has no number and names no place
+pub record IsEmpty (encoding : Encoding) (s : Specification) (i : Input) : Type 0 where
+  pub read : attribute_at encoding s i ≡ Ok (empty s i, i)
+  pub numberless : number_of (empty s i) ≡ None
+  pub placeless : (format : Format) → place_of format (empty s i) ≡ None
+
+empty_read : (encoding : Encoding) (s : Specification) (i : Input) → named_form_at s.form i ≡
+    Ok (s.form, i) → layout_of encoding s.form ≡ Some (Fixed 0)
+    → attribute_at encoding s i ≡ Ok (empty s i, i)
+unfolding attribute_at value_at past_value skip_at split_at
+empty_read encoding s i named layout =
+    let fits = le-ltb (length i.bytes) 0 (omega arith) in
+    rw (named, layout, fits, after-zero i, add-zero, sub_self i.place, fits) refl
+
+pub is_empty : (encoding : Encoding) (s : Specification) (i : Input) → has_bytes s ≡ false
+    → IsEmpty encoding s i
+unfolding number_of place_of
+is_empty encoding s i none = record {
+  read = empty_read encoding s i (grind (arith, named_form_cases s.form i)) (grind arith);
+  numberless = grind arith;
+  placeless = λ format. grind arith;
+}
+
+-- ---- the first number
+
+-- it is among those that are needed
+pub first_needed : (name : ℕ) (encoding : Encoding) (unmet : UnmetNames) (ss : List Specification)
+    (i : Input) → first_number name (attributes encoding (needed unmet ss) i)
+    ≡ first_number name (attributes encoding ss i)
+first_needed name encoding unmet [] i = refl
+first_needed name encoding unmet (s ∷ ss) i =
+    let read = λ (h : has_bytes s ≡ false). (is_empty encoding s i h).read in
+    let none = λ (h : has_bytes s ≡ false). (is_empty encoding s i h).numberless in
+    grind (arith, read, none, first_needed name encoding (met unmet s.name) ss)
+
+-- ---- of each name that may name a split object the first attribute
+
+-- the first of each name, before and among others
+abbrev pub joined : SplitAttributes → SplitAttributes → SplitAttributes
+joined before rest = record {
+  dwo_name = option_or before.dwo_name rest.dwo_name;
+  gnu_dwo_name = option_or before.gnu_dwo_name rest.gnu_dwo_name;
+  comp_dir = option_or before.comp_dir rest.comp_dir;
+  str_offsets_base = option_or before.str_offsets_base rest.str_offsets_base;
+}
+
+-- those before and those that are left
+abbrev pub joined_rest : Format → SplitAttributes → List (Result DebugAttribute ReadError)
+    → Result SplitAttributes ReadError
+joined_rest format before rest = all_read rest >>= λ attributes.
+    Ok (joined before (split_attributes format attributes))
+
+joined-first : (format : Format) (before : SplitAttributes) (a : DebugAttribute)
+    (rest : List DebugAttribute) → joined before (split_attributes format (a ∷ rest)) ≡ joined
+    (with_attribute format before a) (split_attributes format rest)
+joined-first format before a rest = grind arith
+
+pub after_first : (format : Format) (before : SplitAttributes) (a : DebugAttribute)
+    (rest : List (Result DebugAttribute ReadError)) → joined_rest format before (Ok a ∷ rest)
+    ≡ joined_rest format (with_attribute format before a) rest
+after_first format before a rest = bind-bind (all_read rest) _ _
+    ∙ bind_alike (all_read rest) _ _ (λ others _. ap Ok (joined-first format before a others))
+
+-- ---- those that are needed
+
+-- the names of which none was found
+abbrev unmet_of : SplitAttributes → UnmetNames
+unmet_of before = record {
+  dwo_name = is_none before.dwo_name;
+  gnu_dwo_name = is_none before.gnu_dwo_name;
+  comp_dir = is_none before.comp_dir;
+}
+
+-- an attribute takes its name out
+unmet_behind : (format : Format) (before : SplitAttributes) (a : DebugAttribute)
+    → unmet_of (with_attribute format before a) ≡ met (unmet_of before) a.name
+unmet_behind format before a = grind arith
+
+-- an attribute that isn't the first of its name counts for nothing
+passed_over : (format : Format) (before : SplitAttributes) (a : DebugAttribute) → place_of format a
+    ≡ None → is_unmet (unmet_of before) a.name ≡ false → with_attribute format before a ≡ before
+passed_over format before a none known = grind (arith, none, known)
+
+-- what is found is found among those that are needed
+after_needed : (format : Format) (encoding : Encoding) (before : SplitAttributes)
+    (ss : List Specification) (i : Input) → joined_rest format before (attributes encoding
+    (needed (unmet_of before) ss) i) ≡ joined_rest format before (attributes encoding ss i)
+after_needed format encoding before [] i = refl
+after_needed format encoding before (s ∷ ss) i = by-bool _ (is_needed (unmet_of before) s)
+    (λ some. rw some (by-result _ (attribute_at encoding s i) (λ x is.
+    let name = ((attribute_lies encoding s i).gives x is).name in
+    let first = after_first format before x.0 in
+    let rest = attributes encoding (needed (met (unmet_of before) s.name) ss) x.1 in
+    let same : joined_rest format (with_attribute format before x.0) rest
+    ≡ joined_rest format (with_attribute format before x.0) (attributes encoding ss x.1) =
+    rw (← name, ← unmet_behind format before x.0)
+    (after_needed format encoding (with_attribute format before x.0) ss x.1) in
+    rw is (first rest ∙ same ∙ sym (first (attributes encoding ss x.1))))
+    (λ e is. rw is refl))) (λ none. let needless = neither (has_bytes s) _ none in
+    let is = is_empty encoding s i needless.0 in
+    let same = passed_over format before (empty s i) (is.placeless format) needless.1 in
+    let unmet : met (unmet_of before) s.name ≡ unmet_of before =
+    sym (unmet_behind format before (empty s i)) ∙ ap unmet_of same in
+    rw (none, is.read, unmet) (after_needed format encoding before ss i
+    ∙ sym (after_first format before (empty s i) (attributes encoding ss i)
+    ∙ ap (λ (b : SplitAttributes). joined_rest format b (attributes encoding ss i)) same)))
+
+-- what names the split object is found among the attributes that are needed
+pub split_needed : (format : Format) (encoding : Encoding) (ss : List Specification) (i : Input)
+    → split_in format (attributes encoding (needed none_met ss) i)
+    ≡ split_in format (attributes encoding ss i)
+unfolding split_in
+split_needed format encoding ss i = after_needed format encoding none_found ss i

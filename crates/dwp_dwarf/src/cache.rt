@@ -1,6 +1,6 @@
 //! Abbreviations that are looked up by table and code, and remembered once much was read (DWARF 5,
 //! 7.5.3).
-#![tactic(auto, using(crate::proofs::Keys::none_each))]
+#![tactic(auto, using(crate::proofs::Places::none_each))]
 
 ghost use Rattle.std.specs.Prelude.{Err, Ok, option_map, true, ◌≡◌};
 ghost use Rattle.dwp_base.specs.Reading.{Answers};

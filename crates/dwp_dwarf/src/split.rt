@@ -72,7 +72,7 @@ impl<R: Reader> SplitAttributes<R> {
 }
 
 /// Those of an entry, up to the first error.
-#[tactic(auto, using(crate::proofs::NeededAttributes::after_first), unfolding(crate::specs::Split::split_in))]
+#[tactic(auto, using(crate::proofs::Values::after_first), unfolding(crate::specs::Split::split_in))]
 pub(crate) fn split_read<R: Reader>(
     entry: RootEntry<R>,
     format: Format,

@@ -219,7 +219,7 @@ fn string_at<R: Reader>(section: R, offset: u64) -> Result<R, ReadError>
 }
 
 /// What stands from an entry of a table on. OffsetOutOfRange past the end.
-#[tactic(auto, using(crate::proofs::Offsets::past_end))]
+#[tactic(auto, using(crate::proofs::Tables::past_end))]
 fn from_entry<R: Reader>(table: R, format: Format, base: u64, index: u64) -> Result<R, ReadError>
     ensures { Answers R.input result (from_at (base + index * offset_size format) (R.input table)) }
 {

@@ -133,7 +133,7 @@ fn copy_of(nodes: &[Node], version: u32) -> Node
 }
 
 /// The value of a key in a version, of so many nodes on the way at most.
-#[tactic(auto, using(crate::proofs::NewVersions::one_level), unfolding(crate::specs::Versions::value_below))]
+#[tactic(auto, using(crate::proofs::Places::one_level), unfolding(crate::specs::Versions::value_below))]
 fn value_below(nodes: &[Node], levels: u32, version: u32, key: u64) -> Option<u32>
     ensures { result ≡ value_below levels nodes.now version key }
 {

@@ -1,12 +1,17 @@
--- Lemmas on how the contents of sections change.
-use Rattle.std.proofs.Common.{map, set, ltb, one-add, position, take_all, ltb-false}
-use Rattle.dwp_elf.proofs.Terms
-use Terms.{◌+◌, ◌++◌, ◌<◌, [], add-one, ap, append-nil, appended, arith, Bool, by-bool, content_of}
-use Terms.{contents_of, drop, drop_all, get_or, length, length-map, List, ltb-true, map-set}
-use Terms.{map-set_same, None, position_or_len, refl, same_kind, SectionKind, Some, suc, sym, take}
-use Terms.{take-map, truncated, Vec, zero, ℕ, ◌∙◌, ◌∷◌, ◌≡◌, ◌≤◌}
-use Rattle.std.proofs.Math.ListN.{get_or-map}
-use Rattle.dwp_elf.specs.Growing.{lengths}
+-- How the contents of sections change: what is appended, cut, and taken back. No two contents are
+-- of one kind, whatever is appended or cut, so there are no more than kinds.
+use Rattle.{dwp_base.specs.declared.section.SectionKind.SectionKind, std.specs.List.position_or_len}
+use Rattle.{dwp_elf.specs.Contents.truncated, dwp_elf.specs.FileText.Object, std.specs.Global.Vec}
+use Rattle.std.proofs.Common.{get_or, length, List, ltb, ltb-false, ltb-true, map, None, one-add}
+use Rattle.std.proofs.Common.{position, refl, set, Some, suc, sym, take, take_all, true, zero, ℕ}
+use Rattle.std.proofs.Common.{append-nil, append_assoc, arith, Bool, cond, drop, eqb, eqb-true}
+use Rattle.std.proofs.Common.{add-one, ap, [], ◌++◌, ◌+◌, ◌<◌, ◌==◌, ◌∙◌, ◌∷◌, ◌≡◌, ◌≤◌, ◌⊎◌}
+use Rattle.dwp_elf.specs.Contents.{appended, content_of, contents_of, count_of, KindsDiffer}
+use Rattle.dwp_elf.specs.Growing.{Begins, Contents, HasFront, IsGrown, lengths, with_bytes}
+use Rattle.std.proofs.Math.{ListN.get_or-map, Seq.map-set_same, Seq.take-append_seam}
+use Rattle.dwp_base.proofs.{Bools.by-bool, EveryKind.every, EveryKind.is-same}
+use Rattle.std.proofs.lemmas.List.{drop_all, length-map, map-set, take-map}
+use Rattle.dwp_base.specs.Sections.{all_kinds, kind_count, same_kind}
 
 abbrev pub Sections : Type 0
 Sections = List (SectionKind × Vec ℕ)
@@ -136,3 +141,80 @@ pub truncated-contents_of : (xs ys : Sections) (ns : List ℕ)
     → ys ≡ take (length ns) xs → truncated (contents_of ys) ns ≡ truncated (contents_of xs) ns
 truncated-contents_of xs ys ns e =
     rw (e, ← take-map _ (length ns) xs) (truncated-take (contents_of xs) ns)
+
+-- bytes that are added to a content
+pub begins-appended : (kind : SectionKind) (x : List ℕ) (a b : Contents) → Begins a b
+    → Begins a (appended kind x b)
+begins-appended kind x [] b h = tt
+begins-appended kind x (c ∷ cs) [] h = absurd h
+begins-appended kind x (c ∷ cs) (d ∷ ds) h = by-bool _ (same_kind d.0 kind)
+    (λ e. let front : HasFront c.1 (d.1 ++ x) =
+    record { rest = h.1.rest ++ x; is = rw (h.1.is, append_assoc) refl } in
+    rw e (h.0, front, h.2))
+    (λ e. rw e (h.0, h.1, begins-appended kind x cs ds h.2))
+
+pub begins-with_bytes : (kind : SectionKind) (x : List ℕ) (a b : Contents) → Begins a b
+    → Begins a (with_bytes kind x b)
+begins-with_bytes kind x a b h = by-bool _ (length x == 0)
+    (λ e. rw e h) (λ e. rw e (begins-appended kind x a b h))
+
+-- cut to their lengths, the contents are those from before
+pub truncated-begins : (a b : Contents) → Begins a b → truncated b (lengths a) ≡ a
+truncated-begins [] [] h = refl
+truncated-begins [] (d ∷ ds) h = refl
+truncated-begins (c ∷ cs) [] h = absurd h
+truncated-begins (c ∷ cs) (d ∷ ds) h =
+    rw (h.0, h.1.is, take-append_seam, truncated-begins cs ds h.2) refl
+
+-- nothing is lost where bytes are added to a section
+pub is_grown-with_bytes : (before o new : Object) (kind : SectionKind) (x : List ℕ)
+    → new ≡ record o { contents = with_bytes kind x o.contents } → IsGrown before o
+    → IsGrown before new
+is_grown-with_bytes before o new kind x is h =
+    let contents = begins-with_bytes kind x before.contents o.contents h.contents in
+    rw is assumption
+
+-- an append changes no count, or its kind is new and stands once
+count_of-appended : (kind k : SectionKind) (bytes : List ℕ) (cs : List (SectionKind × List ℕ))
+    → (count_of k (appended kind bytes cs) ≡ count_of k cs)
+    ⊎ ((same_kind kind k ≡ true) × (count_of k (appended kind bytes cs) ≡ 1))
+count_of-appended kind k bytes [] = grind arith
+count_of-appended kind k bytes (c ∷ cs) = grind (arith, count_of-appended kind k bytes cs, is-same)
+
+pub KindsDiffer-appended : (kind : SectionKind) (bytes : List ℕ) (cs : List (SectionKind × List ℕ))
+    → KindsDiffer cs → KindsDiffer (appended kind bytes cs)
+KindsDiffer-appended kind bytes cs h k = omega (arith, count_of-appended kind k bytes cs, h k)
+
+count_of-truncated : (k : SectionKind) (cs : List (SectionKind × List ℕ)) (ns : List ℕ)
+    → count_of k (truncated cs ns) ≤ count_of k cs
+count_of-truncated k [] ns = omega arith
+count_of-truncated k (c ∷ cs) [] = omega arith
+count_of-truncated k (c ∷ cs) (n ∷ ns) = omega (arith, count_of-truncated k cs ns)
+
+pub KindsDiffer-truncated : (cs : List (SectionKind × List ℕ)) (ns : List ℕ) → KindsDiffer cs
+    → KindsDiffer (truncated cs ns)
+KindsDiffer-truncated cs ns h k = omega (arith, count_of-truncated k cs ns, h k)
+
+-- ---- no more contents than kinds
+
+abbrev total : (SectionKind → ℕ) → List SectionKind → ℕ
+total f [] = 0
+total f (k ∷ ks) = f k + total f ks
+
+total-one : (kind : SectionKind) → total (λ k. cond (same_kind kind k) 1 0) all_kinds ≡ 1
+total-one kind = eqb-true _ 1 (every (λ c. eqb (total (λ k. cond (same_kind c k) 1 0) all_kinds) 1)
+    refl kind)
+
+total-count_of : (cs : List (SectionKind × List ℕ)) → total (λ k. count_of k cs) all_kinds
+    ≡ length cs
+total-count_of [] = refl
+total-count_of (c ∷ cs) = omega (arith, total-one c.0, total-count_of cs)
+
+pub length-KindsDiffer : (cs : List (SectionKind × List ℕ)) → KindsDiffer cs
+    → length cs ≤ kind_count
+length-KindsDiffer cs h = omega (arith, total-count_of cs, h)
+
+pub few_sections : (sections : List (SectionKind × Vec ℕ)) → KindsDiffer (contents_of sections)
+    → length sections ≤ kind_count
+few_sections sections h =
+    omega (arith, length-KindsDiffer (contents_of sections) h, length-contents_of sections)

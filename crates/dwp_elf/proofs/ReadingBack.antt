@@ -1,31 +1,218 @@
--- A written file means the contents that it was written from.
-use Rattle.dwp_elf.proofs.Terms
-use Terms.{◌*◌, ◌+◌, ◌++◌, ◌<◌, [], ◌^◌, ap, append-nil, append_assoc, arith, Big, Bool, both}
-use Terms.{Class, codes, content_bytes, drop, drop-append-add, drop-append_seam, Elf32, Elf64}
-use Terms.{Endianness, entry_size, every, file_length, header_size, headers_from, KindsDiffer}
-use Terms.{length, length-append, length-replicate, List, list_all, Little, ltb-true, name_of}
-use Terms.{name_table, names_of, number, number_bytes, position_or_len, range_with_len, refl}
-use Terms.{replicate, SectionKind, Some, suc, sym, take, take-append_seam, true, word_size, zero, ℕ}
-use Terms.{common_steps, ◌∙◌, ◌∷◌, ◌≡◌, ◌≤◌}
-use Rattle.std.proofs.Common.{false, lt-ltb, map, nat_lt, not, Ok, slice_get, lit<, ◌&&◌, ◌-◌, ◌==◌}
-use Rattle.std.proofs.Common.{drop-drop, eq-eqb, le-leb, ne_eqb}
-use Rattle.dwp_elf_read.specs.Elf.{named_count, section_content, section_of, sections_from, text_of}
-use Rattle.dwp_elf_read.specs.Elf.{name_table as read_table, section_count as read_count, text_at}
+-- A written file means the contents that it was written from. The greatest of its numbers decides
+-- whether all of them fit its class; its parts stand section by section, and one after the other.
+use Rattle.dwp_elf.specs.FileText.{content_bytes, file_header, file_text, headers_from, zeros_after}
+use Rattle.dwp_elf_read.specs.Elf.{named_count, section_content, section_of, sections_from, text_at}
+use Rattle.dwp_elf_read.specs.{Identification.identity_of, Identification.kind_of, Layout.word_size}
+use Rattle.std.proofs.Common.{All, Bool, drop, List, lit<, map, refl, Some, subst, take, true, zero}
+use Rattle.std.proofs.Common.{ap, [], ◌&&◌, ◌*◌, ◌++◌, ◌+◌, ◌-◌, ◌<◌, ◌==◌, ◌^◌, ◌∙◌, ◌∷◌, ◌≡◌, ◌≤◌}
+use Rattle.std.proofs.Common.{append-nil, append_assoc, drop-drop, length-append, replicate, suc, ℕ}
+use Rattle.dwp_elf.specs.FileText.{names_place, null_header, Object, section_count, section_header}
+use Rattle.std.proofs.Common.{add-one, eq-eqb, get_or, IsAscii, leb-true, ltb-true, not, slice_get}
+use Rattle.dwp_base.specs.declared.{endian.Endianness.Endianness, section.SectionKind.SectionKind}
+use Rattle.dwp_elf.proofs.Changes.{few_sections, length-contents_of, length-KindsDiffer, Sections}
+use Rattle.dwp_elf.specs.FileText.{headers_place, identification, name_table, names_end, names_of}
+use Rattle.dwp_elf_read.specs.Elf.{name_table as read_table, section_count as read_count, text_of}
+use Rattle.std.proofs.Common.{arith, codes, false, le-leb, length, lt-ltb, nat_le, nat_lt, ne_eqb}
+use Rattle.dwp_elf_read.specs.Layout.{entry_size, file_header_of, header_size, section_header_of}
+use Rattle.std.proofs.lemmas.{Grind.common_steps, Str.is_utf8-from_IsUtf8, Str.IsUtf8-from_ascii}
+use Rattle.dwp_elf.specs.declared.{object.WritableObject.TheInside.Inside, output.Layout.Layout}
+use Rattle.std.proofs.lemmas.List.{length-replicate, replicate-append-replicate, take-replicate}
+use Rattle.dwp_elf.specs.{Contents.contents_of, Contents.KindsDiffer, FileText.section_headers}
+use Rattle.std.proofs.Math.Seq.{drop-append-add, drop-append_seam, drop-cons, take-append_seam}
+use Rattle.std.proofs.{Common.sym, lemmas.Str.Ascii.IsAscii-cons, lemmas.Str.Ascii.IsAscii-nil}
+use Rattle.{dwp_elf_read.specs.Elf.elf_of, std.proofs.Common.Ok, std.proofs.Math.Nat.mul_comm}
+use Rattle.dwp_elf.specs.Numbers.{file_length, Fits, IsLayout, limited_by, offsets_and_sizes}
 use Rattle.dwp_elf_read.specs.Elf.{name_table_number, name_table_numbered, section_header_at}
-use Rattle.dwp_elf.specs.FileText.{file_header, headers_place, names_end, names_place, zeros_after}
-use Rattle.dwp_elf.specs.FileText.{identification, section_count, section_header, section_headers}
-use Rattle.dwp_elf.specs.FileText.{file_text, null_header, Object}
-use Rattle.dwp_elf.proofs.Limits.{length-file_header, length-number_bytes, length-section_header}
-use Rattle.dwp_elf.proofs.Limits.{Fits-from, length-file_text, length-null_header, refused_of}
-use Rattle.dwp_elf.proofs.Parts.{file_text-split, from_contents, from_names, length-name_of}
-use Rattle.std.{proofs.Math.Nat.mul_comm, specs.Str.IsAscii}
-use Rattle.std.proofs.lemmas.Str.{is_utf8-from_IsUtf8, IsUtf8-from_ascii}
-use Rattle.std.proofs.lemmas.Str.Ascii.{IsAscii-cons, IsAscii-nil}
+use Rattle.dwp_base.specs.declared.class.Class.{Class, TheVariants.Elf32, TheVariants.Elf64}
+use Rattle.std.specs.{Global.Vec, List.list_all, List.position_or_len, List.range_with_len}
+use Rattle.dwp_elf.specs.{Numbers.PassesLimit, Numbers.places_from, Object.object_of}
 use Rattle.byteorder.specs.Numbers.{big_number-reads_back, little_number-reads_back}
-use Rattle.dwp_elf_read.specs.{Elf.elf_of, Layout.file_header_of, Layout.section_header_of}
-use Rattle.dwp_elf_read.specs.Identification.{identity_of, kind_of}
+use Rattle.byteorder.specs.Numbers.{length-bytes_high_first, length-bytes_low_first}
+use Rattle.std.proofs.lemmas.List.{at_drop_all, Elements.All-cons, Elements.All-nil}
+use Rattle.dwp_base.specs.{Numbers.number, Numbers.number_bytes, Sections.name_of}
 use Rattle.dwp_elf.specs.Written.{plain_section, written_elf, written_sections}
-use Rattle.dwp_elf.proofs.{KindCounts.few_sections, KindCounts.length-KindsDiffer, Parts.from_zeros}
+use Rattle.dwp_base.specs.declared.endian.Endianness.TheVariants.{Big, Little}
+use Rattle.dwp_base.proofs.{Bools.both, EveryKind.every}
+
+pub length-number_bytes : (order : Endianness) (n x : ℕ) → length (number_bytes order n x) ≡ n
+length-number_bytes Little n x = length-bytes_low_first 0 n x
+length-number_bytes Big n x = length-bytes_high_first n x
+
+pub length-section_header : (class : Class) (order : Endianness) (name type place size : ℕ)
+    → length (section_header class order name type place size) ≡ entry_size class
+unfolding section_header
+length-section_header class order name type place size =
+    simp (length-append, length-number_bytes) (grind arith)
+
+pub length-file_header : (class : Class) (order : Endianness) (machine headers count : ℕ)
+    → length (file_header class order machine headers count) ≡ header_size class
+unfolding file_header
+length-file_header class order machine headers count =
+    simp (length-append, length-number_bytes) (grind arith)
+
+pub length-headers_from : (class : Class) (order : Endianness) (size name place : ℕ)
+    (cs : List (SectionKind × List ℕ))
+    → length (headers_from class order size name place cs) ≡ entry_size class * (length cs + 1)
+unfolding headers_from
+length-headers_from class order size name place [] =
+    omega (arith, length-section_header class order name 3 place size)
+length-headers_from class order size name place (c ∷ cs) =
+    let rest = length-headers_from class order size (name + length (name_of c.0) + 1)
+    (place + length c.1) cs in
+    simp (length-append, length-section_header, rest) (omega arith)
+
+pub length-null_header : (class : Class) → length (null_header class) ≡ entry_size class
+length-null_header class = length-replicate (entry_size class) 0
+
+pub length-file_text : (o : Object) → length (file_text o) ≡ file_length o.class o.contents
+unfolding file_text
+length-file_text o =
+    let headers = headers_place o.class o.contents in
+    let header = length-file_header o.class o.order o.machine headers (section_count o.contents) in
+    let table = length-headers_from o.class o.order (length (name_table o.contents)) 1
+    (header_size o.class) o.contents in
+    let zeros = length-replicate {A = ℕ} (zeros_after (names_end o.class o.contents)) 0 in
+    omega (arith, length-append {A = ℕ}, header, length-null_header o.class, table, zeros)
+
+-- each offset and size is below a limit that where the section headers begin is below
+places_from-lt : (size place limit : ℕ) (cs : List (SectionKind × List ℕ))
+    → place + length (content_bytes cs) < limit → size < limit
+    → All (λ n. n < limit) (places_from size place cs)
+unfolding content_bytes
+places_from-lt size place limit [] h k = search (All-cons, All-nil, arith)
+places_from-lt size place limit (c ∷ cs) h k =
+    let split = length-append c.1 (content_bytes cs) in
+    let rest = places_from-lt size (place + length c.1) limit cs (omega arith) k in
+    search (All-cons, arith)
+
+offsets_and_sizes-lt : (o : Object) (limit : ℕ) → headers_place o.class o.contents < limit
+    → All (λ n. n < limit) (offsets_and_sizes o)
+offsets_and_sizes-lt o limit h = All-cons (λ n. n < limit) _ _ h (places_from-lt
+    (length (name_table o.contents)) (header_size o.class) limit o.contents (omega arith)
+    (omega arith))
+
+-- all of them fit where the greatest do
+pub Fits-from : (o : Object) → headers_place o.class o.contents < 2 ^ (8 * word_size o.class)
+    → file_length o.class o.contents < 2 ^ 64 → Fits o
+unfolding Fits
+Fits-from o h k = limited-lt o.class h
+  where
+    limited-lt : (class : Class) → headers_place o.class o.contents < 2 ^ (8 * word_size class)
+        → All (λ n. n < 2 ^ (8 * word_size class)) (limited_by class o)
+    limited-lt Elf32 h = offsets_and_sizes-lt o (2 ^ 32) h
+    limited-lt Elf64 h = All-cons (λ n. n < 2 ^ 64) (length (file_text o)) (offsets_and_sizes o)
+        (omega (arith, length-file_text o)) (offsets_and_sizes-lt o (2 ^ 64) h)
+
+pub refused_of : (class : Class) (machine : ℕ) (order : Endianness)
+    (cs : List (SectionKind × List ℕ))
+    → PassesLimit class cs
+    → ¬ Fits (record { class = class; machine = machine; order = order; contents = cs })
+unfolding Fits
+refused_of Elf32 machine order cs h fits = let first = fits 0 0 (omega arith) in
+    absurd (omega (arith, first))
+refused_of Elf64 machine order cs h fits =
+    let o : Object = record { class = Elf64; machine = machine; order = order; contents = cs } in
+    let first = fits 0 0 (omega arith) in absurd (omega (arith, first, length-file_text o))
+
+-- what stands from a section on is its part and what stands from the next on
+module _ (xs : Sections) (i : ℕ) (x : SectionKind × Vec ℕ) (h : i < length xs)
+    (e : x ≡ get_or xs i x) where
+  drop-item : drop i xs ≡ x ∷ drop (i + 1) xs
+  drop-item = drop-cons xs i x h ∙ rw (← e, add-one i) refl
+
+  pub content_bytes-drop : content_bytes (contents_of (drop i xs))
+      ≡ x.1.items ++ content_bytes (contents_of (drop (i + 1) xs))
+  unfolding content_bytes
+  content_bytes-drop = rw drop-item refl
+
+  -- the same of names, with what follows all of them
+  pub names_of-drop-more : (name more : List ℕ) → name ≡ name_of x.0
+      → names_of (contents_of (drop i xs)) ++ more
+      ≡ name ++ (0 ∷ (names_of (contents_of (drop (i + 1) xs)) ++ more))
+  unfolding names_of
+  names_of-drop-more name more named = rw (drop-item, named) (simp append_assoc)
+
+  -- the same for lengths
+  pub length-content_bytes-drop : length (content_bytes (contents_of (drop i xs)))
+      ≡ length x.1.items + length (content_bytes (contents_of (drop (i + 1) xs)))
+  length-content_bytes-drop = rw content_bytes-drop (length-append _ _)
+
+  pub length-names_of-drop : length (names_of (contents_of (drop i xs)))
+      ≡ length (name_of x.0) + 1 + length (names_of (contents_of (drop (i + 1) xs)))
+  unfolding names_of
+  length-names_of-drop = rw drop-item (omega (arith, length-append {A = ℕ}))
+
+  -- a section's header, and what its name and its content leave to those after it
+  pub headers_from-drop : (class : Class) (order : Endianness) (size name place n : ℕ)
+      (bytes header : List ℕ) → n ≡ length x.1.items
+      → header ≡ section_header class order name 1 place n → bytes ≡ name_of x.0
+      → headers_from class order size name place (contents_of (drop i xs))
+      ≡ header ++ headers_from class order size (name + (length bytes + 1)) (place + n)
+      (contents_of (drop (i + 1) xs))
+  unfolding headers_from
+  headers_from-drop class order size name place n bytes header l made named =
+      let next : name + (length (name_of x.0) + 1) ≡ name + length (name_of x.0) + 1 =
+      omega arith in
+      rw (drop-item, made, named, next, l) refl
+
+-- past the last section
+pub content_bytes-end : (xs : Sections) (i : ℕ) → length xs ≤ i
+    → content_bytes (contents_of (drop i xs)) ≡ []
+unfolding content_bytes
+content_bytes-end = at_drop_all (λ xs. content_bytes (contents_of xs))
+
+pub names_of-end : (xs : Sections) (i : ℕ) → length xs ≤ i
+    → names_of (contents_of (drop i xs)) ≡ []
+unfolding names_of
+names_of-end = at_drop_all (λ xs. names_of (contents_of xs))
+
+-- no name has more than 24 bytes
+pub length-name_of : (kind : SectionKind) → length (name_of kind) ≤ 24
+length-name_of kind = leb-true _ 24 (every (λ k. nat_le (length (name_of k)) 24) refl kind)
+
+-- what stands from the zeros, the names and the contents on
+abbrev pub from_zeros : Object → List ℕ
+from_zeros o = replicate (zeros_after (names_end o.class o.contents)) 0 ++ section_headers o
+
+abbrev pub from_names : Object → List ℕ
+from_names o = name_table o.contents ++ from_zeros o
+
+abbrev pub from_contents : Object → List ℕ
+from_contents o = content_bytes o.contents ++ from_names o
+
+pub file_text-split : (o : Object) → file_text o ≡ file_header o.class o.order o.machine
+    (headers_place o.class o.contents) (section_count o.contents) ++ from_contents o
+unfolding file_text
+file_text-split o = simp append_assoc
+
+-- the same, where the header was made from the layout, and for each number what wrote it out; the
+-- zeros before the section headers and those of the first header stand together
+pub text_parts : (w : Inside) (o : Object) (p : Layout) (header : List ℕ) (count entry : ℕ)
+    → object_of w ≡ o → IsLayout o.class o.contents p → count ≡ w.sections.len
+    → header ≡ file_header w.class w.endianness w.machine p.headers (count + 2)
+    → entry ≡ entry_size w.class → file_text o ≡ header ++ (content_bytes
+    (contents_of w.sections.items) ++ (name_table (contents_of w.sections.items) ++ (replicate
+    (p.zeros + entry) 0 ++ headers_from w.class w.endianness p.names_size 1
+    (header_size w.class) (contents_of w.sections.items))))
+text_parts w o p header count entry is placed counted made sized =
+    let are = subst (λ (x : Object). IsLayout x.class x.contents p) (sym is) placed in
+    let count = counted ∙ w.sections.ok.0 ∙ sym (length-contents_of w.sections.items) in
+    let rest = headers_from w.class w.endianness p.names_size 1 (header_size w.class)
+    (contents_of w.sections.items) in
+    let together : replicate {A = ℕ} (p.zeros + entry) 0 ++ rest
+    ≡ replicate p.zeros 0 ++ (replicate entry 0 ++ rest) =
+    rw (← replicate-append-replicate {A = ℕ} p.zeros entry 0)
+    (append_assoc (replicate p.zeros 0) (replicate entry 0) rest) in
+    rw (together, ← is, file_text-split, made, sized)
+    (rw (are.headers, are.zeros, are.names_size, count) refl)
+
+-- these zeros are the first of 72
+pub zeros_of : (w : Inside) (o : Object) (p : Layout) (entry : ℕ) → object_of w ≡ o
+    → IsLayout o.class o.contents p → entry ≡ entry_size w.class
+    → take (p.zeros + entry) (replicate {A = ℕ} 72 0) ≡ replicate (p.zeros + entry) 0
+zeros_of w o p entry is placed sized =
+    let are = subst (λ (x : Object). IsLayout x.class x.contents p) (sym is) placed in
+    take-replicate {X = ℕ} (p.zeros + entry) 72 0 (grind (arith, are.zeros, sized))
 
 -- ---- the numbers of a header
 

@@ -1,11 +1,8 @@
 -- Lemmas on bytes that are written piece by piece.
-use Rattle.dwp_elf.proofs.Terms
-use Terms.{◌+◌, ◌++◌, arith, length, length-append, List, take, take-append-add, take-append-le, ℕ}
-use Terms.{◌≡◌}
-use Rattle.std.specs.Prelude.{Option, Result, Ok, Err, IsErrAnd}
-use Rattle.std.specs.Io.KnownBytes.{Appends}
-use Rattle.std.proofs.KnownBytes.{Appends-trans}
-use Rattle.dwp_elf.specs.Refusals.{AppendsPart, Writes}
+use Rattle.std.proofs.Common.{arith, Err, IsErrAnd, length, Option, Result, take, ℕ, ◌++◌, ◌+◌, ◌≡◌}
+use Rattle.{dwp_elf.specs.Refusals.AppendsPart, dwp_elf.specs.Refusals.Writes, std.proofs.Common.Ok}
+use Rattle.std.{proofs.Common.List, proofs.lemmas.List.take-append-le, specs.Io.KnownBytes.Appends}
+use Rattle.std.proofs.{Common.length-append, KnownBytes.Appends-trans, Math.Seq.take-append-add}
 
 -- a part of what comes after something that was appended whole
 pub part_after : {a b c : Option (List ℕ)} (x : List ℕ) {y : List ℕ} → Appends a b x

@@ -307,7 +307,7 @@ impl WritableObject {
     }
 
     /// Hands the parts of the file to a writer, one after the other.
-    #[tactic(auto, using(crate::proofs::KindCounts::few_sections))]
+    #[tactic(auto, using(crate::proofs::Changes::few_sections))]
     fn write_parts<O: Output>(&self, layout: &Layout, out: &mut O) -> io::Result<()>
         requires { IsLayout self.now.class self.now.contents layout.now }
         ensures text { Writes result (O.contents out.old) (O.contents out.new)

@@ -1,9 +1,3 @@
-pub mod Terms
-pub mod Columns
-pub mod NumberLists
-pub mod Views
-pub mod FirstUnit
-pub mod PackageLookUp
-pub mod TwoPlaces
-pub mod UsedOnce
-pub mod HeldContents
+pub mod Indexes
+pub mod UnitBytes
+pub mod Packages

@@ -1,5 +1,5 @@
 //! What packages give, and what a file of given sections is, as laws.
-#![tactic(auto, using(crate::proofs::PackageLookUp::laws, crate::proofs::TwoPlaces::units_alone, crate::proofs::TwoPlaces::encoding_anywhere))]
+#![tactic(auto, using(crate::proofs::Packages::laws, crate::proofs::UnitBytes::units_alone, crate::proofs::UnitBytes::encoding_anywhere))]
 
 ghost use Rattle.std.specs.Prelude.{length, List, Option, slice_range, [], ℕ, ◌+◌, ◌<◌, ◌≡◌, ◌≤◌};
 ghost use Rattle.std.specs.Prelude.{false, None, Ok, slice_get, Some};

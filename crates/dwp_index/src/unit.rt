@@ -172,7 +172,7 @@ pub fn encoding_in(
 }
 
 /// The encoding of a unit of any form.
-#[tactic(auto, using(crate::proofs::FirstUnit::encoding_first))]
+#[tactic(auto, using(crate::proofs::UnitBytes::encoding_first))]
 #[inline(never)]
 fn any_encoding(bytes: &[u8], order: Endianness, place: UnitSection) -> Result<Encoding, ReadError>
     ensures { Answers (λ x. x) result (encoding_in order place bytes.now) }

@@ -1,5 +1,5 @@
 //! Indexes of a package, and their rows (DWARF 5, 7.3.5.3).
-#![tactic(auto, using(crate::proofs::NumberLists::read_numbers), unfolding(crate::specs::Index::range_in))]
+#![tactic(auto, using(crate::proofs::Indexes::read_numbers), unfolding(crate::specs::Index::range_in))]
 
 ghost use Rattle.std.specs.Prelude.{◌≡◌, ◌<◌, ◌≤◌, ◌+◌, ℕ, List, length, slice_index, is_some};
 ghost use Rattle.dwp_base.specs.Reading.{Answers};

@@ -1,9 +1,4 @@
-pub mod Terms
-pub mod CompareLemmas
-pub mod CopyLemmas
-pub mod ChunkLemmas
 pub mod Named
-pub mod PlacesLemmas
-pub mod HashedLemmas
-pub mod LaneLemmas
-pub mod HashLemmas
+pub mod Hashed
+pub mod Lanes
+pub mod Chunks

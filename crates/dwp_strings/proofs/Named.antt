@@ -1,22 +1,31 @@
 -- The strings of a section in which each is ended by a zero byte, where each begins, and its
--- offset. A string is read where its offset says, also once more strings have come.
-use Rattle.dwp_strings.proofs.Terms
-use Terms.{All, All-head, All-tail, AllPairs, BeginsAt, Bool, Contains, Decides, Decides-by_or}
-use Terms.{IsTable, IsZeroFree, List, None, Ok, Option, Some, [], ap, append_assoc, arith}
-use Terms.{before_first, by-bool, bytes_eq, bytes_eq-Decides, cases_lt, cond_both, data_of, drop}
-use Terms.{drop-drop, drop_at, eqb, eqb-false, eqb-true, fails_before_first, false, get_or}
-use Terms.{get_or-append-add, get_or-take, get_or_default, length, length-append, length-drop}
-use Terms.{length-take, list_any, list_any-append, nat_tests, offset_of, onto_first}
-use Terms.{position_or_len, position_or_len_is, refl, string_from, strings_in, suc, sym, take}
-use Terms.{take-append-drop, take_at, terminated, true, with_string, ℕ, ◌++◌, ◌+◌, ◌-◌, ◌<◌, ◌∙◌}
-use Terms.{◌∷◌, ◌≡◌, ◌≢◌, ◌≤◌}
-use Rattle.std.proofs.lemmas.List.Elements.{Contains-append_left, Contains-push, Decides-contains}
-use Rattle.std.proofs.lemmas.List.Elements.{All-cons, All-nil, All-push}
-use Rattle.std.proofs.{Common.take_all, lemmas.List.get_or_append_left, lemmas.List.get_or_at}
-use Rattle.std.proofs.Math.Seq.{drop-append-add}
-use Rattle.std.{proofs.lemmas.List.Quantifiers.all_pairs_push, specs.Option.is_some}
-use Rattle.dwp_bytes.specs.StringOffsets.{string_at}
-use Rattle.memchr.specs.Find.{is_byte, IsFirstByte}
+-- offset. A string is read where its offset says, also once more strings have come. Comparing the
+-- string at a place with another one, without looking for its end: by as many bytes as the other
+-- has, and whether a zero follows them. Halving a sorted list of positions. The string at the front
+-- of some bytes, up to the first zero.
+use Rattle.{dwp_base.proofs.Bools.by-bool, memchr.specs.Find.IsFirstByte, memchr.specs.Find.is_byte}
+use Rattle.std.proofs.Common.{List, [], cond, drop-drop, false, get_or-take, length-drop, ◌++◌, ◌↔◌}
+use Rattle.std.proofs.Common.{None, Ok, add-one, eqb-true, length-take, refl, suc, take, zero, ◌+◌}
+use Rattle.std.proofs.Common.{AllPairs, Contains, Decides, Some, ap, drop_at, eqb, length, take_at}
+use Rattle.std.proofs.lemmas.List.{Folds.list_any-append, Quantifiers.all_pairs_push, get_or_past}
+use Rattle.std.proofs.Common.{Greater, Less, Ordering, drop, not, take_all, true, ◌<◌, ◌∙◌, ◌≡◌}
+use Rattle.std.proofs.lemmas.List.Sums.{fails_before_first, position_or_len_is, take_while-cons}
+use Rattle.std.proofs.Common.{Bool, Option, get_or, get_or-append-add, length-append, ◌/◌, ◌∷◌}
+use Rattle.std.proofs.lemmas.List.Elements.{All-nil, All-tail, Contains-push, Decides-contains}
+use Rattle.std.proofs.lemmas.List.Elements.{All-cons, All-head, All-push, Contains-append_left}
+use Rattle.std.proofs.Common.{All, Equal, arith, sym, take-append-drop, ℕ, ◌-◌, ◌^◌, ◌≢◌, ◌≤◌}
+use Rattle.std.proofs.lemmas.{Bool.Decides.nat_tests, Cmp.nat_list_cmp_total, Cmp.tied_itself}
+use Rattle.std.specs.{Option.is_some, Ordering.nat_cmp, Ordering.ordering_then, Str.bytes_eq}
+use Rattle.std.proofs.lemmas.List.{get_or_append_left, get_or_at, get_or_default, take_rest}
+use Rattle.dwp_strings.specs.Strings.{BeginsAt, IsBefore, IsZeroFree, offset_of, strings_in}
+use Rattle.{dwp_strings.specs.Ends.IsFirstZero, std.proofs.lemmas.Map.Lookups.exact_bytes}
+use Rattle.std.proofs.lemmas.Bool.{Decides.Decides-by_or, cases_lt, cond_both, eqb-false}
+use Rattle.dwp_strings.specs.Strings.{IsTable, data_of, terminated, with_string}
+use Rattle.std.specs.List.{before_first, list_any, onto_first, position_or_len}
+use Rattle.std.proofs.{Common.append_assoc, lemmas.Slice.Eq.bytes_eq-Decides}
+use Rattle.std.proofs.Math.{Nat.pow-suc, Seq.drop-append-add, Seq.take-suc}
+use Rattle.dwp_bytes.specs.StringOffsets.{string_at, string_from}
+use Rattle.std.specs.Cmp.{Lexicographic.slice_cmp, nat_cmp_is}
 
 before_first-ended : (s xs : List ℕ) → IsZeroFree s → before_first (λ b. eqb b 0) (s ++ 0 ∷ xs) ≡ s
 before_first-ended s xs free =
@@ -182,11 +191,11 @@ begun_behind : (t rest : List ℕ) (p : ℕ) → IsZeroFree t → BeginsAt (term
 begun_behind t rest p free begins some =
     let q = p - (length t + 1) in
     let long = length-append t (0 ∷ []) in
-    let zero : get_or (t ++ 0 ∷ rest) (p - 1) 0 ≡ 0 =
+    let ended : get_or (t ++ 0 ∷ rest) (p - 1) 0 ≡ 0 =
     rw append_assoc at (begins.behind (omega (arith, some))) in
     let low = get_or_append_left t (0 ∷ rest) 0 (p - 1) in
     let past : length t < p =
-    grind (arith, low, zero, free (p - 1) 0, cases_lt (p - 1) (length t)) in
+    grind (arith, low, ended, free (p - 1) 0, cases_lt (p - 1) (length t)) in
     let is : p ≡ length t + 1 + q = omega (arith, past) in
     let behind = get_or-append-add (terminated t) rest (q - 1) 0 in (
       q,
@@ -243,3 +252,109 @@ read_later ss final s kept free h =
 pub string_was : (bytes s : List ℕ) (at : ℕ) → string_at bytes at ≡ Ok s → string_from bytes at ≡ s
 unfolding string_at
 string_was bytes s at is = grind arith
+
+-- the string at the front of some bytes
+abbrev pub front_string : List ℕ → List ℕ
+front_string xs = before_first (λ b. eqb b 0) xs
+
+pub front_string-cons : (x : ℕ) (xs : List ℕ) → front_string (x ∷ xs) ≡ cond (not (eqb x 0))
+    (x ∷ front_string xs) []
+front_string-cons x xs = take_while-cons (λ b. not (eqb b 0)) x xs
+
+then-assoc : (a b c : Ordering) → ordering_then a (ordering_then b c) ≡ ordering_then
+    (ordering_then a b) c
+then-assoc a b c = grind arith
+
+-- how as many bytes as a string has, and what follows them, stand to it and a zero
+abbrev pub beside : List ℕ → List ℕ → Ordering
+beside xs s = ordering_then (slice_cmp nat_cmp (take (length s) xs) s)
+    (nat_cmp (get_or xs (length s) 0) 0)
+
+compared_front : (xs s : List ℕ) → IsZeroFree s → slice_cmp nat_cmp (front_string xs) s
+    ≡ beside xs s
+compared_front [] s free = grind arith
+compared_front (x ∷ xs) [] free =
+    let cmp = nat_cmp_is x 0 in
+    rw (front_string-cons x xs) (grind (arith, nat_tests, cmp Greater, cmp Equal))
+compared_front (x ∷ xs) (y ∷ ys) free =
+    let rest = compared_front xs ys (All-tail (λ b. b ≢ 0) y ys free) in
+    let some : y ≢ 0 = All-head (λ b. b ≢ 0) y ys free in
+    rw (front_string-cons x xs)
+    (grind (arith, nat_tests, rest, nat_cmp_is x y Less, then-assoc (nat_cmp x y)))
+
+module _ (bytes : List ℕ) (at : ℕ) (s : List ℕ) (free : IsZeroFree s) where
+  -- the bytes from a place on, as they are taken
+  abbrev rest : List ℕ
+  rest = take (length bytes - at) (drop at bytes)
+
+  pub compared_at : beside rest s ≡ slice_cmp nat_cmp (string_from bytes at) s
+  compared_at = rw (take_rest bytes at) (sym (compared_front (drop at bytes) s free))
+
+  -- where no more bytes are left
+  pub compared_short : length rest ≤ length s
+      → slice_cmp nat_cmp rest s ≡ slice_cmp nat_cmp (string_from bytes at) s
+  compared_short short = grind (arith, compared_at, take_all, get_or_past)
+
+  -- whether it is the same one
+  pub alike_at : ((take (length s) rest ≡ s) × (get_or rest (length s) 0 ≡ 0))
+      ↔ (string_from bytes at ≡ s)
+  alike_at =
+      let own = tied_itself nat_list_cmp_total s in
+      let last = nat_cmp_is (get_or rest (length s) 0) 0 Equal in (
+        λ both. exact_bytes _ s (grind (arith, compared_at, own)),
+        λ same. grind (arith, nat_tests, compared_at, exact_bytes, own, last),
+      )
+
+-- a window of a search after so many steps, in a list of n: each step took off a digit
+abbrev pub IsHalved : ℕ → ℕ → ℕ → Type 0
+IsHalved n steps size = (k : ℕ) → n < 2 ^ k → (steps ≤ k) × (size < 2 ^ (k - steps))
+
+pub halved_more : (n steps size rest : ℕ) → IsHalved n steps size → 0 < size → rest ≤ size / 2
+    → IsHalved n (steps + 1) rest
+halved_more n steps size rest so_far some less = λ k h.
+    grind (arith, so_far k h, pow-suc 2 (k - (steps + 1)), cases_lt steps k)
+
+module _ (bytes positions s : List ℕ) (m : ℕ) (sorted : AllPairs (λ p q.
+    IsBefore (string_from bytes p) (string_from bytes q)) positions) where
+  -- what lies before a string that comes before another comes before that too
+  pub before_more : m < length positions → IsBefore (string_from bytes (get_or positions m 0)) s
+      → (k : ℕ) → k < m + 1 → IsBefore (string_from bytes (get_or positions k 0)) s
+  before_more within less = λ k below.
+      let middle = string_from bytes (get_or positions m 0) in
+      let next = nat_list_cmp_total.trans (string_from bytes (get_or positions k 0)) middle s in
+      grind (arith, sorted k m 0, next)
+
+  pub behind_more : slice_cmp nat_cmp (string_from bytes (get_or positions m 0)) s ≡ Greater
+      → (k : ℕ) → m ≤ k → k < length positions
+      → IsBefore s (string_from bytes (get_or positions k 0))
+  behind_more greater = λ k above within.
+      let middle = string_from bytes (get_or positions m 0) in
+      let next = nat_list_cmp_total.trans s middle (string_from bytes (get_or positions k 0)) in
+      grind (arith, sorted m k 0, nat_list_cmp_total.antisymm s middle, next)
+
+-- no byte of it is zero
+pub ended_free : (rest : List ℕ) (end : ℕ) → IsFirstZero rest end → IsZeroFree (take end rest)
+ended_free rest end is_zero = λ k d below same.
+    grind (arith, length-take, is_zero.before k, get_or_default rest k 0 d, get_or-take)
+
+-- bytes that are the same as far as a zero begin with the same string
+pub alike_front : (xs ys : List ℕ) (end : ℕ) → end < length xs → end < length ys
+    → get_or xs end 0 ≡ 0 → get_or ys end 0 ≡ 0 → take end xs ≡ take end ys
+    → front_string xs ≡ front_string ys
+alike_front (x ∷ xs) (y ∷ ys) zero within within' is_zero is_zero' same =
+    grind (arith, front_string-cons)
+alike_front (x ∷ xs) (y ∷ ys) (suc end) within within' is_zero is_zero' same =
+    grind (arith, front_string-cons, alike_front xs ys end)
+alike_front [] ys end within within' is_zero is_zero' same = absurd (omega arith)
+alike_front (x ∷ xs) [] end within within' is_zero is_zero' same = absurd (omega arith)
+
+-- the first zero ends it
+pub ended_front : (xs : List ℕ) (end : ℕ) → IsFirstZero xs end → front_string xs ≡ take end xs
+ended_front xs end is_zero =
+    let first = position_or_len_is (λ b. eqb b 0) xs end 0 in
+    grind (arith, nat_tests, first, is_zero)
+
+-- a string and the zero behind it
+pub ended_take : (rest : List ℕ) (end : ℕ) → IsFirstZero rest end → take (end + 1) rest ≡
+    terminated (take end rest)
+ended_take rest end is_zero = grind (arith, add-one, take-suc rest end 0, is_zero)

@@ -78,7 +78,7 @@ fn put_ended(room: &mut [u8], string: &[u8])
 }
 
 /// Copies so many bytes of a place, and gives them.
-#[tactic(auto, using(crate::proofs::CopyLemmas::stored))]
+#[tactic(auto, using(crate::proofs::Lanes::stored))]
 #[inline(always)]
 fn copy_lanes<const N: usize>(room: &mut [u8], bytes: &[u8], at: usize) -> Simd<u8, N>
     requires within { at + N ≤ length bytes.now }

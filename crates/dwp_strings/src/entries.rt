@@ -29,7 +29,7 @@ pub(crate) struct Entries {
     pub ordered: Positions,
 }
 
-#[tactic(auto, using(crate::proofs::HashedLemmas::entries_few))]
+#[tactic(auto, using(crate::proofs::Hashed::entries_few))]
 impl Entries {
     /// No strings, which take no memory.
     pub fn new(alloc: Global) -> Self
@@ -161,7 +161,7 @@ impl Entries {
         let Ok(string) = string_at(bytes, place as u64) else {
             return Err(AllocError);
         };
-        match search(bytes, &self.ordered, string).0 {
+        match search(bytes, &self.ordered, string).place {
             Ok(_) => Ok(()),
             Err(rank) => self.ordered.insert(rank, place as u64),
         }
@@ -191,7 +191,7 @@ impl Entries {
         ensures kept { take (length (held self.old)) (held self.new) ≡ held self.old }
         ensures err { OnErr result (held self.new ≡ held self.old) }
     {
-        let rank = match search(self.bytes.as_slice(), &self.ordered, string).0 {
+        let rank = match search(self.bytes.as_slice(), &self.ordered, string).place {
             Ok(place) => return Ok(place),
             Err(rank) => rank,
         };

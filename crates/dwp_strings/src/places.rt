@@ -39,7 +39,7 @@ pub(crate) fn behind(place: usize) -> Option<u32>
 }
 
 /// The slot of a hash, or the one that is next for it, past all if none is.
-#[tactic(auto, using(crate::proofs::PlacesLemmas::passed_more))]
+#[tactic(auto, using(crate::proofs::Hashed::passed_more))]
 #[inline(always)]
 fn find(slots: &[Slot], size: u32, hash: u32) -> Result<usize, usize>
     ensures found { IfOk result (IsSlotOf slots.now size hash) }
@@ -135,7 +135,7 @@ pub(crate) struct HashedPlaces {
     pub is_full: bool,
 }
 
-#[tactic(auto, using(crate::proofs::PlacesLemmas::slot_within))]
+#[tactic(auto, using(crate::proofs::Hashed::slot_within))]
 impl HashedPlaces {
     /// No places, which take no memory.
     pub fn new(alloc: Global) -> Self {

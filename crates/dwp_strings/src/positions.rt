@@ -84,7 +84,7 @@ fn raise(starts: &mut [usize], from: usize)
 }
 
 /// Cuts a chunk in two.
-#[tactic(auto, using(crate::proofs::ChunkLemmas::counts))]
+#[tactic(auto, using(crate::proofs::Chunks::counts))]
 fn cut(
     alloc: Global,
     chunks: &mut Vec<Vec<u64>>,
@@ -113,7 +113,7 @@ fn cut(
 }
 
 /// Makes room for a number at a rank, and gives the chunk in which it goes.
-#[tactic(auto, using(crate::proofs::ChunkLemmas::counts, crate::proofs::ChunkLemmas::first_start))]
+#[tactic(auto, using(crate::proofs::Chunks::counts, crate::proofs::Chunks::first_start))]
 fn room_at(
     alloc: Global,
     chunks: &mut Vec<Vec<u64>>,
@@ -145,7 +145,7 @@ fn room_at(
 }
 
 /// Keeps the numbers below a limit, and gives how many they are.
-#[tactic(auto, using(crate::proofs::ChunkLemmas::counts))]
+#[tactic(auto, using(crate::proofs::Chunks::counts))]
 fn keep_all(chunks: &mut Vec<Vec<u64>>, starts: &mut [usize], limit: u64) -> usize
     requires begun { starts.old ≡ starts_from 0 (pieces chunks.old.items) }
     requires small { length (concat (pieces chunks.old.items)) < 2 ^ 64 }
@@ -164,7 +164,7 @@ fn keep_all(chunks: &mut Vec<Vec<u64>>, starts: &mut [usize], limit: u64) -> usi
     total
 }
 
-#[tactic(auto, using(crate::proofs::ChunkLemmas::counts))]
+#[tactic(auto, using(crate::proofs::Chunks::counts))]
 impl Positions {
     /// The empty list, which takes no memory.
     pub fn new(alloc: Global) -> Self
@@ -186,7 +186,7 @@ impl Positions {
     }
 
     /// The number of a rank, and its chunk. The chunk `near` is tried first.
-    #[tactic(auto, using(crate::proofs::ChunkLemmas::counts, crate::proofs::ChunkLemmas::first_start, crate::proofs::ChunkLemmas::some_piece))]
+    #[tactic(auto, using(crate::proofs::Chunks::counts, crate::proofs::Chunks::first_start, crate::proofs::Chunks::some_piece))]
     pub fn get_near(&self, rank: usize, near: usize) -> (u64, usize)
         requires { rank < length self.now }
         ensures { result.0 ≡ slice_index self.now rank }
@@ -213,7 +213,7 @@ impl Positions {
     }
 
     /// Keeps the numbers below a limit, in their order.
-    #[tactic(auto, using(crate::proofs::ChunkLemmas::counts, crate::proofs::ChunkLemmas::concat_filter))]
+    #[tactic(auto, using(crate::proofs::Chunks::counts, crate::proofs::Chunks::concat_filter))]
     pub fn keep_below(&mut self, limit: u64)
         ensures { self.new ≡ filter (λ p. nat_lt p limit) self.old }
     {

@@ -16,7 +16,7 @@ use std::simd::prelude::*;
 const LANES: usize = 32;
 
 /// How the string at a place, whose end isn't looked for, stands to one without zero bytes.
-#[tactic(auto, using(crate::proofs::CompareLemmas::compared_at, crate::proofs::CompareLemmas::compared_short))]
+#[tactic(auto, using(crate::proofs::Named::compared_at, crate::proofs::Named::compared_short))]
 pub(crate) fn compare_at(bytes: &[u8], at: usize, string: &[u8]) -> Ordering
     requires within { at ≤ length bytes.now }
     requires zero_free { IsZeroFree string.now }
@@ -39,7 +39,7 @@ pub(crate) fn begins_at(bytes: &[u8], at: usize) -> bool
 }
 
 /// Whether this string begins at a place of a section of ended strings.
-#[tactic(auto, using(crate::proofs::CompareLemmas::alike_at))]
+#[tactic(auto, using(crate::proofs::Named::alike_at))]
 #[inline(always)]
 pub(crate) fn stands_at(bytes: &[u8], at: usize, string: &[u8]) -> bool
     requires { IsZeroFree string.now }
@@ -114,16 +114,22 @@ pub(crate) fn begins_alike(bytes: &[u8], at: usize, other: &[u8], end: usize) ->
     (at == 0 || bytes[at - 1] == 0) && begins_same(&bytes[at..], other, end)
 }
 
-/// Where a string begins, or the rank at which it would stand, among those at positions, which are
-/// in the strings' order, by halving these; and how many were compared.
-pub fn search(bytes: &[u8], positions: &Positions, string: &[u8]) -> (Result<usize, usize>, u32)
+/// Where a string begins, or the rank at which it would stand, and how many were compared.
+#[derive(Drop)]
+pub(crate) struct Found {
+    pub place: Result<usize, usize>,
+    pub compared: u32,
+}
+
+/// Looks for a string among those at positions by halving these, which are in the strings' order.
+pub(crate) fn search(bytes: &[u8], positions: &Positions, string: &[u8]) -> Found
     requires table { IsIndexed bytes.now positions.now }
     requires zero_free { IsZeroFree string.now }
-    ensures found { IfOk result.0 (λ place. Contains (strings_in bytes.now) string.now
+    ensures found { IfOk result.place (λ place. Contains (strings_in bytes.now) string.now
         × (place ≡ offset_of (strings_in bytes.now) string.now)) }
-    ensures there { IfOk result.0 (Contains positions.now) }
-    ensures absent { IfErr result.0 (StandsAt bytes.now positions.now string.now) }
-    ensures count { IsWithinDigits result.1 (length positions.now) }
+    ensures there { IfOk result.place (Contains positions.now) }
+    ensures absent { IfErr result.place (StandsAt bytes.now positions.now string.now) }
+    ensures count { IsWithinDigits result.compared (length positions.now) }
 {
     let mut low = 0;
     let mut high = positions.len();
@@ -137,9 +143,17 @@ pub fn search(bytes: &[u8], positions: &Positions, string: &[u8]) -> (Result<usi
         compared += 1;
         match compare_at(bytes, place, string) {
             Ordering::Less => low = middle + 1,
-            Ordering::Equal => return (Ok(place), compared),
+            Ordering::Equal => {
+                return Found {
+                    place: Ok(place),
+                    compared,
+                };
+            }
             Ordering::Greater => high = middle,
         }
     }
-    (Err(low), compared)
+    Found {
+        place: Err(low),
+        compared,
+    }
 }

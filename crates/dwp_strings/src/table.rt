@@ -87,7 +87,7 @@ impl StringTable {
     }
 
     /// The content of `.debug_str.dwo`: each string and a zero byte.
-    #[tactic(auto, using(crate::proofs::HashedLemmas::hashed_table))]
+    #[tactic(auto, using(crate::proofs::Hashed::hashed_table))]
     pub fn data(&self) -> &[u8]
         ensures whole { result.now ≡ data_of self.now }
         ensures table { IsTable self.now }
@@ -96,7 +96,7 @@ impl StringTable {
     }
 
     /// The offset of a string, where the table has it, and how many strings were compared.
-    #[tactic(auto, using(crate::proofs::HashedLemmas::positions_few))]
+    #[tactic(auto, using(crate::proofs::Hashed::positions_few))]
     pub fn find_counted(&self, string: &[u8]) -> (Option<usize>, u32)
         ensures found { IsSome result.0 ↔ Contains self.now string.now }
         ensures offset { IfSome result.0 (λ offset. offset ≡ offset_of self.now string.now) }
@@ -115,9 +115,9 @@ impl StringTable {
         };
         if place == SHARED {
             let found = search(self.entries.bytes.as_slice(), &self.entries.ordered, string);
-            return match found.0 {
-                Ok(place) => (Some(place), found.1),
-                Err(_) => (None, found.1),
+            return match found.place {
+                Ok(place) => (Some(place), found.compared),
+                Err(_) => (None, found.compared),
             };
         }
         if stands_at(self.entries.bytes.as_slice(), place, string) {
@@ -224,7 +224,7 @@ impl StringTable {
     }
 
     /// The content of `.debug_str.dwo`.
-    #[tactic(auto, using(crate::proofs::HashedLemmas::hashed_table))]
+    #[tactic(auto, using(crate::proofs::Hashed::hashed_table))]
     pub fn finish(self) -> Vec<u8>
         ensures whole { result.items ≡ data_of self }
         ensures table { IsTable self }

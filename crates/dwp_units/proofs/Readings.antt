@@ -5,12 +5,12 @@ use Terms.{Input, length, length-drop, List, ltb, ltb-false, Ok, ReadError, refl
 use Terms.{split_at, suc, sym, take, take-add, take-append-drop, UnexpectedEof, zero, ℕ, ◌∙◌, ◌≡◌}
 use Terms.{◌≤◌}
 use Rattle.dwp_bytes.specs.Input.{number_at, relocated_at, after}
-pub use Rattle.dwp_bytes.proofs.Forward.{Gives, then_gives, more_gives, value_gives, error_gives}
-pub use Rattle.dwp_bytes.proofs.Forward.{test_gives, was, by-result, size, goes_after, after-zero}
-pub use Rattle.dwp_bytes.proofs.Forward.{goes_none, goes_least, goes_some, after-after, goes_then}
-pub use Rattle.dwp_bytes.proofs.Forward.{goes_length, Answer, Takes, takes_then, Reads, told_there}
-pub use Rattle.dwp_bytes.proofs.Forward.{then_reads, value_reads, error_reads, test_reads}
-pub use Rattle.dwp_bytes.proofs.Forward.{some_reads, goes, reads_byte, reads_uleb, reads_sleb}
+pub use Rattle.dwp_bytes.proofs.Reading.{error_gives, Gives, more_gives, then_gives, value_gives}
+pub use Rattle.dwp_bytes.proofs.Reading.{after-zero, by-result, goes_after, size, test_gives, was}
+pub use Rattle.dwp_bytes.proofs.Reading.{after-after, goes_least, goes_none, goes_some, goes_then}
+pub use Rattle.dwp_bytes.proofs.Reading.{Answer, goes_length, Reads, Takes, takes_then, told_there}
+pub use Rattle.dwp_bytes.proofs.Reading.{error_reads, test_reads, then_reads, value_reads}
+pub use Rattle.dwp_bytes.proofs.Reading.{goes, reads_byte, reads_sleb, reads_uleb, some_reads}
 
 -- a reading has one answer
 pub one_answer : {A E : Type 0} (r : Result A E) {x y : A} → r ≡ Ok x → r ≡ Ok y → x ≡ y

@@ -1,10 +1,2 @@
-pub mod Terms
-pub mod Copies
-pub mod FourStreams
-pub mod HighBits
 pub mod Loops
-pub mod LowBits
-pub mod Rounds
-pub mod States
-pub mod Values
-pub mod Widths
+pub mod Numbers

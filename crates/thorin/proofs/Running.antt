@@ -1,17 +1,37 @@
 -- A run, one input after the other, what it accepted, and groups that are packed one by one.
-use Rattle.thorin.proofs.Terms
-use Terms.{ap, append-nil, append_assoc, ArePackedAlone, AreTaken, bind-was, Compilation}
-use Terms.{DwarfObject, elf_of, Err, ErrorValue, file_text, inl, Input, inr, IsPackedAlone}
-use Terms.{IsWritten, JoinAll, KindsDiffer, List, Members, Ok, Option, Outcome, Ran, refl, Result}
-use Terms.{rules, same-ok, State, subst, sym, taken, taken_each, TakesInput, TypeUnit, units_in}
-use Terms.{written_elf, [], ℕ, ◌++◌, ◌+◌, ◌∙◌, ◌∷◌, ◌≡◌}
-use Rattle.thorin_errors.specs.declared.error.InputError.{InputError}
-use Rattle.thorin_errors.specs.declared.error.InputError.TheVariants.{Io, Memory as no_memory}
+-- Joining in groups: joining what groups joined is joining all of them. And what packing in groups
+-- means: the join of all inputs at once.
+use Rattle.thorin_join.proofs.Terms as Joined
+use Joined.{ap, append-nil, append_assoc, arith, bind-was, Bool, can_join, Compilation, cond, drop}
+use Joined.{DwarfObject, elf_of, Err, ErrorValue, File, file_text, filter, filter-append, inl, inr}
+use Joined.{is_compilation, IsSoundBegun, joining, keys, KindsDiffer, length, length-append}
+use Joined.{length-map, List, list_any, lookup, map, map-append, Meaning, Members, nat_tests, None}
+use Joined.{Ok, Option, refl, Result, same-ok, same_name, Some, subst, sym, take, take-append-drop}
+use Joined.{true, TypeUnit, units_in, ℕ, [], ◌&&◌, ◌++◌, ◌+◌, ◌∙◌, ◌∷◌, ◌≡◌}
 use Rattle.thorin_errors.specs.declared.error.MissingReferencedObjectBehaviour.{MissingReferencedObjectBehaviour}
+use Rattle.std.proofs.lemmas.Map.{Lookups.hash_map_IsPermutation_from_get, Made.keys_of-map_values}
+use Rattle.thorin_again.specs.Again.{all_meant, HaveEncodingOf, MeansOnceWritten, MeansWhereTaken}
+use Rattle.thorin_builder.specs.Taking.{TakesRead, TakesReferred, TakesSkeleton, TakesSkeletons}
+use Rattle.thorin.specs.{declared.packing.Input.Input, Run.IsWritten, Run.Ran, Run.TakesInput}
+use Rattle.thorin_errors.specs.declared.error.InputError.TheVariants.{Io, Memory as no_memory}
+use Rattle.thorin_builder.specs.Taking.{Came, came, Outcome, TakesBytes, TakesExecutableRead}
+use Rattle.std.proofs.lemmas.List.{Folds.list_any-append, map-set, Sorted.IsPermutation-sym}
+use Rattle.thorin.specs.Groups.{IsPackageOfAll, IsPackedAlone, IsPackedInGroups, taken_each}
+use Rattle.{dwp_base.proofs.Bools.both as both-true, thorin_join.proofs.Joined.input-keeps}
+use Rattle.std.proofs.Math.{ListN.get_or-map, Seq.drop-append_seam, Seq.take-append_seam}
+use Rattle.thorin.specs.Groups.{AreJoined, ArePackedAlone, HaveTheirEncodings, inputs_of}
+use Rattle.thorin_join.proofs.Units.{apart-none, joined_distinct, same_name-true}
+use Rattle.thorin_join.specs.Builder.{finish_test, IsFinishedState, start, State, taken}
 use Rattle.thorin_executable.specs.Skeletons.{Listed, named_skeletons_of, skeletons_of}
-use Rattle.thorin_builder.specs.Taking.{Came, came, TakesBytes, TakesExecutableRead, TakesRead}
-use Rattle.thorin_builder.specs.Taking.{TakesReferred, TakesSkeleton, TakesSkeletons, with_target}
-use Rattle.thorin_builder.proofs.Running.{Offer}
+use Rattle.std.{proofs.lemmas.Map.Keys.IsDistinct-from_apart, specs.Option.option_or}
+use Rattle.thorin_join.specs.{Join.IsPackageOf, Join.JoinAll, Meaning.input_meaning}
+use Rattle.std.proofs.Common.{flat_map, IsPermutation, map-id, rules, swap, ◌==◌}
+use Rattle.thorin_again.proofs.Accepted.{count-again, equivalence, found-again}
+use Rattle.std.specs.List.{drop-map, IsDistinct, Sorted.apply_swaps, take-map}
+use Rattle.{dwp_elf.specs.Written.written_elf, indexmap.specs.Layout.hash_map}
+use Rattle.thorin_again.{proofs.Lists.begun-now, specs.PlainInputs.AreTaken}
+use Rattle.thorin_builder.{proofs.Inputs.Offer, specs.Taking.with_target}
+use Rattle.thorin_errors.specs.declared.error.InputError.{InputError}
 use Rattle.thorin.specs.declared.packing.Input.TheVariants as inputs
 
 -- a run goes on with one more input
@@ -176,3 +196,304 @@ pub as-written : (state : State) (bytes : List ℕ) (w : IsWritten state bytes) 
     → (KindsDiffer w.file.contents → elf_of (file_text w.file) ≡ Ok (written_elf w.file)
     → P (file_text w.file)) → P bytes
 as-written state bytes w P law = subst P (sym w.text) (law w.kinds (read-text state bytes w))
+
+abbrev pub Named : Type 0 → Type 0
+Named X = List (DwarfObject × X)
+
+module _ {X : Type 0} where
+  -- what is joined after other units is joined to their names, too
+  pub joined-append : (names : List DwarfObject) (us vs : Named X) → (joining names (us ++ vs)
+      ≡ joining names us ++ joining (names ++ keys (joining names us)) vs)
+      × (can_join names (us ++ vs)
+      ≡ (can_join names us && can_join (names ++ keys (joining names us)) vs))
+  joined-append names [] vs = grind (rules, append-nil)
+  joined-append names (u ∷ us) vs =
+      let new = rw append_assoc at (joined-append (names ++ u.0 ∷ []) us vs) in
+      grind (rules, joined-append names us vs)
+
+  -- ---- look-ups
+
+  -- a name finds what it finds in the list, unless it was there before
+  found-joined : (name : DwarfObject) (names : List DwarfObject) (us : Named X)
+      → lookup (same_name name) (joining names us)
+      ≡ cond (list_any (same_name name) names) None (lookup (same_name name) us)
+  found-joined name names [] = grind rules
+  found-joined name names (u ∷ us) =
+      let new = found-joined name (names ++ u.0 ∷ []) us in
+      let named = list_any-append (same_name name) names (u.0 ∷ []) in
+      grind (rules, found-joined name names us, new, named, same_name-true name u.0)
+
+  lookup-append : (test : DwarfObject → Bool) (us vs : Named X)
+      → lookup test (us ++ vs) ≡ option_or (lookup test us) (lookup test vs)
+  lookup-append test [] vs = refl
+  lookup-append test (u ∷ us) vs = grind (rules, lookup-append test us vs)
+
+  -- ---- units whose names are distinct
+
+  pub joined-apart : (us : Named X) → IsDistinct same_name (keys (joining [] us))
+  joined-apart us = IsDistinct-from_apart same_name (keys (joining [] us))
+      (joined_distinct [] us apart-none)
+
+  -- ---- how many compilation units there are
+
+  abbrev is_one : DwarfObject × X → Bool
+  is_one u = is_compilation u.0
+
+  abbrev compilations : Named X → ℕ
+  compilations us = length (filter is_one us)
+
+  -- so many of them are passed over; a list can be joined where none is
+  counted : (names : List DwarfObject) (us : Named X) → (n : ℕ)
+      × (n + compilations (joining names us) ≡ compilations us) × (can_join names us ≡ (n == 0))
+  counted names [] = (0, refl, refl)
+  counted names (u ∷ us) =
+      let there = counted names us in
+      let new = counted (names ++ u.0 ∷ []) us in (
+        cond (list_any (same_name u.0) names) (there.0 + cond (is_compilation u.0) 1 0) new.0,
+        grind arith,
+        grind (arith, nat_tests),
+      )
+
+  -- ---- groups
+
+  abbrev pub flat : List (Named X) → Named X
+  flat groups = flat_map (λ group. group) groups
+
+  -- the same is found in both lists, and they have as many compilation units
+  groups-alike : (groups results : List (Named X)) → AreJoined groups results
+      → ((name : DwarfObject)
+      → lookup (same_name name) (flat groups) ≡ lookup (same_name name) (flat results))
+      × (compilations (flat groups) ≡ compilations (flat results))
+  groups-alike [] [] are = (λ name. refl, refl)
+  groups-alike (g ∷ gs) (r ∷ rs) are =
+      let later = groups-alike gs rs are.2 in
+      let c = counted [] g in (
+        λ name. let found = found-again (joining [] g) r (joined-apart g) are.1 name in
+            grind (rules, lookup-append, found-joined name [] g, found, later.0 name),
+        let again = count-again is_one (joining [] g) r are.1 in
+            grind (arith, nat_tests, filter-append, length-append, again),
+      )
+  groups-alike _ _ are = absurd are
+
+  module _ (groups results : List (Named X)) (are : AreJoined groups results) where
+    -- lists of distinct names in which the same is found are the same, in some order
+    pub groups-joined : IsPermutation (joining [] (flat groups)) (joining [] (flat results))
+    groups-joined =
+        let us = joining [] (flat groups) in
+        let vs = joining [] (flat results) in
+        simp map-id at (hash_map_IsPermutation_from_get equivalence (hash_map us us 0)
+        (hash_map vs vs 0) (joined-apart (flat groups)) (joined-apart (flat results)) (λ name.
+        grind (rules, found-joined name [], (groups-alike groups results are).0 name)) (λ k. k)
+        same_name-true)
+
+    pub groups-defined : can_join [] (flat groups) ≡ can_join [] (flat results)
+    groups-defined =
+        let a = counted [] (flat groups) in
+        let b = counted [] (flat results) in
+        let alike = groups-alike groups results are in
+        let again = count-again is_one (joining [] (flat groups)) (joining [] (flat results))
+        groups-joined in
+        grind (arith, nat_tests)
+
+-- ---- inputs, and the list of all their units
+
+abbrev pub Units : Type 0
+Units = List (DwarfObject × Option Meaning)
+
+-- a unit with all that belongs to it
+abbrev pub meant_one : DwarfObject × Meaning → DwarfObject × Option Meaning
+meant_one unit = (unit.0, Some unit.1)
+
+-- what inputs mean, one after the other: the units of the first, and those of the others
+abbrev pub AllMean : List (List ℕ) → Units → Type 0
+AllMean [] all = all ≡ []
+AllMean (bytes ∷ rest) all = (here : Units) × (later : Units) × (input_meaning bytes ≡ Ok here)
+    × AllMean rest later × (all ≡ here ++ later)
+
+pub mean-append : (cs bs : List (List ℕ)) (us vs : Units) → AllMean cs us → AllMean bs vs
+    → AllMean (cs ++ bs) (us ++ vs)
+mean-append [] bs us vs h k = rw h k
+mean-append (c ∷ cs) bs us vs (here, later, meaning, others, whole) k = (
+  here,
+  later ++ vs,
+  meaning,
+  mean-append cs bs later vs others k,
+  ap (λ l. l ++ vs) whole ∙ append_assoc here later vs,
+)
+
+-- the names that are there once some units were joined
+names-then : (before added : Members) (us : Units) → joining (keys before) us ≡ all_meant added
+    → keys (before ++ added) ≡ keys before ++ keys (joining (keys before) us)
+names-then before added us h =
+    rw (h, keys_of-map_values Some added) (map-append (λ u. u.0) before added)
+
+-- the join of inputs is that of the list of all their units
+pub record IsJoinOf (inputs : List (List ℕ)) (before now : Members) : Type 0 where
+  pub all : Units
+  pub meant : AllMean inputs all
+  pub defined : can_join (keys before) all ≡ true
+  pub added : Members
+  pub joined : joining (keys before) all ≡ all_meant added
+  pub is : now ≡ before ++ added
+
+pub join-of : (inputs : List (List ℕ)) (before now : Members) → JoinAll inputs before now
+    → IsJoinOf inputs before now
+join-of [] before now h = record {
+  all = [];
+  meant = refl;
+  defined = refl;
+  added = [];
+  joined = refl;
+  is = rw append-nil h;
+}
+join-of (bytes ∷ rest) before now (middle, j, others) =
+    let later = join-of rest middle now others in
+    let names : keys middle ≡ keys before ++ keys (joining (keys before) j.units) =
+    ap keys j.is ∙ names-then before j.added j.units j.joined in
+    let a = joined-append (keys before) j.units later.all in
+    record {
+      all = j.units ++ later.all;
+      meant = (j.units, later.all, j.meaning, later.meant, refl);
+      defined = rw (a.1, j.defined, ← names) later.defined;
+      added = j.added ++ later.added;
+      joined = rw (a.0, ← names, j.joined, later.joined)
+          (sym (map-append meant_one j.added later.added));
+      is = later.is ∙ ap (λ l. l ++ later.added) j.is ∙ append_assoc before j.added later.added;
+    }
+
+-- and the join of that list is the join of the inputs
+pub joins-all : (inputs : List (List ℕ)) (all : Units) (before added : Members) → AllMean inputs all
+    → can_join (keys before) all ≡ true → joining (keys before) all ≡ all_meant added
+    → JoinAll inputs before (before ++ added)
+joins-all [] all before [] meant defined joined = append-nil before
+joins-all [] all before (unit ∷ units) meant defined joined = grind rules
+joins-all (bytes ∷ rest) all before added (here, later, meaning, others, whole) defined joined =
+    let front = joining (keys before) here in
+    let a = joined-append (keys before) here later in
+    let can = both-true (can_join (keys before) here)
+    (can_join (keys before ++ keys front) later) (rw (whole, a.1) at defined) in
+    let back = joining (keys before ++ keys front) later in
+    let all : front ++ back ≡ all_meant added = rw (whole, a.0) at joined in
+    let first = take (length front) added in
+    let second = drop (length front) added in
+    let fronts = simp (take-append_seam, take-map) at (ap (take (length front)) all) in
+    let backs = simp (drop-append_seam, drop-map) at (ap (drop (length front)) all) in
+    let named : keys (before ++ first) ≡ keys before ++ keys front =
+    names-then before first here fronts in (
+      before ++ first,
+      record {
+        units = here;
+        meaning = meaning;
+        defined = can.0;
+        added = first;
+        joined = fronts;
+        is = refl;
+      },
+      rw (append_assoc, take-append-drop (length front) added) at
+          (joins-all rest later (before ++ first) second others (rw named can.1) (rw named backs)),
+    )
+
+-- inputs that are taken leave a sound package, and their units are joined
+pub taken-joins : (list : List (List ℕ)) (old new : State) → IsSoundBegun old.begun
+    → AreTaken list old new → IsSoundBegun new.begun × JoinAll list (units_in old) (units_in new)
+taken-joins [] old new sound are = rw are.1 (sound, refl)
+taken-joins (bytes ∷ rest) old new sound are =
+    let kept = input-keeps bytes old.begun are.1.begun sound
+    (begun-now bytes (record old { targets = are.0 }) are.1 are.2) in
+    let later = taken-joins rest are.1 new kept.sound are.3 in
+    (later.0, (units_in are.1, kept.joins, later.1))
+
+-- ---- units in another order
+
+swap-map : {A B : Type 0} (f : A → B) (xs : List A) (i j : ℕ)
+    → swap (map f xs) i j ≡ map f (swap xs i j)
+swap-map f [] i j = refl
+swap-map f (x ∷ xs) i j = simp (map-set, get_or-map f (x ∷ xs) j x, get_or-map f (x ∷ xs) i x)
+
+swaps-map : {A B : Type 0} (f : A → B) (xs : List A) (moves : List (ℕ × ℕ))
+    → apply_swaps (map f xs) moves ≡ map f (apply_swaps xs moves)
+swaps-map f xs [] = refl
+swaps-map f xs (m ∷ ms) = rw (swaps-map f xs ms) (swap-map f (apply_swaps xs ms) m.0 m.1)
+
+-- another order of what is made of a list is made of the list in another order
+lifted : {A B : Type 0} (f : A → B) (xs : List A) (ys : List B) → IsPermutation (map f xs) ys
+    → (zs : List A) × (ys ≡ map f zs) × IsPermutation xs zs
+lifted f xs ys h = (
+  apply_swaps xs h.moves,
+  h.is ∙ swaps-map f xs h.moves,
+  record { moves = h.moves; below = rw (← length-map xs f) h.below; is = refl },
+)
+
+-- ---- groups
+
+-- the units of groups, and those of their packages, which are the same
+record AreGrouped (groups : List (List (List ℕ))) (all : Units) : Type 0 where
+  lists : List Units
+  results : List Units
+  meant : AllMean (inputs_of groups) (flat_map (λ units. units) lists)
+  are : AreJoined lists results
+  whole : all ≡ flat_map (λ units. units) results
+
+module _ (again : (state : State) (file : File) → IsSoundBegun state.begun
+    → finish_test state ≡ Ok tt → IsFinishedState state file
+    → MeansOnceWritten (units_in state) file) where
+  grouped : (groups : List (List (List ℕ))) (packages : List (List ℕ)) (old new : State)
+      (all : Units) (each : ArePackedAlone groups packages)
+      → HaveTheirEncodings groups packages each → taken_each packages old ≡ Ok new
+      → AllMean packages all → AreGrouped groups all
+  unfolding taken_each
+  grouped [] [] old new all packed has took mean =
+      record { lists = []; results = []; meant = refl; are = tt; whole = mean }
+  grouped (g ∷ gs) (p ∷ ps) old new all packed has took (here, later, meaning, others, whole) =
+      let alone = packed.0 in
+      let w = alone.written in
+      let units = units_in alone.state in
+      let join = join-of g [] units alone.joined in
+      let next = bind-was (taken p old) _ new took in
+      let rest = grouped gs ps next.0 new later packed.1 has.1 next.2 others in
+      let joined = rw (← join.is) at join.joined in
+      record {
+        lists = join.all ∷ rest.lists;
+        results = here ∷ rest.results;
+        meant = mean-append g (inputs_of gs) join.all (flat_map (λ units. units) rest.lists)
+            join.meant rest.meant;
+        are = (
+          join.defined,
+          rw joined (as-written alone.state p w
+              (λ b. HaveEncodingOf b units → MeansWhereTaken units b)
+              (again alone.state w.file (taken-joins g start alone.state tt
+              (each-taken g start alone.state alone.taken)).0 w.tested w.finished) has.0 old next.0
+              next.1 here meaning),
+          rest.are,
+        );
+        whole = whole ∙ ap (λ l. here ++ l) rest.whole;
+      }
+  grouped _ _ old new all packed has took mean = absurd packed
+
+  -- what is packed in groups is a package of all inputs
+  pub means-all : (groups : List (List (List ℕ))) (file : List ℕ)
+      (packed : IsPackedInGroups groups file)
+      → HaveTheirEncodings groups packed.packages packed.each
+      → IsPackageOfAll (inputs_of groups) file
+  means-all groups file packed has =
+      let together = packed.together in
+      let join = join-of packed.packages [] (units_in together.state) together.joined in
+      let parts = grouped groups packed.packages start together.state join.all packed.each has
+      together.taken join.meant in
+      let lists = flat_map (λ (units : Units). units) parts.lists in
+      let joined = rw parts.whole at join.joined in
+      let order = lifted meant_one join.added (joining [] lists)
+      (IsPermutation-sym (joining [] lists) (all_meant join.added)
+      (subst (IsPermutation (joining [] lists)) joined
+      (groups-joined parts.lists parts.results parts.are))) in
+      record {
+        units = order.0;
+        joined = joins-all (inputs_of groups) lists [] order.0 parts.meant
+            (groups-defined parts.lists parts.results parts.are
+            ∙ ap (can_join []) (sym parts.whole) ∙ join.defined) order.1;
+        packed = join.added;
+        same = IsPermutation-sym join.added order.0 order.2;
+        found = found-again join.added order.0 (rw
+            (join.joined, keys_of-map_values Some join.added) at (joined-apart join.all)) order.2;
+        package_of = subst (λ units. IsPackageOf units file) join.is together.package_of;
+      }

@@ -19,14 +19,14 @@ use Joined.{◌∙◌, ◌∷◌, ◌≡◌, ◌≤◌, ◌⊎◌}
 use Rattle.std.proofs.lemmas.{Bool.eqb-false, Option.get_or_from_slice_get, Option.slice_get_within}
 use Rattle.thorin_again.proofs.Opened.{in-format, info-written, input-encoding, IsReadOf, lie-kept}
 use Rattle.thorin_again.proofs.Opened.{lie-used, object-written, offsets-are, opened-elf, own-made}
-use Rattle.thorin_join.proofs.{Joined.input-keeps, Joined.new-sound, Parts.Added.copied-or-offsets}
+use Rattle.thorin_join.proofs.Files.{finished-grows, finished-own, finished-strings, HasRows}
 use Rattle.thorin_again.proofs.Meant.{of-section, parts, place-eq, place-is, read-alone, row-lies}
-use Rattle.thorin_join.specs.Builder.{finish_test, IsFinishedState, order_of, start, State, taken}
+use Rattle.thorin_join.proofs.Files.{finished-is, finished-order, part-there}
 use Rattle.thorin_again.proofs.Lists.{answers-whole, AreEncoded, begun-now, first-of, input-order}
 use Rattle.thorin_input.specs.NewUnits.{is_met, none_met, once_test, SeenSections, with_each_read}
 use Rattle.thorin_again.proofs.Opened.{and-then, answered, behind, Fares, finished-shared, front}
 use Rattle.thorin_input.specs.Rows.{adjusted_contribution, row_test, unit_contribution, unit_row}
-use Rattle.thorin_join.specs.{Join.limit_of, Join.look_limit, Join.same_sort, StandApart.EachRow}
+use Rattle.thorin_join.proofs.Parts.{copied-or-offsets, parts-first, rows-read}
 use Rattle.thorin_input.specs.{Encodings.file_encoding, Encodings.own_encoding, Used.counts_once}
 use Rattle.thorin_input.specs.Adjusting.{adjusted, Adjustor, has_column_for, moved, moved_range}
 use Rattle.thorin_again.{proofs.Kept.keep-names, specs.OwnUnits.AllOf, specs.OwnUnits.HoldsOwn}
@@ -37,30 +37,28 @@ use Rattle.thorin_again.specs.{Again.all_meant, Again.HaveEncodingOf, OwnRefusal
 use Rattle.thorin_again.proofs.Opened.{read-of, rest-differ, section_of, then-fares, Unless}
 use Rattle.std.proofs.lemmas.List.{Elements.All-from_recursion, Sorted.sum_by-IsPermutation}
 use Rattle.thorin_input.specs.NewUnits.{with_each_section, with_first, with_met, with_read}
-use Rattle.thorin_join.proofs.Files.Finished.{finished-grows, finished-is, finished-order}
-use Rattle.thorin_join.proofs.Files.Finished.{finished-own, finished-strings, part-there}
+use Rattle.thorin_join.proofs.Rows.{adjustor, place-put, range-none, whole-part}
+use Rattle.thorin_join.proofs.Units.{keys-units, kind-place, same_name-self, same_name-sym}
 use Rattle.thorin_again.specs.OwnInput.{IsOwn, own_source, written_object, written_used}
 use Rattle.thorin_input.specs.Adjusting.{other_index, own_index, row_of, without_column}
-use Rattle.thorin_join.proofs.Rows.OfUnits.{adjustor, own-index, some-index, whole-part}
+use Rattle.thorin_join.proofs.{Joined.input-keeps, Joined.sound-inside, Units.same_name-true}
 use Rattle.std.proofs.lemmas.Map.Keys.{IsDistinct-from_apart, IsDistinct-IsPermutation}
 use Rattle.thorin_input.specs.NewUnits.{with_section, with_section_at, with_section_in}
-use Rattle.thorin_join.proofs.Units.InRows.{keys-units, same_name-self, same_name-sym}
+use Rattle.thorin_join.proofs.{Joined.new-sound, Moved.identity-shifted, Rows.some-index}
 use Rattle.thorin_again.proofs.{Meant.row-tested, Meant.row-there, Opened.up-to-parts}
-use Rattle.thorin_join.specs.{Builder.with_source_or_new, Laid.is_at, Laid.same_place}
-use Rattle.thorin_join.{proofs.Files.Contents.HasRows, specs.State.abbreviations_test}
-use Rattle.thorin_join.proofs.{Moved.identity-shifted, Rows.StandApart.sound-inside}
+use Rattle.thorin_join.specs.Builder.{finish_test, IsFinishedState, order_of, start, State, taken}
+use Rattle.thorin_join.specs.{Join.limit_of, Join.look_limit, Laid.is_at, Laid.same_place}
+use Rattle.thorin_join.specs.{Join.same_sort, StandApart.EachRow, State.abbreviations_test}
 use Rattle.std.proofs.lemmas.List.Sorted.{IsPermutation-map, IsPermutation-middle}
-use Rattle.thorin_join.proofs.Units.{InRows.same_name-true, ReadInTurn.kind-place}
+use Rattle.thorin_join.{proofs.Rows.own-index, specs.Builder.with_source_or_new}
 use Rattle.std.proofs.lemmas.List.{Folds.list_any_none, Sums.length-filter}
 use Rattle.thorin_again.specs.Own.{has_content, has_sections, packs_again}
 use Rattle.thorin_again.proofs.Lists.{meant_or, rows-encoded, there-back}
 use Rattle.std.specs.{Cmp.both_ways, Cmp.IsEquivalence, List.IsDistinct}
 use Rattle.thorin_again.proofs.Offsets.{any-chosen, at-row, by-passing}
 use Rattle.thorin_again.specs.OwnAccepted.{IsAccepted, IsAcceptedByNew}
-use Rattle.thorin_join.proofs.Parts.ReadAlike.{parts-first, rows-read}
 use Rattle.thorin_again.specs.Plain.{HoldsPlain, IsPlain, NamesItself}
 use Rattle.std.proofs.Common.{IsPermutation, ltb-true, nat_lt, ◌≢◌}
-use Rattle.thorin_join.proofs.Rows.OneAdded.{place-put, range-none}
 use Rattle.std.proofs.Math.{Bool.and-false, ListN.get_or-map}
 use Rattle.indexmap.proofs.MapLemmas.{lookup_permutation}
 use Rattle.thorin_errors.specs.Errors.{DuplicateUnit}

@@ -20,36 +20,33 @@ use Joined.{unit_bytes, unit_section, UnitRead, UnitSection, Used, with_bytes, w
 use Joined.{with_input, with_new_unit, with_new_units, with_part, with_parts, with_unit_added, []}
 use Joined.{ℕ, ◌++◌, ◌+◌, ◌-◌, ◌<◌, ◌∙◌, ◌∷◌, ◌≡◌, ◌⊎◌}
 use Rattle.thorin_input.specs.Format.{is_in_format}
-use Rattle.thorin_join.proofs.Units.ReadInTurn.{added-keys, AllSo, AreAdded, each-all, each-joining}
+use Rattle.thorin_join.proofs.Joined.{AllNew, can-lie, grows-with_parts, joined-new, keys-held}
 use Rattle.dwp_units.specs.Units.{header_at, older_at, older_type_at, unit_at, units, units_within}
-use Rattle.thorin_join.proofs.{Joined.takes, Rows.OfUnits.whole-part, Rows.StandApart.sound-inside}
-use Rattle.thorin_join.proofs.Units.{InRows.same_name-self, InRows.same_name-true, Whole.units-go}
+use Rattle.thorin_join.proofs.Joined.{Made, names-added, same-begun, sound-inside, source-made}
+use Rattle.thorin_join.proofs.Parts.{each-unit as unit-by-unit, joined_parts-other, parts-copied}
 use Rattle.dwp_dwarf.specs.{Abbreviations.Declaration, Abbreviations.declaration, Offsets.from_at}
-use Rattle.dwp_dwarf.proofs.{Offsets.from_is, Offsets.from_within, Tables.next_takes, Tables.said}
-use Rattle.thorin_join.proofs.Rows.OneAdded.{grows-with_bytes, keep-part, own-place, part-inside}
-use Rattle.thorin_join.proofs.Joined.{grows-with_parts, keys-held, Made, same-begun, source-made}
-use Rattle.thorin_join.proofs.Parts.Added.{content-with_bytes, content-with_parts, parts-copied}
+use Rattle.dwp_dwarf.proofs.Tables.{from_is, from_within, next_takes, said}
+use Rattle.thorin_join.proofs.Rows.{adjusted-plain, front-long, grows-trans, row-part, whole_behind}
+use Rattle.thorin_join.proofs.Rows.{content-put, IsUnitRow, part-inside, row-name, whole-else}
+use Rattle.thorin_join.proofs.Units.{added-keys, AllSo, AreAdded, each-all, IsKnown, Listed, Reads}
 use Rattle.thorin_input.specs.Encodings.{encoding_of, first_encoding, has_encoding, section_has}
-use Rattle.thorin_join.proofs.Rows.OfUnits.{adjusted-plain, is-unit_row, IsUnitRow, whole-else}
-use Rattle.thorin_join.proofs.Parts.Added.{each-unit as unit-by-unit, joined_parts-other, step}
-use Rattle.thorin_join.proofs.{Joined.with_all_parts, Moved.identity-shifted, Moved.newer-five}
-use Rattle.thorin_join.proofs.Units.Whole.{Goes, goes-alone, identity-sort, IsKnown, known-in}
+use Rattle.thorin_join.proofs.Units.{each-joining, goes-alone, units-go, units-joined, UnitsJoined}
+use Rattle.thorin_join.proofs.Units.{each-named, identity-sort, News, same_name-self, sections-are}
+use Rattle.thorin_join.proofs.Units.{kind-place, known-in, name-identity, same_name-true, WasRead}
+use Rattle.thorin_join.proofs.{Joined.takes, Joined.with_all_parts, Rows.row-own, Rows.whole-part}
 use Rattle.std.proofs.{Common.eqb-true, Math.Seq.drop-append_seam, Math.Seq.take-append_seam}
 use Rattle.std.proofs.lemmas.List.{Elements.recursion_from_All, Sums.AllPass-from_list_all}
 use Rattle.thorin_input.specs.{Adjusting.adjusted, Adjusting.moved, Rows.abbreviations_for}
-use Rattle.thorin_join.proofs.Rows.OneAdded.{content-put, front-long, Grows, grows-trans}
-use Rattle.thorin_join.proofs.Units.ReadInTurn.{name-identity, News, Reads, sections-are}
-use Rattle.thorin_join.proofs.Units.ReadInTurn.{each-named, IsAdded, kind-place, Listed}
-use Rattle.thorin_join.proofs.Rows.OneAdded.{row-name, row-own, row-part, whole_behind}
-use Rattle.thorin_join.proofs.Rows.AllAdded.{AllNew, can-lie, joined-new, names-added}
-use Rattle.thorin_join.proofs.Units.ReadInTurn.{units-joined, UnitsJoined, WasRead}
+use Rattle.thorin_join.proofs.{Moved.identity-shifted, Moved.newer-five, Rows.keep-part, Units.Goes}
+use Rattle.thorin_join.proofs.{Parts.content-with_bytes, Parts.content-with_parts, Rows.Grows}
+use Rattle.thorin_join.proofs.{Parts.step, Rows.grows-with_bytes, Rows.is-unit_row, Rows.own-place}
+use Rattle.thorin_join.specs.Meaning.{named_at, named_each, named_sections}
+use Rattle.thorin_join.{proofs.Units.IsAdded, specs.StandApart.EachRow, specs.StandApart.rows_begun}
 use Rattle.thorin_again.specs.Plain.{HasNamedParts, HasNamedUnits, NamesItself}
 use Rattle.std.proofs.lemmas.Option.{get_or_from_slice_get, slice_get_within}
-use Rattle.thorin_join.specs.Meaning.{named_at, named_each, named_sections}
 use Rattle.thorin_index.specs.{EntryTests.same_encoding, IndexText.is_used}
 use Rattle.thorin_again.specs.{Again.input_encoding, InFormat.IsInFormat}
 use Rattle.dwp_dwarf.specs.Grammar.{DeclarationsLie, IsBehindOthers}
-use Rattle.thorin_join.specs.StandApart.{EachRow, rows_begun}
 use Rattle.dwp_units.proofs.Readings.{more, takes_more}
 use Rattle.dwp_base.proofs.Bools.{or-right}
 use Rattle.dwp_base.specs.declared.section.SectionKind.TheVariants as kinds

@@ -19,21 +19,21 @@ use Rattle.thorin_again.specs.InFormat.{AreInFormat, HasEncodingOfOne, HaveEncod
 use Rattle.thorin_again.proofs.{Kept.of-one, Kept.order-added, Offsets.no-turn, Offsets.tiled-kept}
 use Rattle.std.proofs.{ByRecursion.All-map as each-mapped, lemmas.Map.Views.IfSome-lookup_from_All}
 use Rattle.thorin_again.specs.OneEncoding.{HaveEncodingOnceWritten, IsOfEncoding, IsOfOneEncoding}
-use Rattle.thorin_join.proofs.Files.Finished.{finished-is, finished-order, finished-own, members}
+use Rattle.thorin_join.proofs.Joined.{all_there, made-order, new-sound, takes, TakesUnits}
 use Rattle.thorin_again.proofs.Opened.{first-written, input-encoding, IsOwnRow, mean_of, OwnMade}
 use Rattle.thorin_again.proofs.{Kept.names-kept, Kept.OfOne, Meant.of-section, Meant.read-alone}
-use Rattle.thorin_join.proofs.Joined.{all_there, input-keeps, made-order, new-sound, new-units}
+use Rattle.thorin_join.proofs.Joined.{input-keeps, new-units, same-begun, source-made, Takes}
 use Rattle.std.proofs.lemmas.List.Elements.{All-append, All-cons, All-from_recursion, All-head}
 use Rattle.thorin_again.specs.{Again.input_encoding, InFormat.IsOneOf, OwnInput.written_object}
 use Rattle.thorin_input.specs.Encodings.{encoding_of, file_encoding, first_encoding, is_index}
 use Rattle.thorin_again.proofs.Kept.{encoding-eq, HasInfo, info-there, input-rows, named-kept}
-use Rattle.thorin_join.specs.Builder.{finish_test, IsFinishedState, names_in, order_of, start}
-use Rattle.thorin_join.proofs.Units.ReadInTurn.{each-all, each-joining, Reads, sections-are}
-use Rattle.thorin_join.specs.{Builder.State, Builder.taken, Join.GivesUnit, Join.look_limit}
+use Rattle.thorin_join.proofs.Units.{each-joining, Reads, sections-are}
+use Rattle.thorin_join.proofs.{Files.finished-is, Files.finished-own, Files.members, Units.WasRead}
+use Rattle.thorin_join.specs.Builder.{finish_test, IsFinishedState, names_in, start, State, taken}
 use Rattle.thorin_again.specs.PlainInputs.{AreTaken, EachAdds, IsOfPlainObjects, IsPlainOf}
 use Rattle.thorin_again.specs.Plain.{HasNamedUnits, HasTiledOffsets, HoldsPlain, IsPlain}
-use Rattle.thorin_join.proofs.Joined.{same-begun, source-made, Takes, takes, TakesUnits}
-use Rattle.thorin_join.specs.Meaning.{input_meaning, meaning_by, meant, object_meaning}
+use Rattle.thorin_join.specs.Meaning.{input_meaning, meaning_by, object_meaning, source_meaning}
+use Rattle.thorin_join.specs.{Join.GivesUnit, Join.look_limit, Meaning.meant, Meaning.unit_meaning}
 use Rattle.thorin_again.specs.OneEncoding.{AnswersAs, AnswersOnceWritten, GivesWhole}
 use Rattle.dwp_base.specs.declared.section.SectionKind.TheVariants.{CuIndex, TuIndex}
 use Rattle.dwp_index.specs.Package.{found_counted, package_of, unit_at_row, unit_in}
@@ -41,11 +41,10 @@ use Rattle.dwp_units.specs.Units.{header_at, older_at, unit_at, units, units_wit
 use Rattle.thorin_input.specs.Encodings.{is_plain, own_encoding, section_has}
 use Rattle.dwp_bytes.specs.declared.encoding.Format.TheVariants.{Dwarf32}
 use Rattle.std.proofs.lemmas.List.Elements.{All-map, All-nil, All-tail}
-use Rattle.thorin_join.specs.Meaning.{source_meaning, unit_meaning}
+use Rattle.thorin_join.{proofs.Files.finished-order, proofs.Units.each-all, specs.Builder.order_of}
 use Rattle.std.proofs.lemmas.Option.{IfSome_then, slice_get-get_or}
 use Rattle.std.proofs.Common.{get_or, IfSome, unwrap_or, ◌↔◌}
 use Rattle.thorin_input.specs.Indexes.{index_in, indexes_of}
-use Rattle.thorin_join.proofs.Units.ReadInTurn.{WasRead}
 use Rattle.dwp_units.proofs.Readings.{one_answer}
 use Rattle.dwp_elf.specs.Written.{written_elf}
 use Rattle.dwp_index.specs.Package as index

@@ -17,9 +17,9 @@ use Joined.{subst, suc, sym, take, take-length, true, with_source, zero, [], ℕ
 use Joined.{◌>>=◌, ◌∙◌, ◌∷◌, ◌≡◌, ◌≤◌, ◌⊎◌}
 use Rattle.std.proofs.lemmas.{Bool.eqb-false, List.Folds.Any-from_list_any, Option.slice_get_within}
 use Rattle.thorin_strings.specs.StringOffsets.{entry_bytes, header_of, offset_at, remapped_entries}
-use Rattle.thorin_join.proofs.Parts.Added.{no-entries, Rewritten, rewritten-plain, units-strings}
-use Rattle.thorin_join.proofs.Parts.{Ranges.count-again, ReadAlike.has-more, ReadAlike.has-other}
-use Rattle.thorin_join.proofs.{Files.Contents.HasRows, Joined.Made as Added, Joined.source-made}
+use Rattle.thorin_join.proofs.Parts.{each-part, has-more, has-other, joined_parts-more, no-entries}
+use Rattle.thorin_join.proofs.Parts.{joined_parts-other, Rewritten, rewritten-plain, units-strings}
+use Rattle.thorin_join.proofs.{Files.HasRows, Rows.place-put, Rows.range-front, Rows.range_for}
 use Rattle.thorin_again.specs.Plain.{GiveStrings, HasOneOf, HasTiledOffsets, IsAmong, IsOfSome}
 use Rattle.std.proofs.lemmas.List.FromFn.{get_or-map-range_with_len, length-map-range_with_len}
 use Rattle.std.proofs.Common.{add-mul, eqb-true, leb, leb-false, lt-ltb, true≢false, zero-mul}
@@ -28,17 +28,16 @@ use Rattle.thorin_again.specs.{OwnRefusals.UnlessStringOffset, Plain.IsWholeRang
 use Rattle.std.proofs.{ByRecursion.all_kept_by, lemmas.Nat.row_fits, Math.Seq.drop-append-add}
 use Rattle.thorin_again.proofs.Kept.{content-added, once-more, order-added, parted, row_with}
 use Rattle.thorin_package_input.specs.PackagedOffsets.{offset_ranges, place_cmp, ranges_test}
-use Rattle.thorin_join.proofs.Parts.Added.{each-part, joined_parts-more, joined_parts-other}
+use Rattle.thorin_join.proofs.{Joined.Made as Added, Joined.source-made, Rows.own-bytes}
 use Rattle.std.proofs.lemmas.Option.{get_or_from_slice_get, slice_get_cases, slice_get_read}
 use Rattle.std.proofs.lemmas.List.Sorted.{IsPermutation-filter_both, list_any-IsPermutation}
 use Rattle.std.{proofs.Common.⊎_elim, specs.BTreeSet.insert_key, specs.List.range_with_len}
-use Rattle.thorin_join.proofs.Rows.OneAdded.{own-bytes, place-put, range-front, range_for}
+use Rattle.thorin_join.{proofs.Ranges.count-again, proofs.Ranges.range-of, specs.StandApart.EachRow}
 use Rattle.std.proofs.lemmas.List.Elements.{All-from_recursion, recursion_from_All}
 use Rattle.thorin_package_input.specs.RowPlaces.{is_range, range_of_row, ranges_of}
-use Rattle.thorin_package_input.proofs.RowRanges.{compilation_there, type_there}
-use Rattle.thorin_join.{proofs.Parts.Ranges.range-of, specs.StandApart.EachRow}
+use Rattle.thorin_package_input.proofs.Rows.{compilation_there, type_there}
 use Rattle.thorin_again.proofs.Kept.{RowHas, rows-share, with-any, with-each}
-use Rattle.thorin_package_input.proofs.FirstRow.{range_is, range_of_found}
+use Rattle.thorin_package_input.proofs.Rows.{range_is, range_of_found}
 use Rattle.thorin_package_input.specs.PackagedReading.{range_bytes}
 use Rattle.thorin_strings.specs.StringOffsets.{remapped_entry}
 use Rattle.thorin_index.specs.ReadRows.{HasContributions}

@@ -20,18 +20,18 @@ use Rattle.thorin_input.specs.Format.{is_in_format}
 use Rattle.thorin_again.specs.{Again.input_encoding, OwnInput.written_object, OwnInput.written_used}
 use Rattle.thorin_again.specs.{OwnRefusals.UnlessStringOffset, Plain.HasTiledOffsets, Plain.IsPlain}
 use Rattle.thorin_package_input.specs.{PackagedOffsets.rewritten_from, PackagedReading.range_bytes}
-use Rattle.thorin_index.{proofs.Each.have_passed, proofs.Each.used_known, specs.IndexText.is_used}
+use Rattle.thorin_index.{proofs.Rows.have_passed, proofs.Rows.used_known, specs.IndexText.is_used}
 use Rattle.thorin_again.proofs.Offsets.{all-rewritten, any-chosen, are-named, at-row, has-range}
 use Rattle.thorin_again.specs.OwnInput.{CanTake, IsOwn, own_source, TakesParts, TakesUpToParts}
-use Rattle.thorin_join.proofs.Files.Finished.{finished-strings, members, Tested, tested-state}
+use Rattle.thorin_join.proofs.Files.{finished-content, finished-strings, HasRows, members, nothing}
 use Rattle.thorin_again.proofs.Offsets.{passing, ranges-are, some-has, tile-lies, tile-tested}
-use Rattle.thorin_join.proofs.Files.Finished.{finished-content, finished-order, finished-own}
+use Rattle.thorin_join.proofs.Files.{finished-order, finished-own, Tested}
 use Rattle.thorin_input.specs.Used.{counts_once, has_kind, is_present, opened, used_bytes}
-use Rattle.thorin_join.specs.Builder.{finish_test, IsFinishedState, order_of, same_order}
-use Rattle.thorin_join.proofs.{Rows.OneAdded.part-inside, Units.InRows.distinct_chosen}
+use Rattle.thorin_join.proofs.{Parts.rewritten-package, Rows.part-inside, Units.distinct_chosen}
+use Rattle.thorin_join.specs.Builder.{finish_test, IsFinishedState, same_order, State, with_units}
 use Rattle.std.proofs.{ByRecursion.all_kept_by, Common.bytes_eq, Math.ListN.get_or-map}
-use Rattle.thorin_join.specs.{Laid.IsLaid, Laid.Lie, Laid.rows_at, StandApart.EachRow}
-use Rattle.thorin_join.proofs.Files.Contents.{chosen-fit, HasRows, no-bytes, nothing}
+use Rattle.thorin_join.specs.{Builder.source_for, Laid.IsLaid, Laid.Lie, StandApart.EachRow}
+use Rattle.thorin_join.{proofs.Files.chosen-fit, proofs.Files.tested-state, specs.Laid.rows_at}
 use Rattle.thorin_input.specs.{Encodings.encoding_of, Used.used_from, Used.used_kind}
 use Rattle.dwp_elf.specs.Written.{plain_section, written_elf, written_sections}
 use Rattle.std.proofs.lemmas.{Bool.or_right, List.Elements.recursion_from_All}
@@ -39,11 +39,10 @@ use Rattle.thorin_input.{proofs.Walking.found-any, specs.Format.is_of_units}
 use Rattle.dwp_elf_read.specs.Elf.{elf_of, is_named, is_of, SectionMeaning}
 use Rattle.thorin_input.specs.Indexes.{index_in, indexes_of, version_test}
 use Rattle.dwp_base.specs.declared.section.SectionKind.TheVariants.{Info}
-use Rattle.thorin_join.proofs.Parts.Added.{rewritten-package, slice-long}
+use Rattle.thorin_join.{proofs.Files.no-bytes, proofs.Parts.slice-long, specs.Builder.order_of}
 use Rattle.thorin_index.proofs.ReadAgain.{index_is_read, written_rows}
-use Rattle.thorin_join.specs.Builder.{source_for, State, with_units}
 use Rattle.dwp_base.proofs.EveryKind.{kind-named, not-older}
-use Rattle.thorin_package_input.proofs.FirstRow.{range_is}
+use Rattle.thorin_package_input.proofs.Rows.{range_is}
 use Rattle.dwp_elf_read.specs.Identification.{identity_of}
 use Rattle.dwp_index.specs.Contents.{is_of_kind}
 use Rattle.dwp_table.specs.Columns.{column_of}

@@ -1,6 +1,1 @@
-pub mod Terms
-pub mod Names
-pub mod Extending
-pub mod Running
-pub mod AddedAgain
-pub mod Later
+pub mod Inputs

@@ -100,7 +100,7 @@ fn add_input_with_units(
 /// object and there is one. The first error from left to right: of the file's kind, the ELF file,
 /// the used sections, the first unit, the byte order, the indexes, the kinds of sections and the
 /// string offsets, the abbreviations, the units. An `Err` leaves the package as it was.
-#[tactic(auto, using(crate::proofs::AddedAgain::begun_extends), unfolding(thorin_join::specs::Builder::with_input, thorin_join::specs::Builder::with_units, thorin_input::specs::Encodings::own_encoding))]
+#[tactic(auto, using(crate::proofs::Inputs::begun_extends), unfolding(thorin_join::specs::Builder::with_input, thorin_join::specs::Builder::with_units, thorin_input::specs::Encodings::own_encoding))]
 pub(crate) fn add_input(
     alloc: Global,
     in_progress: &mut Option<InProgressDwarfPackage>,

@@ -241,7 +241,7 @@ impl<'output, 'session: 'output, Sess: Session<RelocationEntry>> DwarfPackage<
     }
 
     /// Whether a unit is a compilation unit that the package has.
-    #[tactic(auto, using(crate::proofs::Running::names_begun, crate::proofs::Names::among_is))]
+    #[tactic(auto, using(crate::proofs::Inputs::names_begun, crate::proofs::Inputs::among_is))]
     fn is_there(&self, target: DwarfObject) -> bool
         ensures { result ≡ is_there target self.now.state }
     {

@@ -257,7 +257,7 @@ impl<'output, 'session: 'output, Sess: Session<RelocationEntry>> DwarfPackage<
     /// The units that the package contains, in order of acceptance. It takes no memory. A proof
     /// about a borrowed package learns here that the builder's invariant holds, which the laws of
     /// `thorin_join` ask for.
-    #[tactic(auto, using(crate::proofs::Running::names_begun))]
+    #[tactic(auto, using(crate::proofs::Inputs::names_begun))]
     pub fn contained_units(&self) -> &IndexSet<DwarfObject>
         ensures names { result.now.keys ≡ keys (units_in self.now.state) }
         ensures sound { IsSoundBegun self.now.state.begun }
@@ -304,7 +304,7 @@ impl<'output, 'session: 'output, Sess: Session<RelocationEntry>> DwarfPackage<
 
     /// The units that executables refer to and that aren't contained, in order of insertion. It
     /// takes no memory.
-    #[tactic(auto, using(crate::proofs::Running::names_begun))]
+    #[tactic(auto, using(crate::proofs::Inputs::names_begun))]
     pub fn missing_targets(&self) -> MissingTargets<'_>
         ensures { missing_left result
             ≡ filter (spec.is_missing (spec.names_in self.now.state.begun)) self.now.state.targets }
@@ -317,7 +317,7 @@ impl<'output, 'session: 'output, Sess: Session<RelocationEntry>> DwarfPackage<
     }
 
     /// `MissingReferencedUnit` for the first of the missing targets.
-    #[tactic(auto, using(crate::proofs::Names::first_passing), unfolding(thorin_join::specs::Builder::targets_test))]
+    #[tactic(auto, using(crate::proofs::Inputs::first_passing), unfolding(thorin_join::specs::Builder::targets_test))]
     fn test_targets(&self) -> Result<(), Error>
         ensures { Gives (λ _. tt) result (spec.targets_test (spec.names_in self.now.state.begun)
             self.now.state.targets) }

@@ -20,7 +20,7 @@ use std::alloc::Global;
 /// read, 15 where a compressed section's header is damaged or its stream of zlib's, 18 where that of
 /// zstd's is, 16 where it is compressed in another way, 17 where the plain file can't be written, 13
 /// where memory ran out. `out` is left as it is but at 0, and `size` but at 0 and 10.
-#[tactic(auto, using(crate::proofs::PlainFiles::plain_put, crate::proofs::PlainFiles::room_needed, crate::proofs::PlainFiles::told, crate::proofs::PlainFiles::told_early, crate::proofs::PlainFiles::tells_none))]
+#[tactic(auto, using(crate::proofs::Files::plain_put, crate::proofs::Files::room_needed, crate::proofs::Files::told, crate::proofs::Files::told_early, crate::proofs::Files::tells_none))]
 #[unsafe(no_mangle)]
 pub extern "C" fn thorin_decompress(
     alloc: Global,

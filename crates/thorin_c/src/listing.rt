@@ -67,7 +67,7 @@ pub(crate) fn kind_number(object: DwarfObject) -> u8
 }
 
 /// Writes a list over another, as far as there is room.
-#[tactic(auto, using(crate::proofs::Writing::over_is))]
+#[tactic(auto, using(crate::proofs::Lists::over_is))]
 pub(crate) fn write_over<T: Copy>(list: &[T], over: &mut [T])
     ensures { over.new ≡ written_over over.old list.now }
 {

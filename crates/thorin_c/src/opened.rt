@@ -34,7 +34,7 @@ struct PlacedSections<'p, 'a> {
 
 impl<'p, 'a> PlacedSections<'p, 'a> {
     /// The content of a kind; no bytes where its place isn't inside.
-    #[tactic(auto, using(crate::proofs::PlacesRead::content_placed))]
+    #[tactic(auto, using(crate::proofs::Files::content_placed))]
     #[inline(always)]
     fn of(&self, kind: SectionKind) -> &'a [u8]
         ensures { result.now ≡ content (sections_at self.now.places.now self.now.bytes.now) kind }
@@ -156,7 +156,7 @@ impl<'p, 'a> OpenPackage<'p, 'a> {
     }
 
     /// The row of an object, whose ranges lie inside their sections.
-    #[tactic(auto, using(crate::proofs::ByIndex::row_is))]
+    #[tactic(auto, using(crate::proofs::Files::row_is))]
     #[inline(always)]
     pub(crate) fn row(&self, object: DwarfObject) -> Result<ListedRow<'a>, i32>
         ensures { Answers row_held result (of_object row_counted self.now object) }
@@ -169,7 +169,7 @@ impl<'p, 'a> OpenPackage<'p, 'a> {
     }
 
     /// The row of an object's unit, and the encoding in its header.
-    #[tactic(auto, using(crate::proofs::ByIndex::unit_is))]
+    #[tactic(auto, using(crate::proofs::Files::unit_is))]
     #[inline(always)]
     pub(crate) fn unit(&self, object: DwarfObject) -> Result<(ListedRow<'a>, Encoding), i32>
         ensures { Answers (unit_held self.now object) result

@@ -87,7 +87,7 @@ pub extern "C" fn thorin_pack(
 /// those of the unit that is kept: 0, as many as there is room for in `types`, in the order of
 /// passing over, and how many there are in `report.differing`. 11 and 13 as `thorin_pack`, and then
 /// `types` is left as it is, as are the other fields of `report` always.
-#[tactic(auto, using(crate::proofs::Taking::refuses, crate::proofs::Taking::differs, crate::proofs::Taking::runs_out_at))]
+#[tactic(auto, using(crate::proofs::Lists::refuses, crate::proofs::Lists::differs, crate::proofs::Lists::runs_out_at))]
 #[unsafe(no_mangle)]
 pub extern "C" fn thorin_differing_types(
     alloc: Global,
@@ -146,7 +146,7 @@ fn refused(refusal: RefusedInput, inputs: &[ThorinBytes<'_>], report: &mut Thori
 }
 
 // The package of inputs.
-#[tactic(auto, using(crate::proofs::Taking::none_fails))]
+#[tactic(auto, using(crate::proofs::Lists::none_fails))]
 fn package_of(alloc: Global, inputs: &[ThorinBytes<'_>]) -> Result<FinishedPackage, RefusedInput>
     ensures packed { IfOk result (λ packed. IsPackage inputs.now packed.differing
         (if packed.packs_again then 1 else 0) packed.file.items) }

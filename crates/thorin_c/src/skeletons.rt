@@ -16,7 +16,7 @@ use thorin::{Bump, BytesSession};
 /// byte behind it, as far as there is room: 0, how many units there are in `count`, and how many
 /// bytes all paths have in `report.size`. 11 where an error ends the list: the same of the units
 /// before it, and the error in `report`. 13 where memory ran out, and then all is left as it is.
-#[tactic(auto, using(crate::proofs::SkeletonLists::end_alone))]
+#[tactic(auto, using(crate::proofs::Lists::end_alone))]
 #[unsafe(no_mangle)]
 pub extern "C" fn thorin_skeletons(
     alloc: Global,

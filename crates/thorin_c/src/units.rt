@@ -59,7 +59,7 @@ impl FirstUnits {
         }
     }
 
-    #[tactic(auto, using(crate::proofs::SkeletonLists::none_read, crate::proofs::SkeletonLists::ends))]
+    #[tactic(auto, using(crate::proofs::Lists::none_read, crate::proofs::Lists::ends))]
     fn read_left(
         &mut self,
         units: &mut NamedUnits<'_>,
@@ -79,7 +79,7 @@ impl FirstUnits {
     }
 
     /// Adds a unit that was read, and the path of its object.
-    #[tactic(auto, using(crate::proofs::SkeletonLists::first_more))]
+    #[tactic(auto, using(crate::proofs::Lists::first_more))]
     fn add(&mut self, room: Room, target: DwarfObject, path: &str) -> Result<(), AllocError>
         ensures { OnOk result ((units : List Named) → IsFirst room units self.old
             → IsFirst room (units ++ (target, path.now) ∷ []) self.new) }
@@ -119,7 +119,7 @@ fn sum(a: u64, b: u64) -> Result<u64, AllocError>
 }
 
 /// Puts as much behind the first of a list as there is room for.
-#[tactic(auto, using(crate::proofs::SkeletonLists::front_more))]
+#[tactic(auto, using(crate::proofs::Lists::front_more))]
 fn put<T: Copy>(first: &mut Vec<T>, room: usize, more: &[T]) -> Result<(), AllocError>
     ensures { OnOk result ((all : List T) → first.old.items ≡ take room all
         → first.new.items ≡ take room (all ++ more.now)) }

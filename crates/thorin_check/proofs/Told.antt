@@ -1,19 +1,40 @@
--- Faults that were told.
-use Rattle.thorin_check.proofs.Terms
-use Terms.{append_assoc, Err, IsOfPrinting, IsUnreadText, of_executable, PackageError, string_bytes}
-use Terms.{append-nil, counted_on, DwarfObject, fault_text, FaultValue, inl, IsSomeText, of_package}
-use Terms.{IsTextOf, Progress, ReadError, result_err, take_more, TellsText, TellsWhat, UnitEntry, ℕ}
-use Terms.{decimal, Failure, ForEach, Global, InTurn, IsFault, of_unit, Outcome, take_all, TellsOr}
-use Terms.{arith, Bool, codes, get_or, Grows, length, Option, own_of, Prints, Result, String, Tells}
-use Terms.{false, grown, IfOk, List, min, None, refl, rules, Some, sym, take, Told, true, ◌++◌, ◌+◌}
-use Terms.{ap, Ok, [], ◌-◌, ◌<◌, ◌^◌, ◌∙◌, ◌∷◌, ◌≡◌, ◌≢◌, ◌≤◌}
-use Rattle.thorin_check.specs.Faults.{string_text, TellsFound, TellsItself, TellsString, TellsUnit}
-use Rattle.thorin_check.specs.{Faults.is_bare, Faults.IsBroken, Faults.TellsOwn, Overlaps.IsClash}
-use Rattle.std.{proofs.lemmas.Grind.flat_map-append, specs.Result.IsErrAnd}
-use Rattle.thorin_print.specs.{declared.form.Form.Form, Shown.shown}
+-- Faults that were told: of rows that no slot names, and of units, one of each range of string
+-- offsets.
+use Rattle.std.proofs.Common.{Bool, codes, IfOk, None, OnOk, refl, rules, Some, take, ℕ, ◌&&◌, ◌++◌}
+use Rattle.std.proofs.Common.{[], inr, List, min, sym, true, ◌+◌, ◌<◌, ◌^◌, ◌∙◌, ◌∷◌, ◌≢◌, ◌≤◌, ◌⊎◌}
+use Rattle.std.proofs.Common.{append-nil, append_assoc, below_more, decimal, string_bytes, take_all}
+use Rattle.std.proofs.lemmas.List.Elements.{All-weaker, Contains-append_left, Contains-append_right}
+use Rattle.thorin_check.specs.Rendering.{fault_text, FaultValue, of_executable, of_package, of_unit}
+use Rattle.{dwp_base.proofs.Bools.both, thorin_check.specs.declared.strings.StringRange.StringRange}
+use Rattle.std.proofs.Common.{arith, false, get_or, Global, length, nat_eq, Option, Result, String}
+use Rattle.std.proofs.lemmas.List.Elements.{All-append, All-more, All-nil, All-push, Contains-push}
+use Rattle.std.proofs.{KnownBytes.Appends-nil, lemmas.Bool.cases_lt, lemmas.Bool.Decides.nat_tests}
+use Rattle.thorin_check.specs.Faults.{is_of, string_text, TellsItself, TellsRowsOf, TellsStringsOf}
+use Rattle.thorin_check.specs.Gathered.{IsGathered, IsGatheredIn, IsOfUnit, TellsListed, TellsSeen}
+use Rattle.thorin_check.specs.Telling.{counted_on, ForEach, InTurn, Is, IsFault, Progress, TellsOr}
+use Rattle.thorin_check.specs.{Gathered.GoesOn, Gathered.IsSeen, Gathered.Listed, Overlaps.IsClash}
+use Rattle.{dwp_bytes.specs.declared.error.ReadError.ReadError, thorin_words.specs.Printed.printed}
+use Rattle.std.specs.{List.All, List.AllPairs, List.Contains, Result.IsErrAnd, Result.result_err}
+use Rattle.dwp_index.specs.declared.{error.PackageError.PackageError, units.UnitEntry.UnitEntry}
+use Rattle.dwp_table.specs.{Columns.contribution_kinds, declared.object.DwarfObject.DwarfObject}
+use Rattle.std.proofs.lemmas.List.{Elements.All-contains, get_or_default, map-append, take_more}
+use Rattle.std.proofs.lemmas.{Grind.flat_map-append, List.Elements.All-get_or, Option.same_Some}
+use Rattle.thorin_check.specs.Strings.{HasOffsets, IsBehind, IsRangeOfOne, number_of, ShareNone}
+use Rattle.thorin_print.{proofs.Printed.grown, specs.declared.form.Form.Form, specs.Shown.shown}
+use Rattle.thorin_check.specs.Faults.{IsUnnamed, row_fault, TellsFound, TellsString, TellsUnit}
+use Rattle.thorin_check.specs.Texts.{IsSomeText, IsTextOf, IsUnreadText, TellsText, TellsWhat}
+use Rattle.{dwp_base.proofs.Steps.same-ok, thorin_print.specs.declared.output.Failure.Failure}
+use Rattle.std.specs.{List.Sorted.IsPermutation, List.Sorted.IsSortedByKey, Ordering.nat_cmp}
+use Rattle.thorin_check.specs.Checking.{TellsSlot, TellsSlots, TellsStringsOfAll, TellsUnits}
+use Rattle.thorin_check.specs.Faults.{ArePast, is_bare, is_from, IsBroken, IsNamed, TellsOwn}
+use Rattle.std.proofs.lemmas.List.Sorted.{Contains-permutation, IsNonDecreasingBy-from_sort}
+use Rattle.std.proofs.{KnownBytes.Appends-trans, lemmas.List.Quantifiers.all_pairs_push}
+use Rattle.thorin_check.specs.{Apart.AreApart, Own.own_of, Telling.Tells, Telling.Told}
+use Rattle.thorin_check.{proofs.Packages.has_strings, specs.declared.units.Seen.Seen}
+use Rattle.thorin_print.specs.Answers.{Grows, IsOfPrinting, Outcome, Prints}
 use Rattle.dwp_index.specs.Package.{found, FoundUnit, Package}
-use Rattle.std.proofs.KnownBytes.{Appends-nil, Appends-trans}
-use Rattle.thorin_words.specs.Printed.{printed}
+use Rattle.std.proofs.Common.{ap, Err, inl, map, Ok, ◌-◌, ◌≡◌}
+use Rattle.thorin_find.specs.Listing.{place_by, place_of_line}
 
 -- what the exit of a `?` answers
 pub exit_is : {T E : Type 0} {e : E} (r : Result T E) → IsErrAnd r (λ y. y ≡ e) → r ≡ Err e
@@ -230,3 +251,254 @@ pub string_faulty : (object : DwarfObject) (i : ℕ) (read : Result (Option (Lis
     → ((cause : List ℕ) × (text ≡ string_text i cause))
     → TellsString object i read (of_unit object text ∷ [])
 string_faulty object i read error e text is = grind (arith)
+
+-- ---- rows that no slot names
+
+-- what was told of one more row: a slot names it, or no slot does
+pub row_more : (kind : List ℕ) (is_types : Bool) (slots : List UnitEntry) (row : ℕ)
+    (new : List ℕ) (faults more : List FaultValue) → All (IsUnnamed slots is_types (row + 1)) new
+    → Contains new row ⊎ IsNamed slots is_types row → TellsRowsOf kind is_types row slots faults
+    → Is (map (row_fault kind) new) more
+    → TellsRowsOf kind is_types (row + 1) slots (faults ++ more)
+row_more kind is_types slots row new faults more unnamed this t told = record {
+  rows = t.rows ++ new;
+  are = rw (t.are, told) (sym (map-append (row_fault kind) t.rows new));
+  unnamed = All-append (IsUnnamed slots is_types (row + 1)) t.rows new
+      (All-weaker (IsUnnamed slots is_types row) (IsUnnamed slots is_types (row + 1))
+      (λ r h. (h.0, omega (arith, h.1), h.2)) t.rows t.unnamed) unnamed;
+  others = λ r some below. below_more
+      (λ r. 0 < r → Contains (t.rows ++ new) r ⊎ IsNamed slots is_types r) row
+      (λ r lt some. elim (t.others r some lt) [
+        | inl told ↦ inl (Contains-append_left t.rows new r told)
+        | inr named ↦ inr named
+      ])
+      (λ some. elim this [
+        | inl told ↦ inl (Contains-append_right t.rows new row told)
+        | inr named ↦ inr named
+      ]) r below some;
+}
+
+-- ---- slots in the order of their rows
+
+le_of : (m n : ℕ) (is_types : Bool) (a b : DwarfObject) → is_of is_types a ≡ true
+    → is_of is_types b ≡ true → place_by a m ≤ place_by b n → m ≤ n
+le_of m n is_types a b is so le = grind (arith)
+
+-- no slot names a row where those before a place don't, and the next one names one behind it
+pub none_names : (is_types : Bool) (row : ℕ) (slots : List UnitEntry) (i : ℕ) (e : UnitEntry)
+    → IsSortedByKey place_of_line nat_cmp slots → ArePast is_types row slots i → i < length slots
+    → is_from is_types row (get_or slots i e) ≡ true → row ≢ (get_or slots i e).row
+    → IsNamed slots is_types row → ⊥
+none_names is_types row slots i e sorted before lt picked other named =
+    let kind : is_of is_types (get_or slots i e).object ≡ true = (both _ _ picked).0 in
+    let more : row < (get_or slots i e).row = grind (arith, nat_tests) in
+    let k = named.is_slot.0 in
+    let is = named.is_slot.2 in
+    let same = named.is_row in
+    elim (cases_lt k i) [
+      | inl less ↦ (let past = rw is at (before.past k named.slot less) in
+          let early = past named.is_kind in omega arith)
+      | inr le ↦ (let rise = rw (is, get_or_default slots i named.slot e lt) at
+          (IsNonDecreasingBy-from_sort place_of_line slots sorted i k named.slot le
+          named.is_slot.1) in
+          let below = le_of (get_or slots i e).row named.slot.row is_types
+          (get_or slots i e).object named.slot.object kind named.is_kind rise in omega arith)
+    ]
+
+-- ---- units, one of each range of string offsets
+
+-- string offsets behind some, if there are some, have this number or a higher one
+abbrev pub bound : Option StringRange → ℕ
+bound None = 0
+bound (Some last) = number_of last + 1
+
+-- a unit has no string offsets behind some, if there are some
+abbrev pub IsUpTo : Package → Option StringRange → DwarfObject → Type 0
+IsUpTo pack before object = (range : StringRange) → HasOffsets pack object range
+    → number_of range < bound before
+
+-- a unit has one range of string offsets
+one_range : (pack : Package) (object : DwarfObject) (a b : StringRange) → HasOffsets pack object a
+    → HasOffsets pack object b → a ≡ b
+one_range pack object a b (one, is, has) (other, so, too) =
+    let same : one ≡ other = same_Some one other (same-ok (Some one) (Some other) (sym is ∙ so)) in
+    same_Some a b (sym has ∙ rw same too)
+
+-- those before are apart from one behind them
+module _ (pack : Package) (range : StringRange) (object : DwarfObject)
+    (this : HasOffsets pack object range) where
+  apart : (before : Option StringRange) → IsBehind before range → (other : DwarfObject)
+      → IsUpTo pack before other
+      → IsUpTo pack (Some range) other × ShareNone pack other object
+  apart before behind other up =
+      let le : bound before ≤ number_of range = grind (arith) in (
+        λ has is. let lt = up has is in omega arith,
+        λ has one two. let lt = rw (one_range pack object has range two this) at (up has one) in
+            omega arith,
+      )
+
+module _ (pack : Package) (listed : Listed) where
+  -- listed string offsets are those of one of these units
+  abbrev pub IsOneOf : List DwarfObject → StringRange × DwarfObject → Type 0
+  IsOneOf objects one = IsRangeOfOne pack objects one.0
+
+  -- what was told of the strings of the first so many, each range's once
+  pub record TellsFirst (i : ℕ) (before : Option StringRange) (faults : List FaultValue)
+      : Type 0 where
+    pub objects : List DwarfObject
+    pub once : AllPairs (ShareNone pack) objects
+    pub up_to : All (IsUpTo pack before) objects
+    pub last : (range : StringRange) → before ≡ Some range → IsRangeOfOne pack objects range
+    pub told : TellsStringsOfAll pack objects faults
+    pub others : All (IsOneOf objects) (take i listed)
+
+  pub first_none : TellsFirst 0 None []
+  first_none = record {
+    objects = [];
+    once = λ i j d lt within. absurd (omega arith);
+    up_to = All-nil (IsUpTo pack None);
+    last = λ range e. absurd cc;
+    told = refl;
+    others = All-nil (IsOneOf []);
+  }
+
+  module _ (i : ℕ) (e : StringRange × DwarfObject) (lt : i < length listed)
+      (before : Option StringRange) where
+    -- those of the next one have the range before
+    pub first_again : before ≡ Some (get_or listed i e).0 → (faults : List FaultValue)
+        → TellsFirst i before faults → TellsFirst (i + 1) before faults
+    first_again same faults t =
+        let others = All-more (IsOneOf t.objects) listed i e lt t.others
+        (t.last (get_or listed i e).0 same) in grind (arith, others)
+
+    -- those of the next one were told of
+    pub first_more : (are : All (IsOfUnit pack) listed) → IsBehind before (get_or listed i e).0
+        → (faults more : List FaultValue) → TellsFirst i before faults
+        → TellsStringsOf (get_or listed i e).1 (found pack (get_or listed i e).1) more
+        → TellsFirst (i + 1) (Some (get_or listed i e).0) (faults ++ more)
+    first_more are behind faults more t told =
+        let object = (get_or listed i e).1 in
+        let range = (get_or listed i e).0 in
+        let is = All-get_or (IsOfUnit pack) listed i e lt are in
+        let here : IsRangeOfOne pack (t.objects ++ (object ∷ [])) range = record {
+          object = object;
+          is_one = Contains-push t.objects object;
+          unit = is.0;
+          is_found = is.1;
+          is_range = is.2;
+        } in
+        record {
+          objects = t.objects ++ (object ∷ []);
+          once = all_pairs_push (ShareNone pack) t.objects object t.once
+              (All-weaker (IsUpTo pack before) (λ other. ShareNone pack other object)
+              (λ other up. (apart pack range object is before behind other up).1) t.objects
+              t.up_to);
+          up_to = All-push (IsUpTo pack (Some range)) t.objects object
+              (All-weaker (IsUpTo pack before) (IsUpTo pack (Some range))
+              (λ other up. (apart pack range object is before behind other up).0) t.objects t.up_to)
+              (λ has there. rw (one_range pack object has range there is) (omega arith));
+          last = λ other e. rw (← same_Some range other e) here;
+          told = for_each_more (λ object. TellsStringsOf object (found pack object)) t.objects
+              object faults more t.told told;
+          others = All-more (IsOneOf (t.objects ++ (object ∷ []))) listed i e lt
+              (All-weaker (IsOneOf t.objects) (IsOneOf (t.objects ++ (object ∷ [])))
+              (λ one h. let is = Contains-append_left t.objects (object ∷ []) h.object h.is_one in
+              grind (arith)) (take i listed) t.others) here;
+        }
+
+  -- all were, which are others in another order
+  pub first_all : (old : Listed) → IsPermutation old listed → (i : ℕ) (before : Option StringRange)
+      → length listed ≤ i → (faults : List FaultValue) → TellsFirst i before faults
+      → TellsListed pack old faults
+  first_all old same i before le faults t = record {
+    objects = t.objects;
+    once = t.once;
+    told = t.told;
+    others = λ range there. All-contains (IsOneOf t.objects) listed (range, there.0)
+        (rw (take_all i listed le) at t.others)
+        (Contains-permutation old listed (range, there.0) same there.1);
+  }
+
+-- ---- units, and their strings behind
+
+for_each_weaker : {X : Type 0} (P Q : X → List FaultValue → Type 0)
+    → ((x : X) (faults : List FaultValue) → P x faults → Q x faults) → (xs : List X)
+    → (faults : List FaultValue) → ForEach P xs faults → ForEach Q xs faults
+for_each_weaker P Q goes [] faults h = h
+for_each_weaker P Q goes (x ∷ xs) faults h =
+    grind (arith, goes x h.first h.is_first, for_each_weaker P Q goes xs h.rest h.is_rest)
+
+-- what is told of the units of slots; where that is nothing, none of their ranges clash
+abbrev pub TellsUnitsOnly : Package → Listed → List UnitEntry → List FaultValue → Type 0
+TellsUnitsOnly pack listed entries faults = ForEach (TellsSeen pack listed) entries faults
+    × (faults ≡ [] → AreApart pack entries contribution_kinds)
+
+pub units_then : (pack : Package) (entries : List UnitEntry) (listed : Listed)
+    (faults more : List FaultValue) → TellsUnitsOnly pack listed entries faults
+    → TellsListed pack listed more → TellsUnits pack entries (faults ++ more)
+units_then pack entries listed faults more units strings = (
+  strings.objects,
+  strings.once,
+  in_turn {P = TellsSlots pack strings.objects entries}
+      {Q = TellsStringsOfAll pack strings.objects} faults more (
+        for_each_weaker (TellsSeen pack listed) (TellsSlot pack strings.objects)
+            (λ entry faults t. (
+              t.0,
+              λ none. has_strings pack strings.objects listed strings.others entry.object
+                  (found pack entry.object) refl (t.1 none),
+            )) entries faults units.0,
+        units.1,
+      ) strings.told,
+)
+
+-- nothing was told of units, so the number of faults stayed
+module _ (pack : Package) (entries : List UnitEntry) (listed : Listed) (any : Bool) where
+  pub units_apart : {a b : Progress} → (any ≡ false → AreApart pack entries contribution_kinds)
+      → (any && nat_eq b.count a.count) ≡ false → Told (ForEach (TellsSeen pack listed) entries) a b
+      → Told (TellsUnitsOnly pack listed entries) a b
+  units_apart {a} {b} apart not_all t =
+      let none = λ (none : t.faults ≡ []).
+      let same : b.count ≡ a.count = rw none at t.counted in
+      apart (grind (arith, nat_tests)) in
+      let are : TellsUnitsOnly pack listed entries t.faults = (t.are, none) in
+      grind (arith)
+
+-- ---- units that are gone through
+
+-- nothing was remembered
+pub stays_seen : (pack : Package) (seen : Seen) → IsSeen pack seen → GoesOn pack seen seen
+stays_seen pack seen is = record { seen = is; kept = λ range there. there }
+
+module _ (pack : Package) where
+  -- what was made for a unit was told
+  pub text_seen : {E : Type 0} (old new : Seen) (entry : UnitEntry)
+      (text : Result (Option (String Global)) E) (a b : Progress)
+      → IsTextOf (TellsUnit pack entry) entry.object text → OnOk text (GoesOn pack old new)
+      → IfOk text (λ t. t ≡ None
+      → IsGatheredIn pack new.strings.unread.items (found pack entry.object))
+      → TellsText entry.object text a b (Ok tt)
+      → GoesOn pack old new × Told (TellsSeen pack new.strings.unread.items entry) a b
+  text_seen old new entry (Ok None) a b is on gathered h =
+      (on, told_as h (λ faults e. (rw e is, λ none. gathered refl)))
+  text_seen old new entry (Ok (Some text)) a b is on gathered h =
+      (on, told_as h (λ faults e. (rw e is, λ none. absurd (let some = rw e at none in cc))))
+  text_seen old new entry (Err cause) a b is on gathered h = absurd (let e = h.0 in cc)
+
+  module _ (old new : Listed)
+      (kept : (range : StringRange) → IsGathered pack old range → IsGathered pack new range) where
+    kept_in : (looked : Result (Option FoundUnit) PackageError) → IsGatheredIn pack old looked
+        → IsGatheredIn pack new looked
+    kept_in (Err cause) g = tt
+    kept_in (Ok None) g = tt
+    kept_in (Ok (Some unit)) g = λ range has. kept range (g range has)
+
+    -- one more unit was told of, and more may be gathered
+    pub seen_next : (entries : List UnitEntry) (i : ℕ) (d : UnitEntry) {a b c : Progress}
+        → i < length entries → Told (ForEach (TellsSeen pack old) (take i entries)) a b
+        → Told (TellsSeen pack new (get_or entries i d)) b c
+        → Told (ForEach (TellsSeen pack new) (take (i + 1) entries)) a c
+    seen_next entries i d lt p q =
+        told_next (TellsSeen pack new) entries i d lt
+        (told_as p (for_each_weaker (TellsSeen pack old) (TellsSeen pack new)
+        (λ entry faults t. (t.0, λ none. kept_in (found pack entry.object) (t.1 none)))
+        (take i entries))) q

@@ -35,7 +35,7 @@ pub(crate) struct Ends {
 
 impl Ends {
     /// Those of a package.
-    #[tactic(auto, using(crate::proofs::SharedStrings::of_package, crate::proofs::SharedStrings::reached, crate::proofs::SharedStrings::unreached))]
+    #[tactic(auto, using(crate::proofs::Packages::of_package, crate::proofs::Packages::reached, crate::proofs::Packages::unreached))]
     pub(crate) fn of(pack: &PackageFile<'_>) -> Ends
         ensures { HasEnds result pack.now.order (content pack.now.contents SectionKind.Str) }
     {
@@ -52,7 +52,7 @@ impl Ends {
 
     /// Why the string of a number of a unit can't be read, where that is so: what
     /// `PackagedUnit::string` answers, but no string is read.
-    #[tactic(auto, using(crate::proofs::SharedStrings::none_there))]
+    #[tactic(auto, using(crate::proofs::Packages::none_there))]
     pub(crate) fn error_of(self, unit: &PackagedUnit<'_>, i: u64) -> Option<ReadError>
         requires { HasEnds self unit.now.order (content unit.now.contents SectionKind.Str) }
         ensures { result ≡ result_err (string_of unit.now i) }
@@ -172,7 +172,7 @@ pub(crate) struct UnreadStrings {
 impl UnreadStrings {
     /// Adds a unit, unless it has the string offsets of the one before, or all its strings can be
     /// read; whether that is so isn't told where it would take too long.
-    #[tactic(auto, using(crate::proofs::SharedStrings::none_added))]
+    #[tactic(auto, using(crate::proofs::Packages::none_added))]
     pub(crate) fn add(
         &mut self,
         unit: &PackagedUnit<'_>,

@@ -1,31 +1,216 @@
--- Why something wasn't taken, and what was told of it.
-use Rattle.thorin_commands.proofs.Terms
-use Terms.{Alone, Among, ap, append_assoc, Archive, AreAsked, asked, asks, Bad, Bool, Bor, Cause}
-use Terms.{drop, Err, Error, FailsBy, Failure, false, filter-append, get_or, Growth, IfErr, inl}
-use Terms.{Input, InputError, inr, is_archive, IsNotTaken, IsTakenFor, IsUnfinished, length, List}
-use Terms.{Manner, manner_of, map, map-append, None, NoOutputObjectCreated, NoPackage, NotTaken}
-use Terms.{Offer, Ok, Option, outcome_of, Packing, Path, path_bytes, paths_in, Plain, Reasons, refl}
-use Terms.{Refuses, Result, Some, split_contents, StandsFor, State, Stops, StopsAt}
-use Terms.{StopsIn, sym, take, take_more, Tells, Took, TookEach, TookInputs, true, Unfinished}
-use Terms.{Unread, [], ℕ, ◌++◌, ◌+◌, ◌<◌, ◌∙◌, ◌∷◌, ◌≡◌, ◌⊎◌}
-use Rattle.thorin_commands.specs.Cause.{AreRefused, IsCauseFor, IsMalformed, IsUnfit, refusal_text}
-use Rattle.thorin_commands.specs.Cause.{Finishing, IsCauseOf, IsRefused, IsTakenNot, StopsAmong}
-use Rattle.thorin_commands.specs.Cause.{IsUntaken, Taking, Told, told_text, Untaken}
-use Rattle.std.proofs.Common.{◌≢◌}
-use Rattle.std.{proofs.lemmas.List.take-append-drop, specs.List.slice_get}
-use Rattle.thorin_errors.specs.Errors.{error_of}
-use Rattle.dwp_archive.specs.{Entries.Member, Members.members_of}
-use Rattle.dwp_archive.specs.declared.error.ArchiveError.{ArchiveError}
-use Rattle.thorin_join.specs.Builder.{start}
-use Rattle.thorin_builder.specs.Reading.{IsRead, OnDeclined, unread}
-use Rattle.thorin.specs.Run.{DeclinesInput}
-use Rattle.thorin_commands.{proofs.Opened.each_append, proofs.Opened.each_none, specs.Opened.Fills}
+-- Inputs that stand for others, taken one after the other, and where a path is read; why something
+-- wasn't taken, and what was told of it; and why packing failed.
+use Rattle.std.proofs.Common.{drop, inl, inr, List, map, None, OnOk, refl, ◌++◌, ◌+◌, ◌-◌, ◌<◌, ◌⊎◌}
+use Rattle.thorin_commands.specs.Cause.{Archive, IsUnfit, Plain, Reasons, Refuses, StopsAt, StopsIn}
+use Rattle.thorin_commands.specs.Cause.{Finishing, IsCauseOf, IsRefused, IsUntaken, Told, told_text}
+use Rattle.thorin_commands.specs.Cause.{IsMalformed, IsUnfinished, refusal_text, Taking, Unfinished}
+use Rattle.thorin_commands.specs.{Failing.IsWhy, Opened.TookAll, Taken.IsReadInto, Taken.IsTakenFor}
+use Rattle.std.proofs.Common.{Bool, false, get_or, IfErr, length, Option, Result, Some, take, true}
+use Rattle.thorin_commands.specs.Cause.{AreRefused, IsCauseFor, IsNotTaken, IsTakenNot, StopsAmong}
+use Rattle.thorin_commands.specs.Opened.{added_in, Fills, TookEach, TookInputs, TookNext, TookNone}
+use Rattle.thorin_commands.specs.{Naming.IsNameless, Naming.IsUncounted, Taken.Manner, Taken.Offer}
+use Rattle.thorin_commands.specs.Cause.{Alone, Among, Bad, Cause, Stops, Tells, Unread, Untaken}
+use Rattle.thorin_commands.specs.Packing.{AreAsked, IsPackageFor, manner_of, paths_in, through}
+use Rattle.thorin_commands.specs.Archives.{AreTakenFor, is_archive, split_contents, StandsFor}
+use Rattle.thorin_commands.specs.Opened.{accepted_in, AreAllAccepted, TookMembers, unit_count}
+use Rattle.thorin_errors.specs.declared.error.Error.{Error, TheVariants.NoOutputObjectCreated}
+use Rattle.thorin_join.specs.{Builder.start, Builder.State, Join.JoinAll, Represents.units_in}
+use Rattle.thorin.specs.{declared.packing.Input.Input, Run.DeclinesInput, Run.Ran, Run.Took}
+use Rattle.std.proofs.lemmas.List.{append-nil, append_assoc, map-append, take-append-drop}
+use Rattle.thorin_commands.specs.declared.packing.{NoPackage.NoPackage, Packing.Packing}
+use Rattle.thorin_output.specs.{Files.IsOfWriting, Files.IsWhyUnwritten, Reads.Identity}
+use Rattle.dwp_archive.specs.{declared.error.ArchiveError.ArchiveError, Entries.Member}
+use Rattle.thorin_builder.specs.declared.reader.NotTaken.TheVariants.{Declined, Failed}
+use Rattle.thorin_errors.specs.{declared.error.InputError.InputError, Errors.error_of}
+use Rattle.thorin_commands.specs.Packing.{asked, asks, Fails, IsAmong, out_of, Packs}
+use Rattle.{dwp_archive.specs.Members.members_of, thorin.proofs.Running.join-append}
+use Rattle.thorin_builder.specs.{declared.reader.NotTaken.NotTaken, Taking.Outcome}
+use Rattle.thorin_builder.specs.Reading.{IsRead, OnDeclined, outcome_of, unread}
+use Rattle.thorin_print.specs.{Answers.FailsBy, declared.output.Failure.Failure}
+use Rattle.thorin_inputs.specs.{declared.growth.Growth.Growth, Prefixes.mapped}
+use Rattle.std.proofs.Common.{[], ap, Err, Ok, sym, ℕ, ◌∙◌, ◌∷◌, ◌≡◌, ◌≢◌}
+use Rattle.std.specs.declared.{io.Error.Error as IoError, path.Path.Path}
+use Rattle.std.proofs.lemmas.List.{Elements.filter-append, take_more}
+use Rattle.std.specs.{Borrow.Bor, List.slice_get, Path.path_bytes}
+use Rattle.dwp_elf.specs.FileText.{file_text, Object as File}
 use Rattle.dwp_archive.specs.View as view
-use Rattle.dwp_archive.specs.declared.member.Member as declared
 use Rattle.dwp_archive.specs.declared.error.ArchiveError.TheVariants as archive_errors
+use Rattle.dwp_archive.specs.declared.member.Member as declared
 use Rattle.thorin.specs.declared.packing.Input.TheVariants as inputs
-use Rattle.thorin_print.specs.declared.output.Failure.TheVariants as failures
 use Rattle.thorin_commands.specs.declared.packing.NoPackage.TheVariants as refusals
+use Rattle.thorin_errors.specs.declared.error.InputError.TheVariants as input_errors
+use Rattle.thorin_inputs.specs.declared.growth.Growth.TheVariants as growth
+use Rattle.thorin_print.specs.declared.output.Failure.TheVariants as failures
+
+-- a run, and one behind it
+ran_append : (offer : Offer) (xs ys : List Input) (a b c : State) (before here : List (List ℕ))
+    → AreAllAccepted offer xs a b before → AreAllAccepted offer ys b c here
+    → AreAllAccepted offer (xs ++ ys) a c (before ++ here)
+ran_append offer [] ys a b c before here done more = rw (done.1, ← done.0) more
+ran_append offer (x ∷ xs) ys a b c before here done more = (
+  record { middle = done.0.middle; here = done.0.here; later = done.0.later ++ here },
+  done.1,
+  ran_append offer xs ys done.0.middle b c done.0.later here done.2 more,
+  rw (done.3, append_assoc) refl,
+)
+
+-- a run of one input
+ran_one : (offer : Offer) (input : Input) (old new : State)
+    (took : Took offer input old (Ok tt) new)
+    → AreAllAccepted offer (input ∷ []) old new took.accepted
+ran_one offer input old new took = (
+  record { middle = new; here = took.accepted; later = [] },
+  took.takes,
+  (refl, refl),
+  sym (append-nil took.accepted),
+)
+
+-- what is taken for contents, and for more behind them
+taken_append : (manner : Manner) (xs ys : List (List ℕ)) (list more : List Input)
+    → AreTakenFor manner xs list → AreTakenFor manner ys more
+    → AreTakenFor manner (xs ++ ys) (list ++ more)
+taken_append manner [] ys [] more h k = k
+taken_append manner [] ys (input ∷ list) more h k = absurd h
+taken_append manner (x ∷ xs) ys [] more h k = absurd h
+taken_append manner (x ∷ xs) ys (inputs.Bytes b ∷ list) more h k =
+    (h.0, taken_append manner xs ys list more h.1 k)
+taken_append manner (x ∷ xs) ys (input ∷ list) more h k = absurd h
+
+module _ {opens : Bool} {manner : Manner} {offer : Offer} where
+  -- an input that stands for itself
+  pub took_alone : {input : Input} {old new : State} → StandsFor opens manner offer
+      input (input ∷ [])
+      → Took offer input old (Ok tt) new → TookAll opens manner offer input old new
+  took_alone {input} {old} {new} alone took = record {
+    list = input ∷ [];
+    stands = alone;
+    accepted = took.accepted;
+    ran = ran_one offer input old new took;
+  }
+
+  -- the object at a path, by its bytes
+  pub took_object : {path : Path} {bytes : Bor (List ℕ)} {old new : State} → opens ≡ true
+      → offer (path_bytes path) (Ok bytes.now) → is_archive bytes.now ≡ false
+      → Took offer (inputs.Bytes bytes) old (Ok tt) new
+      → TookAll opens manner offer (inputs.Object path) old new
+  took_object {bytes = bytes} {old = old} {new = new} opened offered none took = record {
+    list = inputs.Bytes bytes ∷ [];
+    stands = rw opened (inl (record {
+      file = bytes;
+      offered = offered;
+      begins = none;
+      list_is = refl;
+    }));
+    accepted = took.accepted;
+    ran = ran_one offer (inputs.Bytes bytes) old new took;
+  }
+
+  -- the archive at a path
+  pub took_archive : {path : Path} {bytes : List ℕ} {old new : State} → opens ≡ true
+      → offer (path_bytes path) (Ok bytes) → TookMembers manner offer bytes old new
+      → TookAll opens manner offer (inputs.Object path) old new
+  took_archive {bytes = bytes} opened offered by = record {
+    list = by.each.list;
+    stands = rw opened (inr (record {
+      file = bytes;
+      offered = offered;
+      members = by.members;
+      are = by.are;
+      taken = by.each.taken;
+    }));
+    accepted = by.each.accepted;
+    ran = by.each.ran;
+  }
+
+  -- inputs in order, and one more
+  pub took_more : {all : List Input} {input : Input} {old middle new : State}
+      → TookInputs opens manner offer all old middle → TookAll opens manner offer input middle new
+      → TookInputs opens manner offer (all ++ input ∷ []) old new
+  took_more TookNone one = TookNext one TookNone
+  took_more (TookNext first rest) one = TookNext first (took_more rest one)
+
+  pub added_more : {all : List Input} {input : Input} {old middle new : State}
+      → (so : TookInputs opens manner offer all old middle)
+      → (one : TookAll opens manner offer input middle new)
+      → added_in (took_more so one) ≡ added_in so ++ (unit_count new - unit_count middle) ∷ []
+  unfolding took_more
+  added_more TookNone one = refl
+  added_more (TookNext {old = a} {middle = b} first rest) one =
+      ap (λ added. (unit_count b - unit_count a) ∷ added) (added_more rest one)
+
+  -- what was read of them is joined
+  pub all_joined : ((inputs : List Input) (old new : State) (outcomes : List Outcome)
+      (accepted : List (List ℕ)) → Ran offer inputs old outcomes new accepted
+      → JoinAll accepted (units_in old) (units_in new)) → {list : List Input} {old new : State}
+      → (took : TookInputs opens manner offer list old new)
+      → JoinAll (accepted_in took) (units_in old) (units_in new)
+  all_joined law TookNone = refl
+  all_joined law (TookNext {old = old} {middle = middle} {new = new} one rest) =
+      join-append one.accepted (accepted_in rest) (units_in old) (units_in middle) (units_in new)
+      (law one.list old middle (map {B = Outcome} (λ input. Ok tt) one.list) one.accepted one.ran)
+      (all_joined law rest)
+
+module _ {manner : Manner} {offer : Offer} where
+  pub each_none : {state : State} → TookEach manner offer [] state state
+  each_none = record { list = []; taken = tt; accepted = []; ran = (refl, refl) }
+
+  -- what is taken for one content
+  pub content_took : {content : List ℕ} {bytes : Bor (List ℕ)} {old new : State}
+      → IsTakenFor manner content bytes.now → (r : Result (Unit {0}) (NotTaken Error Growth))
+      → Took offer (inputs.Bytes bytes) old (outcome_of r) new
+      → OnOk r (TookEach manner offer (content ∷ []) old new)
+  content_took {bytes = bytes} {old = old} {new = new} is (Ok tt) took = record {
+    list = inputs.Bytes bytes ∷ [];
+    taken = (is, tt);
+    accepted = took.accepted;
+    ran = ran_one offer (inputs.Bytes bytes) old new took;
+  }
+  content_took is (Err why) took = tt
+
+  -- what is taken for contents, and for more behind them
+  pub each_append : {xs ys : List (List ℕ)} {old middle new : State}
+      → TookEach manner offer xs old middle → TookEach manner offer ys middle new
+      → TookEach manner offer (xs ++ ys) old new
+  each_append {xs} {ys} {old} {middle} {new} so one = record {
+    list = so.list ++ one.list;
+    taken = taken_append manner xs ys so.list one.list so.taken one.taken;
+    accepted = so.accepted ++ one.accepted;
+    ran = ran_append offer so.list one.list old middle new so.accepted one.accepted so.ran one.ran;
+  }
+
+-- where a path is read
+module _ (objects executables : List (Bor (List ℕ))) (offer : Offer) (path : List ℕ)
+    (repeats : Type 0) (room : List ℕ) (result : Result (Unit {0}) (NotTaken InputError Growth))
+  where
+    over : (Offers Offers' : Result (List ℕ) IoError → Type 0)
+        → ((answer : Result (List ℕ) IoError) → Offers answer → Offers' answer)
+        → (result : Result (Unit {0}) (NotTaken InputError Growth))
+        → IsReadInto Offers repeats room result → IsReadInto Offers' repeats room result
+    over Offers Offers' f (Ok x) h = f (Ok room) h
+    over Offers Offers' f (Err (Failed (input_errors.Io cause))) h = f (Err cause) h
+    over Offers Offers' f (Err (Failed input_errors.Memory)) h = tt
+    over Offers Offers' f (Err (Declined growth.Repetition)) h = h
+    over Offers Offers' f (Err (Declined _)) h = absurd h
+
+    -- one that the command line names
+    pub through_given : (words : List (Bor (List ℕ)))
+        → IsAmong objects path ⊎ IsAmong executables path → IsReadInto (offer path)
+        repeats room result
+        → IsReadInto (through words objects executables offer path) repeats room result
+    through_given [] given h = h
+    through_given (word ∷ words) given h =
+        over (offer path) (through (word ∷ words) objects executables offer path)
+        (λ answer o. inr (given, o)) result h
+
+    -- and one whose prefix is replaced, or which stays as it is
+    pub through_mapped : (words : List (Bor (List ℕ))) (other : List ℕ) → other ≡ mapped words path
+        → IsReadInto (offer other) repeats room result
+        → IsReadInto (through words objects executables offer path) repeats room result
+    unfolding mapped
+    through_mapped [] other e h = rw e at h
+    through_mapped (word ∷ words) other e h =
+        over (offer other) (through (word ∷ words) objects executables offer path)
+        (λ answer o. inl (rw e at o)) result h
 
 -- a line wasn't taken, or memory ran out
 pub stops_by : (X U : Type 0) (failure : Failure) → FailsBy X failure → Stops X U failure
@@ -289,3 +474,70 @@ unread_told contents writer {path = path} {state = state} opened e read why is l
   is = rw is (Unread path state e opened read);
   line = line;
 }
+
+-- the units of a file couldn't be counted, where nothing is split
+pub uncounted : (X U : Type 0) (failure : Failure) → IsUncounted failure → U → Stops X U failure
+uncounted X U failures.Input h u = u
+uncounted X U failures.Memory h u = tt
+uncounted X U _ h u = absurd h
+
+-- nothing was written yet
+pub early : (N B : Type 0) (failure : Failure) → N → Fails failure N B
+unfolding Fails
+early N B failure n = inl n
+
+-- what a write may fail by
+of_writing : (U C X : Type 0) (failure : Failure) → IsWhyUnwritten U C X failure
+    → IsOfWriting failure
+of_writing U C X failures.Output h = tt
+of_writing U C X failures.Line h = tt
+of_writing U C X failures.Memory h = tt
+of_writing U C X _ h = absurd h
+
+module _ (known : List ℕ → Identity → Type 0) (packing : Packing) (N W C X : Type 0) where
+  pub why_nameless : (failure : Failure) → IsNameless (out_of packing) failure
+      → IsWhy known packing N W (C ⊎ X) failure
+  why_nameless failures.BadCommand h = h
+  why_nameless failures.Memory h = tt
+  why_nameless _ h = absurd h
+
+  -- nothing was written yet
+  pub why_stopped : (failure : Failure) → Stops X N failure → IsWhy known packing N
+      W (C ⊎ X) failure
+  why_stopped failures.Line h = inr h
+  why_stopped failures.Memory h = tt
+  why_stopped failures.Input h = h
+  why_stopped _ h = absurd h
+
+  pub why_printing : (failure : Failure) → FailsBy X failure
+      → IsWhy known packing N W (C ⊎ X) failure
+  why_printing failure h = why_stopped failure (stops_by X N failure h)
+
+-- with an object under a name
+module _ (offer : List ℕ → Result (List ℕ) IoError → Type 0) (packing : Packing) (object : File)
+    (name : List ℕ) (is : IsPackageFor offer packing object) (named : out_of packing ≡ Some name)
+  where
+    pub packs : (Puts : (name text : List ℕ) → Type 0) → Puts name (file_text object)
+        → Packs offer packing Puts
+    packs Puts put = record { object = object; is = is; name = name; named = named; put = put }
+
+    -- the package wasn't written, or a warning behind it wasn't taken
+    pub why_writing : (known : List ℕ → Identity → Type 0) (N X : Type 0)
+        (Unwritten : (name : List ℕ) → Type 0) (CutShort : (name text : List ℕ) → Type 0)
+        (failure : Failure)
+        → IsWhyUnwritten (Unwritten name) (CutShort name (file_text object)) X failure
+        → IsWhy known packing N (Packs offer packing (λ name text. Unwritten name))
+        (Packs offer packing CutShort ⊎ X) failure
+    why_writing known N X Unwritten CutShort failures.Output h =
+        packs (λ name text. Unwritten name) h
+    why_writing known N X Unwritten CutShort failures.Line (inl h) = inl (packs CutShort h)
+    why_writing known N X Unwritten CutShort failures.Line (inr h) = inr h
+    why_writing known N X Unwritten CutShort failures.Memory h = tt
+    why_writing known N X Unwritten CutShort _ h = absurd h
+
+    -- and it was begun
+    pub begun : (N U C X : Type 0) (Begun : (name text : List ℕ) → Type 0) (failure : Failure)
+        → IsWhyUnwritten U C X failure → Begun name (file_text object)
+        → Fails failure N (Packs offer packing Begun)
+    unfolding Fails
+    begun N U C X Begun failure why put = inr (of_writing U C X failure why, packs Begun put)

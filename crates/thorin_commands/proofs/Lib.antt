@@ -1,9 +1,4 @@
-mod Terms
 mod Causes
 pub mod Lines
-mod Made
-mod Opened
 mod Readable
-mod Taken
 mod Warned
-mod Whys

@@ -1,9 +1,9 @@
 -- Lines that stand among a writer's bytes.
-use Rattle.thorin_commands.proofs.Terms.{append-nil, append_assoc, Appends, List, [], ℕ, ◌++◌, ◌≡◌}
-use Rattle.thorin_commands.proofs.Terms.{None, Option, refl, rules, Some, Tells}
-use Rattle.std.specs.Prelude.{IfSome, IsSome, option_map}
+use Rattle.std.proofs.Common.{[], IfSome, IsSome, None, Option, option_map, refl, rules, Some, ◌++◌}
+use Rattle.std.{proofs.Common.List, proofs.Common.ℕ, proofs.Common.◌≡◌, specs.Io.KnownBytes.Appends}
 use Rattle.thorin_print.specs.{Answers.Grows, Failures.error_line}
-use Rattle.thorin_commands.specs.Cause.{HasLine}
+use Rattle.std.proofs.lemmas.List.{append-nil, append_assoc}
+use Rattle.thorin_commands.specs.Cause.{HasLine, Tells}
 use Rattle.thorin_words.specs.Printed as words
 
 -- known bytes stay known

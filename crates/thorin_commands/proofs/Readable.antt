@@ -1,12 +1,10 @@
 -- A written file is read back where its numbers fit, and no two contents are of one kind.
-use Rattle.std.proofs.Common.{arith, length, ◌<◌, ◌^◌, ◌≡◌}
-use Rattle.std.specs.Prelude.{Ok}
-use Rattle.dwp_elf_read.specs.{Elf.elf_of, Layout.word_size}
-use Rattle.dwp_elf.specs.FileText.{file_text, headers_place, Object}
-use Rattle.dwp_elf.specs.{Contents.KindsDiffer, Numbers.Fits, Written.written_elf}
-use Rattle.dwp_elf.proofs.KindCounts.{length-KindsDiffer}
+use Rattle.{dwp_elf.proofs.Changes.length-KindsDiffer, thorin_join.proofs.Files.fitting}
 use Rattle.thorin_join.specs.{Join.IsPackageOf, Join.IsPackageOnceWritten, Meaning.Members}
-use Rattle.thorin_join.proofs.Files.Contents.{fitting}
+use Rattle.dwp_elf.specs.{Contents.KindsDiffer, Numbers.Fits, Written.written_elf}
+use Rattle.dwp_elf.specs.FileText.{file_text, headers_place, Object}
+use Rattle.std.proofs.Common.{arith, length, Ok, ◌<◌, ◌^◌, ◌≡◌}
+use Rattle.dwp_elf_read.specs.{Elf.elf_of, Layout.word_size}
 
 -- by the law of written files, what is written is read back
 pub readable : ((o : Object) → o.machine < 256 ^ 2

@@ -167,7 +167,7 @@ fn has_file<F: FileSystem>(files: &F, names: &[&str], file: &str) -> bool
 /// Errors: `Output` where the package's file can't be written, `Overwrites` where it is an input;
 /// `BadCommand` where there is no name for it; `Line` or `Memory`; `Input` where nothing is split,
 /// and the executable can't be read a second time.
-#[tactic(auto, using(crate::proofs::Whys::early, crate::proofs::Causes::told_empty, crate::proofs::Whys::why_printing, crate::proofs::Whys::why_nameless, crate::proofs::Whys::why_stopped))]
+#[tactic(auto, using(crate::proofs::Causes::early, crate::proofs::Causes::told_empty, crate::proofs::Causes::why_printing, crate::proofs::Causes::why_nameless, crate::proofs::Causes::why_stopped))]
 pub fn pack<F: FileSystem, O: Write, E: LineOutput>(
     alloc: Global,
     files: &mut F,
@@ -256,7 +256,7 @@ fn packed<F: FileSystem, E: LineOutput>(
 }
 
 /// The object to be written where nothing is split: an executable is taken as an object too.
-#[tactic(auto, using(crate::proofs::Whys::uncounted))]
+#[tactic(auto, using(crate::proofs::Causes::uncounted))]
 fn packed_unsplit<F: FileSystem, E: LineOutput>(
     alloc: Global,
     inputs: &InputFiles<'_, F>,

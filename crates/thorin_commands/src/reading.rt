@@ -102,7 +102,7 @@ impl<'f, F: FileSystem> InputFiles<'f, F> {
     }
 
     /// Reads the file of a path that the input has, or that it names.
-    #[tactic(auto, using(crate::proofs::Taken::through_given, crate::proofs::Taken::through_mapped))]
+    #[tactic(auto, using(crate::proofs::Causes::through_given, crate::proofs::Causes::through_mapped))]
     fn read(
         &self,
         is_own: bool,

@@ -1,14 +1,13 @@
 -- What words ask for, and what came of a command that reads a file.
-use Rattle.thorin_find.specs.Finding.{AsksFor, find_answer, Finds, FindsAsked, HasDigits, IsNumber}
+use Rattle.thorin_find.specs.Finding.{AsksFor, find_answer, FindsAsked, HasDigits, IsNumber, Words}
+use Rattle.{dwp_table.specs.declared.object.DwarfObject.DwarfObject, thorin_find.specs.Files.Offer}
 use Rattle.std.proofs.Common.{arith, codes, get_or, List, MatchResult, None, Option, refl, Result}
+use Rattle.{thorin_find.specs.Files.Reads, thorin_print.specs.declared.output.Failure.Failure}
+use Rattle.thorin_find.specs.{declared.finding.Wanted.Wanted, Finding.Asks, Finding.Finds}
 use Rattle.std.proofs.{KnownBytes.Keeps-refl, lemmas.Str.Parse.without_leading_plus_none}
-use Rattle.thorin_find.specs.{declared.finding.Wanted.Wanted, Files.Offer, Files.Reads}
-use Rattle.dwp_table.specs.declared.object.DwarfObject.{DwarfObject}
 use Rattle.std.specs.Str.Pattern.{FindsTextPrefix, StripsPrefix}
-use Rattle.thorin_print.specs.declared.output.Failure.{Failure}
 use Rattle.std.proofs.Common.{Err, inl, inr, Ok, ℕ, ◌≡◌, ◌≢◌}
 use Rattle.std.specs.Str.Parse.{digits_value, ParsesUnsigned}
-use Rattle.thorin_find.specs.Finding.{Asks, Words}
 
 -- the digits behind `0x`
 pub digits_behind : (text digits : List ℕ) → StripsPrefix (FindsTextPrefix (codes "0x")) text digits

@@ -11,7 +11,7 @@ use Rattle.std.proofs.{lemmas.Bool.cases_lt, lemmas.List.take_min, lemmas.Slice.
 use Rattle.std.specs.Option.{ok_or}
 use Rattle.dwp_bytes.specs.declared.error.ReadError.TheVariants.{UnknownCode}
 use Rattle.dwp_bytes.specs.Input.{after, front, Input, section}
-use Rattle.dwp_dwarf.proofs.{Offsets.from_within, Offsets.past_end, Tables.declared_anywhere}
+use Rattle.dwp_dwarf.proofs.Tables.{declared_anywhere, from_within, past_end}
 use Rattle.dwp_units.proofs.Readings.{bind_alike}
 use Rattle.dwp_dwarf.specs.{Abbreviations.declaration, Abbreviations.Declaration, Offsets.from_at}
 use Rattle.dwp_dwarf.specs.Entries.{DebugAttribute, DebugEntry, entry}

@@ -1,4 +1,2 @@
-pub mod Terms
-pub mod Each
+pub mod Rows
 pub mod ReadAgain
-pub mod RowLemmas

@@ -1,34 +1,39 @@
 -- What was written is read again: numbers, items that are written alike, one after the other, the
 -- columns of an index, the whole of one whose entries passed the tests, and its rows.
-use Rattle.thorin_index.proofs.Terms
-use Terms.{All, AreDistinct, Big, Bool, Contribution, Encoding, Endianness, IndexEntry, IsHashTable}
-use Terms.{IsIndexText, List, Little, None, Ok, Option, SectionKind, Some, [], ap, arith, by-bool}
-use Terms.{column_numbers, column_of, cond, contribution_kinds, contribution_to, drop, drop_at}
-use Terms.{entry_ids, eq-eqb, eqb, eqb-true, false, filter, filter_passes, flat_map, get_or}
-use Terms.{get_or-map, get_or_default, identifier_of, index_version_of, is_some, is_used, leb}
-use Terms.{length, length-append, length-map, ltb, map, map-id, mul-suc, number, number_bytes}
-use Terms.{numbers_bytes, offset_or_0, option_and_then, refl, row_numbers, rows_bytes, signature_of}
-use Terms.{signatures_bytes, size_or_0, slice_get, subst, suc, sym, true, unwrap_or, used_sections}
-use Terms.{ℕ, ◌&&◌, ◌*◌, ◌++◌, ◌+◌, ◌-◌, ◌<◌, ◌^◌, ◌∙◌, ◌∷◌, ◌≡◌, ◌≤◌}
+use Rattle.dwp_base.specs.declared.{endian.Endianness.Endianness, section.Contribution.Contribution}
+use Rattle.std.proofs.Common.{None, arith, drop, drop_at, false, leb, map, sym, ◌&&◌, ◌<◌, ◌^◌, ◌≡◌}
+use Rattle.std.proofs.lemmas.List.{Elements.filter_passes, get_or-map, get_or_default, length-map}
+use Rattle.std.proofs.Common.{All, Bool, ap, append_assoc, eqb, flat_map, le-ltb, lt-ltb, ℕ, ◌++◌}
+use Rattle.dwp_index.specs.IndexBytes.{columns_at, counts_of, new_column, number_rows, version_of}
+use Rattle.std.proofs.Common.{List, Ok, Option, append-nil, eq-eqb, eqb-true, is_some, suc, true}
+use Rattle.thorin_index.proofs.Rows.{HavePassed, has_number, have_passed, number_of, used_known}
+use Rattle.thorin_index.specs.IndexText.{IsIndexText, numbers_bytes, row_numbers, version_bytes}
+use Rattle.thorin_index.specs.{EntryTests.tests_under, ReadRows.HasEntries, ReadRows.non_empty}
+use Rattle.std.proofs.Common.{filter, get_or, length, length-append, mul-suc, subst, ◌-◌, ◌≤◌}
+use Rattle.std.proofs.Common.{Some, [], cond, option_and_then, slice_get, unwrap_or, ◌*◌, ◌∙◌}
+use Rattle.dwp_index.specs.Index.{Index, Ranges, column_place, contribution, range_in, row_in}
+use Rattle.dwp_table.specs.{Columns.contribution_kinds, Table.AreDistinct, Table.signature_of}
+use Rattle.thorin_index.specs.IndexText.{is_used, rows_bytes, signatures_bytes, used_sections}
+use Rattle.{dwp_base.proofs.Bools.by-bool, std.proofs.lemmas.Nat.from_le_bytes-to_le_bytes_8}
+use Rattle.dwp_table.specs.{Columns.column_of, Columns.kind_of_column, Objects.identifier_of}
+use Rattle.std.proofs.lemmas.{List.Sums.count_by-le-length, Nat.from_le_bytes-to_le_bytes_4}
+use Rattle.std.proofs.lemmas.{Bool.false_from_ne_true, Iterator.Adapters.position_from-zero}
 use Rattle.std.proofs.lemmas.Nat.{from_be_bytes-to_be_bytes_4, from_be_bytes-to_be_bytes_8}
-use Rattle.std.proofs.lemmas.Nat.{from_le_bytes-to_le_bytes_4, from_le_bytes-to_le_bytes_8}
-use Rattle.dwp_index.specs.IndexBytes.{columns_at, index_of, is_slot_count, new_column, number_rows}
-use Rattle.dwp_index.specs.IndexBytes.{after, counts_of, numbers, version_of}
-use Rattle.thorin_index.proofs.Each.{by_contribution, has_number, have_passed, HavePassed}
-use Rattle.thorin_index.proofs.Each.{number_of, used_known}
-use Rattle.std.proofs.Common.{append-nil, append_assoc, le-ltb}
-use Rattle.std.proofs.{lemmas.Bool.false_from_ne_true, lemmas.Iterator.Adapters.position_from-zero}
-use Rattle.std.proofs.{lemmas.Bool.lt-ltb, lemmas.List.Quantifiers.position-Some}
+use Rattle.dwp_bytes.specs.{Encoding.index_version_of, declared.encoding.Encoding.Encoding}
+use Rattle.thorin_index.specs.{ReadBack.index_with, declared.entry.IndexEntry.IndexEntry}
+use Rattle.{dwp_table.specs.Table.IsHashTable, thorin_index.proofs.Rows.by_contribution}
+use Rattle.dwp_base.specs.declared.section.SectionKind.{SectionKind, TheVariants.Info}
 use Rattle.std.proofs.lemmas.List.Folds.{flat_map-map, list_any-append, list_any_at}
-use Rattle.std.proofs.lemmas.List.Sums.{count_by-le-length, length-filter}
+use Rattle.dwp_base.specs.{Numbers.number, Numbers.number_bytes, Sections.rank_of}
+use Rattle.std.proofs.lemmas.List.{Quantifiers.position-Some, Sums.length-filter}
+use Rattle.thorin_index.specs.IndexText.{column_numbers, entry_ids, index_bytes}
+use Rattle.dwp_index.specs.IndexBytes.{after, index_of, is_slot_count, numbers}
+use Rattle.thorin_index.specs.Entries.{contribution_to, offset_or_0, size_or_0}
+use Rattle.dwp_base.specs.declared.endian.Endianness.TheVariants.{Big, Little}
 use Rattle.std.proofs.lemmas.Option.{get_or_from_slice_get, slice_get_within}
+use Rattle.dwp_index.proofs.Indexes.{is_some-position, kind_of_number}
 use Rattle.std.specs.List.{list_any, position_from, range_with_len}
-use Rattle.dwp_base.specs.{declared.section.SectionKind.TheVariants.Info, Sections.rank_of}
-use Rattle.dwp_index.proofs.{Columns.kind_of_number, NumberLists.is_some-position}
-use Rattle.dwp_index.specs.Index.{column_place, contribution, Index, range_in, Ranges, row_in}
-use Rattle.dwp_table.specs.Columns.{kind_of_column}
-use Rattle.thorin_index.specs.{EntryTests.tests_under, IndexText.version_bytes, ReadBack.index_with}
-use Rattle.thorin_index.specs.{IndexText.index_bytes, ReadRows.HasEntries, ReadRows.non_empty}
+use Rattle.std.proofs.Common.{ltb, map-id, refl, ◌+◌, ◌∷◌}
 
 -- items are put in so many bytes each, in which those that fit are read again as what they are
 pub record IsPut {X Y : Type 0} (put : X → List ℕ) (read : List ℕ → Y) (is : X → Y)

@@ -1,7 +1,2 @@
-mod Best
+mod Counted
 mod Fronts
-mod InnerPlaces
-mod Nested
-mod Noting
-mod Sizes
-mod UsedSections

@@ -110,7 +110,7 @@ fn each_size(section: &Section<'_>) -> u64
 }
 
 /// What those have together.
-#[tactic(auto, using(crate::proofs::Sizes::each_step, crate::proofs::Sizes::each_end, dwp_base::proofs::Finds::slice_get_none))]
+#[tactic(auto, using(crate::proofs::Counted::each_step, crate::proofs::Counted::each_end, dwp_base::proofs::Finds::slice_get_none))]
 fn each_sizes(file: &ElfFile<'_>) -> u64
     ensures { result ≡ min (sum_by each_size (elf file.now).sections) (2 ^ 64 - 1) }
 {
@@ -189,7 +189,7 @@ fn step_of(used: UsedSections<'_>, order: Endianness) -> usize
 }
 
 /// Whether the string offsets of some row of an index, if it is one, begin between words.
-#[tactic(auto, using(crate::proofs::InnerPlaces::row_passed))]
+#[tactic(auto, using(crate::proofs::Counted::row_passed))]
 fn has_row_between(index: &[u8], order: Endianness) -> bool
     ensures { result ≡ has_row_between (index_of order index.now) }
 {

@@ -1,27 +1,195 @@
--- A package with the units of an input has them beside its own; an input that is taken joins them,
--- and all of them can be found and read. Its strings are those that its inputs name.
+-- The units of an input that are added lie one after another, and stand in their rows. A package
+-- with the units of an input has them beside its own; an input that is taken joins them, and all of
+-- them can be found and read. Its strings are those that its inputs name. The ranges of an input's
+-- units lie behind those of the inputs before it.
 use Rattle.thorin_join.proofs.Terms
-use Terms.{adding, ap, append-nil, AreRowsOf, arith, begun_by, bind-ok, can_join, content_of}
-use Terms.{Contents, DwarfObject, Elf, false, first, has_info, indexes_of, inl, InProgress}
-use Terms.{input_file_of, InputFile, inr, IsSound, IsSoundBegun, IsTable, joined_parts, joining}
-use Terms.{Joins, keys, kind_of, List, names_of, New, new_units, None, offsets_used, Ok, opened}
-use Terms.{Option, order_test, package_or_new, parts_of, refl, Represents, Some, Source}
-use Terms.{source_units, Str, subst, sum_by, sym, true, units_begun, units_of, with_input}
-use Terms.{with_new_units, with_parts, with_source, [], ℕ, ◌++◌, ◌∙◌, ◌∷◌, map-map, ◌≡◌, ◌⊎◌}
+use Terms.{adding, All-append, ap, append-nil, append_assoc, AreRowsOf, arith, begun_by, bind-ok}
+use Terms.{can_join, Compilation, content_of, Contents, contribution_to, DwarfObject, Each, Elf}
+use Terms.{Endianness, false, filter-append, first, has_info, IndexEntry, indexes_of, inl}
+use Terms.{InProgress, input_file_of, InputFile, inr, IsSound, IsSoundBegun, IsTable, IsWhole}
+use Terms.{joined_parts, joining, Joins, keys, kind_of, length, length-append, LieInside, List, map}
+use Terms.{list_any, map-append, map-map, Meaning, Members, names_of, New, new_units, NewUnit, None}
+use Terms.{offsets_used, Ok, opened, Option, order_test, package_or_new, parts_of, place_for, refl}
+use Terms.{Represents, row_at, same_kind, same_name, same_Some, SectionKind, Some, Source, Str}
+use Terms.{source_units, subst, sum_by, sym, take-length, true, TypeUnit, UnitRead, units_begun}
+use Terms.{units_of, UnitSection, with_bytes, with_input, with_new_unit, with_new_units, with_parts}
+use Terms.{with_source, with_unit_added, [], ℕ, ◌++◌, ◌+◌, ◌∙◌, ◌∷◌, ◌≡◌, ◌⊎◌}
 use Rattle.thorin_input.specs.Encodings.{encoding_of}
-use Rattle.thorin_join.proofs.Parts.Added.{Brings, content-with_parts, parts-follow, units-strings}
-use Rattle.thorin_join.proofs.{Parts.Added.each-brings, Parts.Added.parts-none, Units.Whole.Goes}
-use Rattle.thorin_join.proofs.Rows.AllAdded.{all_meant, joined-new, laid-lies, RowsLie, units-added}
-use Rattle.thorin_join.proofs.Rows.OneAdded.{Grows, keep-rows, not-shared}
-use Rattle.thorin_join.proofs.Units.InRows.{apart-none, joined_distinct, keys-units, units-are}
-use Rattle.thorin_join.proofs.Units.ReadInTurn.{added-keys, each-joining, units-joined, Reads}
-use Rattle.thorin_join.{proofs.Units.Whole.units-go, specs.State.held_units, specs.State.with_all}
+use Rattle.thorin_join.proofs.Parts.{Brings, parts-follow, parts-none, units-strings}
+use Rattle.thorin_join.proofs.Parts.{content-with_bytes, content-with_parts, each-brings, each-unit}
+use Rattle.thorin_join.proofs.Rows.{CanLie, grows-trans, grows-with_bytes, is-unit_row, keep-shares}
+use Rattle.thorin_join.proofs.Rows.{Grows, keep-rows, lies-whole, own-place, place-put, row-behind}
+use Rattle.thorin_join.proofs.Rows.{front-long, not-shared, row-shares, unit-added, whole-else}
+use Rattle.thorin_join.proofs.Rows.{keep-lie, row-name, row-other, row-own, row-part, rows-next}
+use Rattle.thorin_join.proofs.Units.{added-keys, apart-none, AreAdded, Goes, IsAdded, units-go}
+use Rattle.thorin_join.proofs.Units.{joined_distinct, keys-units, News, Reads, units-are}
 use Rattle.thorin_join.specs.Builder.{order_of, source_for, with_source_or_new, with_units}
 use Rattle.thorin_join.specs.FirstUse.{named_in, named_in_file, strings_begun, used_by, UsesStrings}
-use Rattle.thorin_join.specs.FirstUse.{with_strings}
-use Rattle.thorin_join.specs.Meaning.{input_meaning, object_meaning, source_meaning}
+use Rattle.thorin_join.specs.Laid.{HaveOneRange, is_at, IsLaid, Lie, rows_at, same_place}
+use Rattle.thorin_join.specs.StandApart.{contents_begun, EachRow, LieBehind, rows_begun, StandApart}
+use Rattle.thorin_join.specs.{FirstUse.with_strings, Meaning.input_meaning, Meaning.meant}
+use Rattle.thorin_join.specs.{Meaning.object_meaning, Meaning.source_meaning, State.held_units}
+use Rattle.thorin_join.{proofs.Units.each-joining, proofs.Units.units-joined, specs.State.with_all}
 use Rattle.dwp_units.specs.declared.unit.UnitSection.TheVariants as places
-pub use Rattle.thorin_join.proofs.Rows.AllAdded.{all_there}
+
+-- one more unit behind the others
+module _ (order : Endianness) (place : UnitSection) (row : IndexEntry) (own : List ℕ) (at : ℕ)
+    (range : contribution_to (kind_of place) row
+    ≡ Some (record { offset = record { 0 = at }; size = length own }))
+    (is : IsWhole order place row.id own) where
+  lie-append : (offset : ℕ) (rows : List IndexEntry) (bytes : List ℕ) → at ≡ offset + length bytes
+      → Lie order place offset rows bytes → Lie order place offset (rows ++ row ∷ []) (bytes ++ own)
+  lie-append offset [] bytes e h =
+      let same : at ≡ offset = omega (arith, ap length h) in
+      let are = ap (λ l. l ++ own) h ∙ sym (append-nil own) in
+      (record { own = own; rest = []; are = are; range = rw same at range; is = is }, refl)
+  lie-append offset (r ∷ rs) bytes e h =
+      let head = h.0 in
+      let next : at ≡ offset + length head.own + length head.rest =
+      omega (arith, ap length head.are, length-append head.own head.rest) in
+      let rest = head.rest ++ own in
+      let are : bytes ++ own ≡ head.own ++ rest = rw (head.are, append_assoc) in (
+        record { own = head.own; rest = rest; are = are; range = head.range; is = head.is },
+        lie-append (offset + length head.own) rs head.rest next h.1,
+      )
+
+-- how the rows of a package lie
+pub record RowsLie (order : Endianness) (rows : List IndexEntry) (c : Contents) : Type 0 where
+  pub lies : (place : UnitSection)
+      → Lie order place 0 (rows_at place rows) (content_of (kind_of place) c)
+  pub once : HaveOneRange rows
+
+kinds-same : (a b : UnitSection) → same_kind (kind_of b) (kind_of a) ≡ same_place a b
+kinds-same a b = grind arith
+
+-- one more unit
+module _ (order : Endianness) (c : Contents) (rows : List IndexEntry) (u : DwarfObject × NewUnit)
+    (can : CanLie order u) where
+  abbrev place : UnitSection
+  place = u.1.place
+
+  abbrev row : IndexEntry
+  row = row_at u.1.row c u.0 u.1.bytes place
+
+  at-is : (other : UnitSection) → is_at other row ≡ same_place other place
+  at-is other = rw (row-name u.1.row c u.0 u.1.bytes place)
+      (ap (same_place other) (sym (own-place u.1.row c u.0 u.1.bytes place can)))
+
+  pub unit-lies : RowsLie order rows c
+      → RowsLie order (rows ++ row ∷ []) (with_bytes (kind_of place) u.1.bytes c)
+  unit-lies lie =
+      let range = row-own u.1.row c u.0 u.1.bytes place
+      ∙ place-put (kind_of place) u.1.bytes c can.whole.some in
+      let behind = lie-append order place row u.1.bytes _ range (rw
+      (row-name u.1.row c u.0 u.1.bytes place) can.whole) 0 _ _ (omega arith) (lie.lies place) in
+      record {
+        lies = λ other.
+            let split = filter-append (is_at other) rows (row ∷ []) in
+            let put = content-with_bytes (kind_of other) (kind_of place) u.1.bytes c in
+            let none = append-nil (rows_at other rows) in
+            grind (arith, split, at-is other, put, kinds-same, none, lie.lies other, behind);
+        once = All-append (λ row. (other : UnitSection) → is_at other row ≡ false
+            → contribution_to (kind_of other) row ≡ None) rows (row ∷ []) lie.once (
+              λ other apart.
+                  grind (arith, row-other, kinds-same, at-is other, can.no_info, can.no_types),
+              tt,
+            );
+      }
+
+-- those of an input
+types-only : (name : DwarfObject) (kind : SectionKind) → place_for name kind ≡ places.Types
+    → (signature : ℕ) × (name ≡ TypeUnit (record { 0 = signature }))
+types-only (Compilation id) kind h = absurd cc
+types-only (TypeUnit signature) kind h = (signature.0, refl)
+
+pub can-lie : (source : Source) (made : InProgress) (parts : Contents) (n : DwarfObject
+    × NewUnit) (r : DwarfObject × UnitRead) → IsAdded (adding source made parts) n r
+    → Goes source.object.order r → CanLie source.object.order n
+can-lie source made parts n r is goes =
+    let row = is-unit_row source.indexes (adding source made parts).whole r.0 n.1.row is.row in
+    let none = whole-else source.encoding made.file.contents parts in
+    let types = types-only r.0 r.1.from in
+    grind (arith, row.types, row.info, none, goes, types, is.name, is.place, is.bytes)
+
+-- those of a package that is laid so, with parts, which have no units
+pub laid-lies : (made : InProgress) (parts : Contents)
+    → ((place : UnitSection) → joined_parts (kind_of place) parts ≡ []) → IsLaid made
+    → RowsLie made.file.order made.rows (with_parts parts made.file.contents)
+laid-lies made parts none laid =
+    grind (arith, content-with_parts, none, append-nil {A = ℕ}, laid.info, laid.types, laid.once)
+
+-- units whose names are new
+abbrev pub AllNew : List DwarfObject → List DwarfObject → Type 0
+AllNew names [] = Unit {0}
+AllNew names (u ∷ us) = (list_any (same_name u) names ≡ false) × AllNew (names ++ u ∷ []) us
+
+-- so are those that are joined
+pub joined-new : {X : Type 0} (names : List DwarfObject) (us : List (DwarfObject × X))
+    → AllNew names (keys (joining names us))
+joined-new names [] = tt
+joined-new names (u ∷ us) = grind (arith, joined-new names us, joined-new (names ++ u.0 ∷ []) us)
+
+pub names-added : (p : InProgress) (u : DwarfObject × NewUnit) → names_of (with_unit_added p u) ≡
+    names_of p ++ u.0 ∷ []
+names-added p u = rw (map-append, row-name u.1.row p.file.contents u.0 u.1.bytes u.1.place) refl
+
+-- what belongs to units, where it is there
+abbrev pub all_meant : Source → Reads → List (DwarfObject × Option Meaning)
+all_meant source us = map {B = DwarfObject × Option Meaning} (meant source) us
+
+abbrev pub all_there : Members → List (DwarfObject × Option Meaning)
+all_there ms = map {B = DwarfObject × Option Meaning} (λ u. (u.0, Some u.1)) ms
+
+-- what is known of a package once these units are added
+pub record Added (read : Endianness) (table : List (List ℕ)) (p now : InProgress) (us : News)
+    (ms : Members) : Type 0 where
+  pub strings : now.strings ≡ p.strings
+  pub order : now.file.order ≡ p.file.order
+  pub rows : AreRowsOf read now.file.contents table now.rows ms
+  pub other : (kind : SectionKind) → ((place : UnitSection) → same_kind (kind_of place) kind ≡
+      false) → content_of kind now.file.contents ≡ content_of kind p.file.contents
+  pub names : names_of now ≡ names_of p ++ keys us
+  pub lie : RowsLie read now.rows now.file.contents
+
+module _ (source : Source) (before : InProgress) (parts : Contents) (after : List (List ℕ))
+    (table : IsTable before.strings) (h : parts_of source before.strings ≡ Ok (parts, after)) where
+  pub units-added : (p : InProgress) (us : News) (rs : Reads) (ms : Members)
+      → AreAdded (adding source before parts) us rs → Each (Goes source.object.order) rs
+      → Grows (with_parts parts before.file.contents) p.file.contents
+      → AllNew (names_of p) (keys us)
+      → AreRowsOf source.object.order p.file.contents after p.rows ms
+      → RowsLie source.object.order p.rows p.file.contents
+      → (members : Members) × (all_meant source rs ≡ all_there members)
+      × Added source.object.order after p (with_new_units p us) us (ms ++ members)
+  unfolding with_new_units with_new_unit
+  units-added p [] [] ms are go grows new rows lie =
+      ([], refl, rw (append-nil ms) (assumption (sym (append-nil (names_of p)))))
+  units-added p (u ∷ us) (r ∷ rs) ms are go grows new rows lie =
+      let order = source.object.order in
+      let base = with_parts parts before.file.contents in
+      let c = p.file.contents in
+      let q = with_unit_added p u in
+      let more = grows-with_bytes (kind_of u.1.place) u.1.bytes c in
+      let same = take-length after in
+      let s = row-shares source before.file.contents parts r u.1.row (is-unit_row source.indexes _
+      r.0 u.1.row are.0.row) before.strings after table h are.0.tested in
+      let m : DwarfObject × Meaning = (u.0, s.unit) in
+      let can = can-lie source before parts u r are.0 go.0 in
+      let row = unit-added u.1.row c u.0 u.1.bytes u.1.place order after s.unit
+      (are.0.bytes ∙ sym s.bytes_are) s.encoding (keep-lie base c u.1.row grows s.lie)
+      (keep-shares order base c after after u.1.row s.unit grows same s.lie s.shares) can in
+      let old = keep-rows order c q.file.contents after after p.rows ms more same rows in
+      let names = names-added p u in
+      let a = units-added q us rs (ms ++ m ∷ []) are.1 go.1 (grows-trans base c q.file.contents
+      grows more) (rw names new.1) (rows-next order q.file.contents after p.rows ms _ m old row)
+      (unit-lies order c p.rows u can lie) in
+      let named = append_assoc (names_of p) (u.0 ∷ []) (keys us) in
+      let all = append_assoc ms (m ∷ []) a.0 in (
+        m ∷ a.0,
+        λ i. (sym are.0.name i, s.meaning_is i) ∷ a.1 i,
+        rw new.0 (grind (arith, a.2, all, names, named, content-with_bytes)),
+      )
+  units-added p _ _ ms are go grows new rows lie = absurd are
 
 -- joining keeps what belongs to units
 join-meant : (source : Source) (names : List DwarfObject) (us : Reads)
@@ -225,3 +393,75 @@ uses-strings bytes begun now sound h =
       | inr n ↦ ([], rw (t.opens, n.0) refl, cc (n.1, start))
     ] in
     record { used = said.0; named = said.1; strings = said.2; distinct = fine.units.table.distinct }
+
+-- units that are added
+abbrev EachNew : Contents → News → Type 0
+EachNew base us = EachRow (LieBehind base) (map (λ u. u.1.row) us)
+
+added-behind : (source : Source) (before : InProgress) (parts : Contents) (ns : News) (rs : Reads)
+    → AreAdded (adding source before parts) ns rs → EachNew before.file.contents ns
+added-behind source before parts [] [] are = tt
+added-behind source before parts (n ∷ ns) (r ∷ rs) are =
+    let row = is-unit_row source.indexes _ r.0 n.1.row are.0.row in
+    let here = row-behind source before.file.contents parts r n.1.row row are.0.tested in
+    (here, added-behind source before parts ns rs are.1)
+added-behind source before parts _ _ are = absurd are
+
+-- rows that lie behind those before
+abbrev Appended : Contents → (rows now : List IndexEntry) → Type 0
+Appended base rows now =
+    (added : List IndexEntry) × (now ≡ rows ++ added) × EachRow (LieBehind base) added
+
+units-behind : (base : Contents) (p : InProgress) (us : News) → Grows base p.file.contents
+    → EachNew base us → Appended base p.rows (with_new_units p us).rows
+units-behind base = each-unit (λ p us now. Grows base p.file.contents → EachNew base us
+    → Appended base p.rows now.rows) (λ p grows all. ([], sym (append-nil p.rows), tt))
+    (λ p u us now later grows all. later grows all.1)
+    (λ p u us now later grows all. let c = p.file.contents in
+    let more = later (grows-trans base c (with_unit_added p u).file.contents grows
+    (grows-with_bytes (kind_of u.1.place) u.1.bytes c)) all.1 in
+    let row = row_at u.1.row c u.0 u.1.bytes u.1.place in
+    let own = (lies-whole (content_of (kind_of u.1.place) c) u.1.bytes).behind in
+    let part = row-part u.1.row c u.0 u.1.bytes u.1.place in
+    let here : LieBehind base row = λ kind range is.
+    grind (arith, all.0 kind range, own range, front-long (grows kind), part kind) in
+    (row ∷ more.0, more.1 ∙ append_assoc p.rows (row ∷ []) more.0, (here, more.2)))
+
+-- an input
+each-inside : (order : Endianness) (c : Contents) (strings : List (List ℕ)) (rows : List IndexEntry)
+    (ms : Members) → AreRowsOf order c strings rows ms → EachRow (LieInside c) rows
+each-inside order c strings [] [] are = tt
+each-inside order c strings (r ∷ rs) (m ∷ ms) are =
+    (are.0.lie, each-inside order c strings rs ms are.1)
+each-inside order c strings _ _ are = absurd are
+
+pub sound-inside : (made : InProgress) → IsSound made
+    → EachRow (LieInside made.file.contents) made.rows
+sound-inside made sound = each-inside made.file.order made.file.contents made.strings made.rows _
+    sound.units.rows
+
+pub stand-apart : (bytes : List ℕ) (begun : Option InProgress) (now : InProgress)
+    → IsSoundBegun begun → with_input bytes begun ≡ Ok (Some now) → StandApart begun now
+stand-apart bytes begun now sound h =
+    let fine : IsSound now = (input-keeps bytes begun (Some now) sound h).sound in
+    let t = takes bytes begun (Some now) h in
+    let before = package_or_new t.file begun in
+    let from = λ (n : InProgress). Appended before.file.contents before.rows n.rows in
+    let contents = same-begun contents_begun t.file refl begun in
+    let rows = same-begun rows_begun t.file refl begun in
+    let a : Appended before.file.contents before.rows now.rows = elim t.does [
+      | inl u ↦
+          let m = source-made u.1.source before u.1.made u.1.with in
+          let c = before.file.contents in
+          subst from (m.is ∙ same_Some _ _ u.1.is) (units-behind c _ m.new.units
+          (grows-with_parts m.parts c) (added-behind u.1.source before m.parts m.new.units _
+          (units-joined (adding u.1.source before m.parts) m.new m.new_are).are))
+      | inr n ↦ subst from (same_Some _ _ n.1) ([], sym (append-nil before.rows), tt)
+    ] in
+    record {
+      added = a.0;
+      rows = rw (← rows) a.1;
+      first = rw (← contents, ← rows) (sound-inside before (new-sound t.file begun sound));
+      behind = rw (← contents) a.2;
+      inside = sound-inside now fine;
+    }

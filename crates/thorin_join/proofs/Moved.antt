@@ -20,7 +20,7 @@ use Rattle.dwp_units.specs.Units.{header_at, newer_at, older_at, type_at, unit_a
 use Rattle.dwp_units.specs.declared.unit.{UnitSection.TheVariants.Types, UnitType.UnitType}
 use Rattle.std.proofs.Common.{add_assoc, length-take-le, ℤ}
 use Rattle.std.specs.{Option.ok_or, Prelude.is_ok}
-pub use Rattle.dwp_index.proofs.TwoPlaces.{plain}
+pub use Rattle.dwp_index.proofs.UnitBytes.{plain}
 
 -- what was read, moved
 abbrev pub moved : {A : Type 0} → (A → A) → Result A ReadError → Result A ReadError

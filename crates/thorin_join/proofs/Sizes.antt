@@ -9,18 +9,18 @@ use Terms.{length-KindsDiffer, length-map, List, map, name_of, nat_le, nat_tests
 use Terms.{offsets_used, Ok, Option, refl, same-ok, SectionKind, Some, Source, Str, suc, sum_by}
 use Terms.{sym, unit_section, UnitRead, units_whole, UnitSection, Used, with_bytes, with_input}
 use Terms.{with_new_units, with_parts, with_source, [], ℕ, ◌*◌, ◌++◌, ◌+◌, ◌∙◌, ◌∷◌, ◌≡◌, ◌≤◌}
-use Rattle.thorin_join.specs.Sizes.{bytes_of_index, carried_size, container_most, sections_of_input}
-use Rattle.thorin_join.specs.Sizes.{bytes_begun, IsSizeFinished, IsSizeOfIndex, sections_in}
-use Rattle.thorin_join.specs.Sizes.{carried, used_size, with_inputs}
-use Rattle.std.proofs.lemmas.List.Concat.{length-flat_map}
-use Rattle.std.proofs.lemmas.List.Sums.{sum_by-append, sum_by-cons, sum_by-le-sum_by}
-use Rattle.thorin_join.proofs.Joined.{same-begun, source-brings, source-made, takes}
-use Rattle.thorin_join.proofs.Parts.Added.{each-brings, each-unit, long, placed_bytes, used-most}
-use Rattle.thorin_join.proofs.Units.ReadInTurn.{AreAdded, each-named, News, Reads, units-joined}
+use Rattle.dwp_elf.proofs.ReadingBack.{length-file_text, length-number_bytes}
 use Rattle.dwp_elf.specs.FileText.{content_bytes, names_of}
-use Rattle.dwp_elf.proofs.Limits.{length-file_text, length-number_bytes}
+use Rattle.std.proofs.lemmas.List.Sums.{sum_by-append, sum_by-le-sum_by}
+use Rattle.std.proofs.lemmas.List.{Concat.length-flat_map, Sums.sum_by-cons}
 use Rattle.thorin_index.specs.IndexText.{index_bytes}
-use Rattle.thorin_join.specs.{FirstUse.strings_begun, Meaning.named_at, Meaning.named_sections}
+use Rattle.thorin_join.proofs.Joined.{same-begun, source-brings, source-made, takes}
+use Rattle.thorin_join.proofs.Parts.{each-brings, each-unit, long, placed_bytes, used-most}
+use Rattle.thorin_join.proofs.Units.{AreAdded, each-named, News, Reads, units-joined}
+use Rattle.thorin_join.specs.Sizes.{bytes_begun, carried_size, sections_of_input, with_inputs}
+use Rattle.thorin_join.specs.Sizes.{bytes_of_index, carried, container_most, used_size}
+use Rattle.thorin_join.specs.{FirstUse.strings_begun, Meaning.named_sections, Sizes.sections_in}
+use Rattle.thorin_join.specs.{Meaning.named_at, Sizes.IsSizeFinished, Sizes.IsSizeOfIndex}
 
 -- bytes that are added to a kind's
 appended-long : (k : SectionKind) (bytes : List ℕ) (c : Contents)

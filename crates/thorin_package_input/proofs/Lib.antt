@@ -1,7 +1,2 @@
-pub mod RowSteps
-pub mod FirstRow
-pub mod RewriteSteps
-pub mod RowRanges
+pub mod Rows
 pub mod ReadAlike
-pub mod OffsetsJoined
-pub mod Terms

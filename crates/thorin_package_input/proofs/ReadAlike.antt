@@ -1,20 +1,216 @@
--- A package's string offsets, rewritten, read as they read before.
-use Rattle.thorin_package_input.proofs.Terms.{cases_eq, Contribution, offset_ranges, rewritten_from}
-use Rattle.thorin_package_input.proofs.Terms.{Encoding, Endianness, kept_more, ReadsAlike, remapped}
-use Rattle.thorin_package_input.proofs.Terms.{header_size, NamesTheSame, offset_size, ranges_test}
-use Rattle.thorin_package_input.proofs.Terms.{data_of, Index, IsTable}
-use Rattle.std.proofs.Common.{length, List, take, [], ℕ, ⊎_elim, ◌++◌, ◌+◌, ◌-◌, ◌∙◌, ◌∷◌, ◌≡◌, ◌≤◌}
-use Rattle.std.proofs.Common.{append_assoc, length-append, length-drop, Option, slice_range, subst}
-use Rattle.std.proofs.Common.{ap, arith, drop, Ok, refl, sym}
+-- A package's string offsets, rewritten, read as they read before: one range is rewritten after
+-- another, and string offsets without a header, joined, are read in turn.
+use Rattle.dwp_base.specs.declared.{endian.Endianness.Endianness, section.Contribution.Contribution}
+use Rattle.std.proofs.Common.{add-mul, Err, length, length-append, length-drop, List, None, take_at}
+use Rattle.std.proofs.Common.{append_assoc, get_or, Result, slice_range, subst, sym, take, take_all}
+use Rattle.thorin_package_input.specs.PackagedOffsets.{offset_ranges, packaged_offsets, ranges_test}
+use Rattle.dwp_bytes.specs.StringOffsets.{entry_count, entry_in, header_size, string_at, string_in}
+use Rattle.std.proofs.Common.{arith, ℕ, [], ◌%◌, ◌*◌, ◌++◌, ◌+◌, ◌-◌, ◌/◌, ◌<◌, ◌∙◌, ◌∷◌, ◌≡◌, ◌≤◌}
+use Rattle.std.proofs.{Common.drop-drop, Common.drop_at, lemmas.Nat.row_fits, Math.Nat.div-add-mod}
+use Rattle.{dwp_index.specs.Index.Index, thorin_package_input.specs.PackagedOffsets.rewritten_from}
+use Rattle.std.proofs.Common.{ap, cond, drop, length-take-le, ltb, Ok, Option, refl, Some, ⊎_elim}
+use Rattle.std.proofs.lemmas.List.{at_drop_all, at_drop_more, drop-append-le, get_or_append_left}
+use Rattle.{thorin_errors.specs.Errors.ErrorValue, thorin_strings.specs.Rewritten.NamesTheSame}
+use Rattle.thorin_package_input.specs.{PackagedReading.range_bytes, ReadStrings.ReadsAlike}
 use Rattle.thorin_package_input.specs.PackagedReading.{PackageReadsAlike, RangeReadsAlike}
-use Rattle.std.proofs.Math.Nat.{div-add-mod}
-use Rattle.std.proofs.lemmas.List.{drop_at, length-take-le, take_all, take_at}
-use Rattle.dwp_base.proofs.Steps.{bind-was, same-ok}
-use Rattle.thorin_strings.proofs.NamedEntries.{range_named}
-use Rattle.thorin_package_input.specs.PackagedOffsets.{packaged_offsets}
-use Rattle.thorin_package_input.{proofs.OffsetsJoined.strings_again, proofs.RewriteSteps.IsNext}
-use Rattle.thorin_package_input.{proofs.RewriteSteps.next_passed, specs.PackagedReading.range_bytes}
-use Rattle.thorin_package_input.proofs.RowRanges.{compilation_there, IsIn, type_there}
+use Rattle.std.proofs.lemmas.Bool.{cases_eq, cases_lt, Decides.nat_tests, lt-leb}
+use Rattle.thorin_package_input.proofs.Rows.{compilation_there, IsIn, type_there}
+use Rattle.thorin_strings.proofs.Remapping.{as_error_ok, kept_more, range_named}
+use Rattle.{dwp_base.specs.Numbers.number, dwp_bytes.specs.Encoding.offset_size}
+use Rattle.dwp_bytes.specs.declared.encoding.{Encoding.Encoding, Format.Format}
+use Rattle.thorin_strings.specs.StringOffsets.{named_at, offset_at, remapped}
+use Rattle.dwp_base.proofs.Steps.{bind-was, guard-ok, same-ok}
+use Rattle.dwp_strings.specs.Strings.{data_of, IsTable}
+use Rattle.dwp_base.specs.Reading.{◌>>=◌}
+
+-- ---- what the tests say of the next range
+pub record IsNext (encoding : Encoding) (size last : ℕ) (r : Contribution)
+    (rs : List Contribution) : Type 0 where
+  pub inside : r.offset.0 + r.size ≤ size
+  pub header : header_size encoding ≤ r.size
+  pub whole : (r.size - header_size encoding) % offset_size encoding.format ≡ 0
+  pub behind : last ≤ r.offset.0
+  pub others : ranges_test encoding size (r.offset.0 + r.size) rs ≡ Ok tt
+
+pub next_passed : (encoding : Encoding) (size last : ℕ) (r : Contribution) (rs : List Contribution)
+    → ranges_test encoding size last (r ∷ rs) ≡ Ok tt → IsNext encoding size last r rs
+unfolding ranges_test
+next_passed encoding size last r rs h = grind (arith, nat_tests)
+
+-- ---- what was written, in front of what is to come
+abbrev Rewriting : Type 0
+Rewriting = Result (List ℕ × List (List ℕ)) ErrorValue
+
+abbrev pub onto : List ℕ → Rewriting → Rewriting
+onto front (Ok p) = Ok (front ++ p.0, p.1)
+onto front (Err e) = Err e
+
+-- so far the rewriting of all is that of the rest behind what was written
+pub record IsSoFar (order : Endianness) (encoding : Encoding) (section bytes : List ℕ)
+    (ranges : List Contribution) (before : List (List ℕ)) (out : List ℕ) (at n : ℕ)
+    (strings : List (List ℕ)) : Type 0 where
+  pub kept : take (length before) strings ≡ before
+  pub within : at ≤ length bytes
+  pub passed : ranges_test encoding (length bytes) at (drop n ranges) ≡ Ok tt
+  pub all : onto out (rewritten_from order encoding section bytes at (drop n ranges) strings) ≡
+      rewritten_from order encoding section bytes 0 ranges before
+
+module _ {order : Endianness} {encoding : Encoding} {section bytes : List ℕ}
+    {ranges : List Contribution} {before : List (List ℕ)} where
+  module _ {out : List ℕ} {at n : ℕ} {strings : List (List ℕ)} (so_far : IsSoFar order encoding
+      section bytes ranges before out at n strings) where
+    abbrev whole : Rewriting
+    whole = rewritten_from order encoding section bytes 0 ranges before
+
+    -- at the end
+    pub all_written : length ranges ≤ n → whole ≡ Ok (out ++ drop at bytes, strings)
+    unfolding rewritten_from
+    all_written past = sym so_far.all ∙ at_drop_all
+        (λ rs. onto out (rewritten_from order encoding section bytes at rs strings)) ranges n past
+
+    -- one more
+    module _ (d : Contribution) (less : n < length ranges) where
+      abbrev r : Contribution
+      r = get_or ranges n d
+
+      pub next : IsNext encoding (length bytes) at r (drop (n + 1) ranges)
+      next = next_passed encoding (length bytes) at r (drop (n + 1) ranges) (sym
+          (at_drop_more (ranges_test encoding (length bytes) at) ranges n d less) ∙ so_far.passed)
+
+      abbrev range_of_next : Rewriting
+      range_of_next = remapped order encoding section (slice_range bytes r.offset.0
+          (r.offset.0 + r.size)) r.size strings
+
+      from_next : onto out (rewritten_from order encoding section bytes at (r ∷ drop (n + 1) ranges)
+          strings) ≡ whole
+      from_next =
+          sym (at_drop_more (λ rs. onto out (rewritten_from order encoding section bytes at rs
+          strings)) ranges n d less) ∙ so_far.all
+
+      pub one_refused : (error : ErrorValue) → range_of_next ≡ Err error → whole ≡ Err error
+      unfolding rewritten_from
+      one_refused error refused = sym from_next ∙ rw refused refl
+
+      onto_more : (front range : List ℕ) (rest : Rewriting) → onto ((out ++ front) ++ range) rest ≡
+          onto out (rest >>= λ p. Ok (front ++ range ++ p.0, p.1))
+      onto_more front range (Ok p) = ap (λ l. Ok (l, p.1)) (simp append_assoc)
+      onto_more front range (Err e) = refl
+
+      pub one_more : (range : List ℕ) (after : List (List ℕ)) (new : List ℕ) (end : ℕ)
+          → range_of_next ≡ Ok (range, after) → take (length strings) after ≡ strings
+          → new ≡ (out ++ slice_range bytes at r.offset.0) ++ range → end ≡ r.offset.0 + r.size
+          → IsSoFar order encoding section bytes ranges before new end (n + 1) after
+      unfolding rewritten_from
+      one_more range after new end ok kept new_is end_is = record {
+        kept = kept_more before strings after so_far.kept kept;
+        within = omega (arith, next.inside, end_is);
+        passed = rw end_is next.others;
+        all = rw (new_is, end_is) (onto_more (slice_range bytes at r.offset.0) range _
+            ∙ (rw ok at from_next));
+      }
+
+-- a number in front doesn't depend on what follows it
+pub number_front : (order : Endianness) (format : Format) (xs ys : List ℕ) → offset_size format ≤
+    length xs → number order (offset_size format) (xs ++ ys) ≡ number order (offset_size format) xs
+number_front order format xs ys within = grind (arith, get_or_append_left)
+
+pub no_header : (encoding : Encoding) → encoding.version < 5 → header_size encoding ≡ 0
+no_header encoding old = rw (lt-leb 5 encoding.version old) refl
+
+count_joined : (format : Format) (n m l : ℕ) → l ≡ n * offset_size format + m
+    → (l - 0) / offset_size format ≡ n + (m - 0) / offset_size format
+count_joined format n m l e = grind arith
+
+count_alone : (format : Format) (n l : ℕ) → l ≡ n * offset_size format
+    → (l - 0) / offset_size format ≡ n
+count_alone format n l e = grind arith
+
+module _ (order : Endianness) (encoding : Encoding) (first second : List ℕ) (n : ℕ)
+    (old : encoding.version < 5) (long : length first ≡ n * offset_size encoding.format) where
+  abbrev width : ℕ
+  width = offset_size encoding.format
+
+  header : header_size encoding ≡ 0
+  header = no_header encoding old
+
+  count_all : entry_count encoding (length (first ++ second)) ≡ n + entry_count
+      encoding (length second)
+  count_all = rw header (count_joined encoding.format n (length second) (length (first ++ second))
+      (omega (arith, length-append first second, long)))
+
+  count_first : entry_count encoding (length first) ≡ n
+  count_first = rw header (count_alone encoding.format n (length first) long)
+
+  -- an entry of the first
+  entry_before : (i : ℕ) → i < n → entry_in order encoding (first ++ second) i ≡ entry_in order
+      encoding first i
+  unfolding entry_in
+  entry_before i less =
+      let room : i * width + width ≤ n * width = row_fits i width n width less (omega arith) in
+      let at = header_size encoding + i * width in
+      let front = number_front order encoding.format (drop at first) second in
+      let behind = drop-append-le at first second in
+      grind (arith, nat_tests, count_all, count_first, header, front, behind, length-drop at first)
+
+  -- one behind it
+  entry_behind : (i : ℕ) → n ≤ i → entry_in order encoding (first ++ second) i ≡ entry_in order
+      encoding second (i - n)
+  unfolding entry_in
+  entry_behind i above =
+      let later = i - n in
+      let is : i ≡ n + later = omega arith in
+      let at : header_size encoding + i * width ≡ n * width + (header_size encoding + later *
+      width) = omega (arith, header, ap (λ m. m * width) is, add-mul n later width) in
+      let behind = drop-drop (header_size encoding + later * width) (n * width) (first ++ second) in
+      grind (arith, nat_tests, count_all, at, behind, drop_at first second (n * width) long)
+
+  pub joined_read : (strings : List ℕ) (i : ℕ) → string_in order encoding strings (first ++ second)
+      i ≡ cond (ltb i n) (string_in order encoding strings first i) (string_in order encoding
+      strings second (i - n))
+  unfolding string_in
+  joined_read strings i = grind (arith, nat_tests, entry_before i, entry_behind i)
+
+-- ---- a rewritten range of string offsets reads as it read before
+offset_is : (order : Endianness) (format : Format) (bytes : List ℕ) (at offset : ℕ) → offset_at
+    order format bytes at ≡ Ok offset → number order (offset_size format) (drop at bytes) ≡ offset
+unfolding offset_at
+offset_is order format bytes at offset h = (guard-ok _ _ _ _ h).1
+
+-- an entry that names a string is read as that string
+named_read : (order : Endianness) (encoding : Encoding) (section bytes : List ℕ) (i : ℕ)
+    (string : List ℕ) → i < entry_count encoding (length bytes) → named_at order encoding section
+    bytes i ≡ Ok string → string_in order encoding section bytes i ≡ Ok (Some string)
+unfolding string_in entry_in named_at
+named_read order encoding section bytes i string less h =
+    let offset = bind-was _ _ string h in grind (
+      arith,
+      nat_tests,
+      offset_is order encoding.format bytes _ offset.0 (as_error_ok _ _ offset.0 offset.1),
+      as_error_ok _ (string_at section offset.0) string offset.2,
+    )
+
+-- past the last there is none
+past_read : (order : Endianness) (encoding : Encoding) (section bytes : List ℕ) (i : ℕ)
+    → entry_count encoding (length bytes) ≤ i → string_in order encoding section bytes i ≡ Ok None
+unfolding string_in entry_in
+past_read order encoding section bytes i past = grind (arith, nat_tests)
+
+pub strings_again : (order : Endianness) (encoding : Encoding) (section bytes : List ℕ)
+    (before : List (List ℕ)) (rewritten : List ℕ) (after final : List (List ℕ)) → NamesTheSame order
+    encoding section bytes (length bytes) before rewritten after → IsTable final
+    → take (length after) final ≡ after → (i : ℕ) → ReadsAlike order encoding section bytes
+    (data_of final) rewritten i
+strings_again order encoding section bytes before rewritten after final names final_table kept i =
+    ⊎_elim (λ less.
+    let one = names.named i less in
+    let old = named_read order encoding section bytes i one.string less one.old in
+    let new = named_read order encoding (data_of final) rewritten i one.string
+    (omega (arith, names.count)) (one.new final final_table kept) in
+    record { readable = rw old refl; same = new ∙ sym old }) (λ past.
+    let old = past_read order encoding section bytes i past in
+    let new = past_read order encoding (data_of final) rewritten i (omega (arith, names.count)) in
+    record { readable = rw old refl; same = new ∙ sym old })
+    (cases_lt i (entry_count encoding (length bytes)))
 
 -- ---- parts of lists
 slice_front : (front range rest : List ℕ) (a b : ℕ) → length front ≡ a → length range ≡ b - a
@@ -126,12 +322,12 @@ module _ (order : Endianness) (encoding : Encoding) (section bytes : List ℕ) w
           (λ later. later_written r (behind.each r later)) there;
     }
 
-  all_written : (rs : List Contribution) (at : ℕ) (before : List (List ℕ)) (written : List ℕ)
+  each_written : (rs : List Contribution) (at : ℕ) (before : List (List ℕ)) (written : List ℕ)
       (after : List (List ℕ)) → at ≤ length bytes → IsTable before → ranges_test encoding
       (length bytes) at rs ≡ Ok tt → rewritten_from order encoding section bytes at rs before ≡ Ok
       (written, after) → AreWritten at rs before written after
   unfolding rewritten_from
-  all_written [] at before written after within table passed ok =
+  each_written [] at before written after within table passed ok =
       let both : (drop at bytes, before) ≡ (written, after) = same-ok _ _ ok in
       subst (λ p. AreWritten at [] before p.0 p.1) both (record {
         table = table;
@@ -139,7 +335,7 @@ module _ (order : Endianness) (encoding : Encoding) (section bytes : List ℕ) w
         size = omega (arith, length-drop at bytes);
         each = λ r there. elim there [ ];
       })
-  all_written (x ∷ xs) at before written after within table passed ok =
+  each_written (x ∷ xs) at before written after within table passed ok =
       let next = next_passed encoding (length bytes) at x xs passed in
       let first = bind-was _ _ (written, after) ok in
       let second = bind-was _ _ (written, after) first.2 in
@@ -147,7 +343,7 @@ module _ (order : Endianness) (encoding : Encoding) (section bytes : List ℕ) w
       table first.1 in
       subst (λ p. AreWritten at (x ∷ xs) before p.0 p.1) (same-ok _ _ second.2)
       (more_written at x xs before first.0.1 first.0.0 second.0.0 second.0.1 next table first.1
-      (all_written xs (x.offset.0 + x.size) first.0.1 second.0.0 second.0.1 next.inside
+      (each_written xs (x.offset.0 + x.size) first.0.1 second.0.0 second.0.1 next.inside
       between.table next.others second.1))
 
   -- ---- the range of each row
@@ -170,7 +366,7 @@ module _ (order : Endianness) (encoding : Encoding) (section bytes : List ℕ) w
   unfolding packaged_offsets
   package_reads_alike compilations types before written after table ok =
       let tested = bind-was _ _ (written, after) ok in
-      let all = all_written (offset_ranges compilations types) 0 before written after (omega arith)
+      let all = each_written (offset_ranges compilations types) 0 before written after (omega arith)
       table tested.1 tested.2 in
       record {
         table = all.table;

@@ -1,3 +1,1 @@
-pub mod Terms
-pub mod RemapLemmas
-pub mod NamedEntries
+pub mod Remapping

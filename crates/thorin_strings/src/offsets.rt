@@ -255,7 +255,7 @@ impl PackageStringTable {
 
     /// The offset of a string, which is read where it isn't remembered, and is to fit the format.
     #[inline(never)]
-    #[tactic(auto, using(crate::proofs::RemapLemmas::read_fitting, crate::proofs::RemapLemmas::read_large, std::proofs::lemmas::List::take_all))]
+    #[tactic(auto, using(crate::proofs::Remapping::read_fitting, crate::proofs::Remapping::read_large, std::proofs::lemmas::List::take_all))]
     pub(crate) fn fitting_offset(
         &mut self,
         repeats: &mut Repeats,

@@ -1,6 +1,7 @@
 -- Reading words byte by byte: what was read of a word stands in front of what is left of it.
 use Rattle.std.proofs.Common.{append-nil, false, List, refl, Some, sym, true, [], ℕ, ◌++◌, ◌∷◌, ◌≡◌}
-use Rattle.std.proofs.Common.{append_assoc, arith, Bool, drop, get_or, length, not, ◌&&◌, ◌+◌, ◌<◌, ◌≤◌}
+use Rattle.std.proofs.Common.{append_assoc, arith, Bool, drop, get_or, length, not, ◌&&◌, ◌+◌, ◌<◌}
+use Rattle.std.proofs.Common.{◌≤◌}
 use Rattle.std.proofs.lemmas.{Bool.false≢true, List.drop_all, List.drop_more}
 use Rattle.std.specs.Prelude.{if◌then◌else◌}
 use Rattle.thorin_words.specs.Words.{behind, escaped, is_between, put, quoted, words_from, words_of}

@@ -1,9 +1,8 @@
-use Rattle.std.proofs.Common.{arith, drop, eqb, length, refl, Some}
-use Rattle.std.proofs.lemmas.Bool.{false_from_ne_true, le-ltb}
-use Rattle.std.proofs.lemmas.List.{get_or_default, take_rest}
+use Rattle.std.proofs.lemmas.{Bool.false_from_ne_true, List.get_or_default, List.take_rest}
+use Rattle.dwp_bytes.{proofs.Reading.zero_free, specs.StringOffsets.string_at}
+use Rattle.std.proofs.Common.{arith, drop, eqb, le-ltb, length, refl, Some}
 use Rattle.std.proofs.lemmas.List.Folds.{list_any_at, list_any_none}
-use Rattle.{dwp_base.proofs.Finds.first_at, dwp_bytes.proofs.Found.zero_free}
-use Rattle.dwp_bytes.specs.StringOffsets.{string_at}
+use Rattle.dwp_base.proofs.Finds.{first_at}
 use Rattle.dwp_bytes.proofs.encoding.string_at.Goals as goal
 
 pub returns-in-Some-clause-meaning : goal.returns-in-Some-clause-meaning

@@ -1,4 +1,4 @@
-use Rattle.dwp_bytes.proofs.Forward.{goes, reads_uleb, reads_sleb}
+use Rattle.dwp_bytes.proofs.Reading.{goes, reads_sleb, reads_uleb}
 use Rattle.dwp_bytes.proofs.laws.lebs_take_bytes.Goals as goal
 
 pub returns : goal.returns

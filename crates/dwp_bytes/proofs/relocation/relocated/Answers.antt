@@ -1,15 +1,14 @@
-use Rattle.std.proofs.Common.{false, length, List, Ok, true, zero, ℕ, ◌+◌, ◌<◌, ◌∙◌, ◌∷◌, ◌≡◌, ◌≢◌}
-use Rattle.std.proofs.Common.{arith, eqb, Err, get_or, inl, inr, None, refl, rules, Some, suc, sym}
-use Rattle.std.proofs.lemmas.Bool.{cases_lt, ltb-true, ne_eqb}
-use Rattle.std.proofs.lemmas.Bool.Decides.{nat_tests}
-use Rattle.std.proofs.lemmas.List.Recursion.{found_at, found_nowhere}
+use Rattle.dwp_bytes.specs.Relocation.{ascends, begins_past, relocated_by, relocation_at, value_of}
+use Rattle.std.proofs.lemmas.{Bool.cases_lt, List.Recursion.found_at, List.Recursion.found_nowhere}
+use Rattle.std.proofs.Common.{inr, length, List, ltb-true, nat_cmp, ne_eqb, None, Ok, refl, rules}
+use Rattle.std.proofs.Common.{arith, eqb, Err, false, get_or, inl, ◌+◌, ◌<◌, ◌∙◌, ◌∷◌, ◌≡◌, ◌≢◌}
 use Rattle.std.proofs.lemmas.List.Sorted.{answers_always, IsNonDecreasingBy-from_all_adjacent}
-use Rattle.std.specs.{declared.cmp.Ordering.Ordering, Ordering.nat_cmp, Ordering.ordering_index}
+use Rattle.{dwp_base.proofs.Bools.both, std.proofs.lemmas.Bool.Decides.nat_tests}
+use Rattle.dwp_bytes.specs.declared.relocation.RelocationEntry.{RelocationEntry}
+use Rattle.std.specs.{declared.cmp.Ordering.Ordering, Ordering.ordering_index}
 use Rattle.std.specs.declared.cmp.Ordering.TheVariants.{Equal, Greater, Less}
 use Rattle.std.specs.List.Sorted.{IsBinarySearchResult, IsNonDecreasingBy}
-use Rattle.dwp_bytes.specs.declared.relocation.RelocationEntry.{RelocationEntry}
-use Rattle.dwp_bytes.specs.Relocation.{ascends, begins_past, relocated_by, relocation_at, value_of}
-use Rattle.dwp_base.proofs.Bools.{both}
+use Rattle.std.proofs.Common.{Some, suc, sym, true, zero, ℕ}
 use Rattle.dwp_bytes.proofs.relocation.relocated.Goals as goal
 
 -- each offset is below those further on

@@ -1,6 +1,5 @@
-use Rattle.std.proofs.Common.{◌≡◌, ◌++◌, drop}
-use Rattle.dwp_elf_read.specs.View.{elf}
-use Rattle.dwp_decompress.specs.Names.{added_names}
+use Rattle.{dwp_decompress.specs.Names.added_names, dwp_elf_read.specs.View.elf}
+use Rattle.std.proofs.Common.{drop, ◌++◌, ◌≡◌}
 use Rattle.dwp_decompress.proofs.sizes.added_names.Given as goal
 
 -- those so far and those that are left are all

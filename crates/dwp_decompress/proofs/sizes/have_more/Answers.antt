@@ -1,6 +1,6 @@
-use Rattle.std.proofs.Common.{◌∙◌, sym, ap, arith, option_map}
+use Rattle.std.proofs.Common.{ap, arith, option_map, sym, ◌∙◌}
+use Rattle.dwp_decompress.proofs.Sections.{size_past}
 use Rattle.dwp_elf_read.specs.View.{elf, section}
-use Rattle.dwp_decompress.proofs.Sums.{size_past}
 use Rattle.dwp_decompress.proofs.sizes.have_more.Goals as goal
 
 pub returns-then-left-size : goal.returns-then-left-size

@@ -1,6 +1,5 @@
-use Rattle.std.proofs.Common.{◌≡◌, drop, nat_lt}
-use Rattle.dwp_elf_read.specs.View.{elf}
-use Rattle.dwp_decompress.specs.Sizes.{compressed_size}
+use Rattle.{dwp_decompress.specs.Sizes.compressed_size, dwp_elf_read.specs.View.elf}
+use Rattle.std.proofs.Common.{drop, nat_lt, ◌≡◌}
 use Rattle.dwp_decompress.proofs.sizes.have_more.Given as goal
 
 -- those that are left have more than the room that is left

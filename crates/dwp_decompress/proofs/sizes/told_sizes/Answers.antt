@@ -1,8 +1,7 @@
-use Rattle.std.proofs.Common.{◌∙◌, sym, ap, arith, option_map}
-use Rattle.std.proofs.lemmas.Result.{err_from_is_err_and}
+use Rattle.{dwp_decompress.specs.Headers.told_sizes, std.proofs.lemmas.Result.err_from_is_err_and}
+use Rattle.dwp_decompress.proofs.Sections.{none_plus, told_end, told_fail, told_step}
+use Rattle.std.proofs.Common.{ap, arith, option_map, sym, ◌∙◌}
 use Rattle.dwp_elf_read.specs.View.{elf, section}
-use Rattle.dwp_decompress.specs.Headers.{told_sizes}
-use Rattle.dwp_decompress.proofs.Sums.{none_plus, told_step, told_fail, told_end}
 use Rattle.dwp_decompress.proofs.sizes.told_sizes.Goals as goal
 
 pub loop-i-init : goal.loop-i-init

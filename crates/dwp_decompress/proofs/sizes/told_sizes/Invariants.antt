@@ -1,6 +1,6 @@
-use Rattle.std.proofs.Common.{drop, ◌≡◌}
+use Rattle.dwp_decompress.{proofs.Sections.plus, specs.Headers.told_sizes}
 use Rattle.dwp_elf_read.specs.View.{elf}
-use Rattle.dwp_decompress.{proofs.Sums.plus, specs.Headers.told_sizes}
+use Rattle.std.proofs.Common.{drop, ◌≡◌}
 use Rattle.dwp_decompress.proofs.sizes.told_sizes.Given as goal
 
 -- those so far and those that are left are all

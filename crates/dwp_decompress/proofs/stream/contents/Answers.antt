@@ -1,12 +1,11 @@
-use Rattle.dwp_decompress.proofs.stream.contents.Goals as goal
-use Rattle.std.proofs.Common.{ap, arith, Option, sym, ℕ, ◌∙◌}
+use Rattle.{dwp_base.proofs.Finds.slice_get_none, dwp_elf_read.specs.View.elf, std.specs.Global.Vec}
 use Rattle.dwp_decompress.proofs.Sections.{behind_none, contents_end, contents_fail, contents_step}
 use Rattle.dwp_decompress.proofs.stream.contents.Goals.{in-Some+in_ok-content+in_ok-push}
-use Rattle.std.{proofs.lemmas.Result.err_from_is_err_and, specs.Global.Vec}
-use Rattle.dwp_elf_read.specs.View.{elf}
-use Rattle.dwp_decompress.specs.Result.{contents_of, plain_contents}
 use Rattle.dwp_decompress.proofs.{Sections.plain_more, stream.contents.Goals.in_default}
-use Rattle.dwp_base.proofs.Finds.{slice_get_none}
+use Rattle.dwp_decompress.specs.Result.{contents_of, plain_contents}
+use Rattle.std.proofs.Common.{ap, arith, Option, sym, ℕ, ◌∙◌}
+use Rattle.std.proofs.lemmas.Result.{err_from_is_err_and}
+use Rattle.dwp_decompress.proofs.stream.contents.Goals as goal
 
 pub loop-i-init : goal.loop-i-init
 loop-i-init c = rw c.new-contents.ensures.items

@@ -1,7 +1,6 @@
-use Rattle.std.proofs.Common.{◌≡◌, drop}
-use Rattle.dwp_elf_read.specs.View.{elf}
+use Rattle.{dwp_decompress.proofs.Sections.behind, dwp_elf_read.specs.View.elf}
 use Rattle.dwp_decompress.specs.Result.{contents_of, plain_contents}
-use Rattle.dwp_decompress.proofs.Sections.{behind}
+use Rattle.std.proofs.Common.{drop, ◌≡◌}
 use Rattle.dwp_decompress.proofs.stream.contents.Given as goal
 
 -- those so far and those that are left are all

@@ -1,5 +1,4 @@
-use Rattle.dwp_units.proofs.Readings.{shorter}
-use Rattle.dwp_dwarf.proofs.Tables.{reads_specification}
+use Rattle.{dwp_dwarf.proofs.Tables.reads_specification, dwp_units.proofs.Readings.shorter}
 use Rattle.dwp_dwarf.proofs.abbrev.after_specifications.Goals as goal
 
 pub loop-specification-smaller : goal.loop-specification-smaller

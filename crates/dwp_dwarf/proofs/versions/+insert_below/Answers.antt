@@ -1,7 +1,5 @@
-use Rattle.dwp_dwarf.proofs.Terms.{◌∙◌}
-use Rattle.std.proofs.lemmas.Option.{IfSome_then}
-use Rattle.dwp_dwarf.proofs.Keys.{if_both}
-use Rattle.dwp_dwarf.proofs.NewVersions.{value_here, others_here, value_beside, others_beside}
+use Rattle.dwp_dwarf.proofs.Places.{if_both, others_beside, others_here, value_beside, value_here}
+use Rattle.{dwp_dwarf.proofs.Terms.◌∙◌, std.proofs.lemmas.Option.IfSome_then}
 use Rattle.dwp_dwarf.proofs.versions.+insert_below.Goals as goal
 
 pub returns-then-key-eq0-clause-value : goal.returns-then-key-eq0-clause-value

@@ -1,5 +1,6 @@
-use Rattle.dwp_elf.proofs.Terms.{ap, arith, common_steps, length, refl}
-use Rattle.dwp_elf.proofs.Changes.{at_first, absent, contents_of-set_same}
+use Rattle.dwp_elf.proofs.Changes.{absent, at_first, contents_of-set_same}
+use Rattle.std.proofs.Common.{ap, arith, length, refl}
+use Rattle.std.proofs.lemmas.Grind.{common_steps}
 use Rattle.dwp_elf.proofs.object.append_to.Goals as goal
 
 pub returns-in_err-append_by_pieces-in-Some-clause-unchanged :

@@ -1,6 +1,6 @@
-use Rattle.dwp_elf.proofs.Terms.{ap, arith, common_steps, length}
-use Rattle.dwp_elf.proofs.Parts.{length-content_bytes-drop, content_bytes-end}
-use Rattle.dwp_elf.proofs.Parts.{length-names_of-drop, names_of-end, length-name_of}
+use Rattle.dwp_elf.proofs.ReadingBack.{content_bytes-end, length-content_bytes-drop, length-name_of}
+use Rattle.std.proofs.{Common.ap, Common.arith, Common.length, lemmas.Grind.common_steps}
+use Rattle.dwp_elf.proofs.ReadingBack.{length-names_of-drop, names_of-end}
 use Rattle.dwp_elf.proofs.output.sizes_of.Goals as goal
 
 pub returns-in_err-contents-clause-contents : goal.returns-in_err-contents-clause-contents

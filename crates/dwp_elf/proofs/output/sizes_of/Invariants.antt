@@ -1,5 +1,6 @@
-use Rattle.dwp_elf.proofs.Terms
-use Terms.{◌*◌, ◌+◌, content_bytes, contents_of, drop, length, name_table, names_of, ◌≡◌, ◌≤◌}
+use Rattle.dwp_elf.specs.FileText.{content_bytes, name_table, names_of}
+use Rattle.std.proofs.Common.{drop, length, ◌*◌, ◌+◌, ◌≡◌, ◌≤◌}
+use Rattle.dwp_elf.specs.Contents.{contents_of}
 use Rattle.dwp_elf.proofs.output.sizes_of.Given as goal
 
 abbrev pub invariant-loop-section : goal.invariant-loop-section

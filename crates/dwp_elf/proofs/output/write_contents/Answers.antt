@@ -1,5 +1,5 @@
-use Rattle.dwp_elf.proofs.Parts.{content_bytes-drop, content_bytes-end}
-use Rattle.dwp_elf.proofs.SoFar.{so_far_more, so_far_part, failed}
+use Rattle.dwp_elf.proofs.ReadingBack.{content_bytes-drop, content_bytes-end}
+use Rattle.dwp_elf.proofs.SoFar.{failed, so_far_more, so_far_part}
 use Rattle.std.proofs.KnownBytes.{Appends-nil}
 use Rattle.dwp_elf.proofs.output.write_contents.Goals as goal
 

@@ -1,5 +1,5 @@
-use Rattle.dwp_elf.proofs.Terms.{content_bytes, contents_of, drop, ErrorKind}
-use Rattle.dwp_elf.proofs.SoFar.{SoFar}
+use Rattle.dwp_elf.{proofs.SoFar.SoFar, specs.Contents.contents_of, specs.FileText.content_bytes}
+use Rattle.std.{proofs.Common.drop, specs.declared.io.ErrorKind.ErrorKind}
 use Rattle.dwp_elf.proofs.output.write_contents.Given as goal
 
 abbrev pub invariant-loop-section : goal.invariant-loop-section

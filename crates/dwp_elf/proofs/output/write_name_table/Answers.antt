@@ -1,6 +1,6 @@
-use Rattle.dwp_elf.proofs.Terms.{codes, refl, [], ◌++◌, ◌∙◌, ◌∷◌}
 use Rattle.dwp_elf.proofs.SoFar.{part_before, so_far_more, so_far_none, so_far_part, Writes-so_far}
-use Rattle.dwp_elf.proofs.{Parts.names_of-drop-more, Parts.names_of-end, SoFar.failed}
+use Rattle.dwp_elf.proofs.{ReadingBack.names_of-drop-more, ReadingBack.names_of-end, SoFar.failed}
+use Rattle.std.proofs.Common.{codes, refl, [], ◌++◌, ◌∙◌, ◌∷◌}
 use Rattle.dwp_elf.proofs.output.write_name_table.Goals as goal
 
 pub returns-in_err-write_whole-clause-text : goal.returns-in_err-write_whole-clause-text

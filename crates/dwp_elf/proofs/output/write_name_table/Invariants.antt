@@ -1,6 +1,6 @@
-use Rattle.dwp_elf.proofs.Terms
-use Terms.{◌++◌, [], codes, contents_of, drop, ErrorKind, name_table, names_of, ◌∷◌}
-use Rattle.dwp_elf.proofs.SoFar.{SoFar}
+use Rattle.dwp_elf.specs.{Contents.contents_of, FileText.name_table, FileText.names_of}
+use Rattle.{dwp_elf.proofs.SoFar.SoFar, std.specs.declared.io.ErrorKind.ErrorKind}
+use Rattle.std.proofs.Common.{codes, drop, [], ◌++◌, ◌∷◌}
 use Rattle.dwp_elf.proofs.output.write_name_table.Given as goal
 
 abbrev pub invariant-loop-section : goal.invariant-loop-section

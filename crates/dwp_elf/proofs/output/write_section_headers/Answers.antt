@@ -1,6 +1,7 @@
-use Rattle.dwp_elf.proofs.Terms.{ap, arith, drop_all, headers_from, length, refl, ◌∙◌}
-use Rattle.dwp_elf.proofs.Parts.{length-content_bytes-drop, headers_from-drop, length-name_of}
-use Rattle.dwp_elf.proofs.SoFar.{so_far_more, so_far_part, Writes-so_far, failed}
+use Rattle.dwp_elf.proofs.ReadingBack.{headers_from-drop, length-content_bytes-drop, length-name_of}
+use Rattle.dwp_elf.proofs.SoFar.{failed, so_far_more, so_far_part, Writes-so_far}
+use Rattle.{dwp_elf.specs.FileText.headers_from, std.proofs.lemmas.List.drop_all}
+use Rattle.std.proofs.Common.{ap, arith, length, refl, ◌∙◌}
 use Rattle.dwp_elf.proofs.output.write_section_headers.Goals as goal
 
 pub section_header-header-requires-clause-size_fits :

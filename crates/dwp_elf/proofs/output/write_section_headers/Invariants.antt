@@ -1,7 +1,7 @@
-use Rattle.dwp_elf.proofs.Terms
-use Terms.{◌*◌, ◌+◌, content_bytes, contents_of, drop, ErrorKind, header_size, headers_from, length}
-use Terms.{◌≡◌, ◌≤◌}
-use Rattle.dwp_elf.proofs.SoFar.{SoFar}
+use Rattle.dwp_elf.specs.{Contents.contents_of, FileText.content_bytes, FileText.headers_from}
+use Rattle.{dwp_elf.proofs.SoFar.SoFar, dwp_elf_read.specs.Layout.header_size}
+use Rattle.std.proofs.Common.{drop, length, ◌*◌, ◌+◌, ◌≡◌, ◌≤◌}
+use Rattle.std.specs.declared.io.ErrorKind.{ErrorKind}
 use Rattle.dwp_elf.proofs.output.write_section_headers.Given as goal
 
 abbrev pub invariant-loop-section : goal.invariant-loop-section

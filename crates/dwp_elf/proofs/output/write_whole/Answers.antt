@@ -1,7 +1,7 @@
-use Rattle.dwp_elf.proofs.Terms.{[], ap, arith, length, sym, take, take_rest, ◌++◌, ◌<◌, ◌∙◌}
-use Rattle.std.proofs.{Common.take-append-drop, lemmas.Bool.Decides.nat_tests}
-use Rattle.std.proofs.KnownBytes.{Appends-kept, Appends-nil}
+use Rattle.std.proofs.Common.{ap, arith, length, sym, take, take-append-drop, [], ◌++◌, ◌<◌, ◌∙◌}
+use Rattle.std.proofs.{KnownBytes.Appends-kept, KnownBytes.Appends-nil, lemmas.List.take_rest}
 use Rattle.dwp_elf.proofs.SoFar.{failed, so_far_more, so_far_none}
+use Rattle.std.proofs.lemmas.Bool.Decides.{nat_tests}
 use Rattle.dwp_elf.proofs.output.write_whole.Goals as goal
 
 pub loop-rest-init : goal.loop-rest-init

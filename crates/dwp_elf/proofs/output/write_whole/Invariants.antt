@@ -1,4 +1,5 @@
-use Rattle.dwp_elf.proofs.{SoFar.SoFar, Terms.ErrorKind, Terms.length}
+use Rattle.{dwp_elf.proofs.SoFar.SoFar, std.proofs.Common.length}
+use Rattle.std.specs.declared.io.ErrorKind.{ErrorKind}
 use Rattle.dwp_elf.proofs.output.write_whole.Given as goal
 
 abbrev pub invariant-loop-rest : goal.invariant-loop-rest

@@ -1,7 +1,7 @@
+use Rattle.dwp_index.{proofs.Packages.met-next, specs.Firsts.found_in}
 use Rattle.std.proofs.Common.{ap, arith, option_map, sym, ◌∙◌}
-use Rattle.dwp_index.proofs.{HeldContents.met-next, Terms.elf, Terms.found_in}
 use Rattle.dwp_base.proofs.Finds.{slice_get_none}
-use Rattle.dwp_elf_read.specs.View.{section}
+use Rattle.dwp_elf_read.specs.View.{elf, section}
 use Rattle.dwp_index.proofs.contents.first_sections.Goals.{in-Some, in_default}
 use Rattle.dwp_index.proofs.contents.first_sections.Goals as goal
 

@@ -1,4 +1,5 @@
-use Rattle.dwp_index.proofs.{HeldContents.IsMet, Terms.elf, Terms.found_in, Terms.SectionKind}
+use Rattle.{dwp_base.specs.declared.section.SectionKind.SectionKind, dwp_elf_read.specs.View.elf}
+use Rattle.dwp_index.{proofs.Packages.IsMet, specs.Firsts.found_in}
 use Rattle.dwp_index.proofs.contents.first_sections.Given as goal
 
 -- of each kind the first of the sections so far was met

@@ -1,6 +1,6 @@
+use Rattle.dwp_index.proofs.Packages.{met-first, met-later, passed-empty, passed-foreign}
 use Rattle.std.proofs.Common.{None, ap, not, sym, ◌∙◌}
-use Rattle.dwp_index.proofs.Terms.{found_in}
-use Rattle.dwp_index.proofs.HeldContents.{met-first, met-later, passed-empty, passed-foreign}
+use Rattle.dwp_index.specs.Firsts.{found_in}
 use Rattle.dwp_index.proofs.contents.meet.Goals as goal
 
 pub returns-then-is_empty : goal.returns-then-is_empty

@@ -1,5 +1,5 @@
-use Rattle.dwp_index.proofs.HeldContents.{another_kind, empty, foreign, held_content, held_in_order}
-use Rattle.dwp_index.proofs.HeldContents.{index_missing, index_there, package_is}
+use Rattle.dwp_index.proofs.Packages.{another_kind, empty, foreign, index_there, package_is}
+use Rattle.dwp_index.proofs.Packages.{held_content, held_in_order, index_missing}
 use Rattle.dwp_index.proofs.laws.contents_are_read.Goals as goal
 
 pub returns : goal.returns

@@ -1,4 +1,4 @@
-use Rattle.dwp_index.proofs.PackageLookUp.{absent_unit, no_index, present_unit}
+use Rattle.dwp_index.proofs.Packages.{absent_unit, no_index, present_unit}
 use Rattle.dwp_index.proofs.laws.packages_find_exactly.Goals as goal
 
 pub returns : goal.returns

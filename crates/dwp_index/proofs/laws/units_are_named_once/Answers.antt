@@ -1,4 +1,4 @@
-use Rattle.dwp_index.proofs.UsedOnce.{entries_once, slots_once}
+use Rattle.dwp_index.proofs.Indexes.{entries_once, slots_once}
 use Rattle.dwp_index.proofs.laws.units_are_named_once.Goals as goal
 
 pub returns : goal.returns

@@ -1,7 +1,8 @@
 use Rattle.std.proofs.Common.{ap, arith, false, is_none, is_some, refl, sym, true, ◌-◌, ◌∙◌, ◌≡◌}
-use Rattle.dwp_index.proofs.Columns.{among, done, further, none_yet, one_more, says_none, says_some}
-use Rattle.dwp_index.proofs.Terms.{kind_of_column, NO_COLUMN, numbers}
-use Rattle.dwp_index.proofs.{Columns.ends, NumberLists.length-numbers, NumberLists.numbers_more}
+use Rattle.dwp_index.proofs.Indexes.{among, done, ends, further, none_yet, one_more, says_none}
+use Rattle.dwp_index.proofs.Indexes.{length-numbers, numbers_more, says_some}
+use Rattle.dwp_index.specs.{IndexBytes.numbers, Places.NO_COLUMN}
+use Rattle.dwp_table.specs.Columns.{kind_of_column}
 use Rattle.dwp_index.proofs.parsing.read_columns.Goals as goal
 
 pub loop-i-init : goal.loop-i-init

@@ -1,5 +1,6 @@
-use Rattle.std.proofs.Common.{length, [], ◌*◌, ◌≡◌, ◌≤◌}
-use Rattle.dwp_index.proofs.{Columns.Behind, Terms.ArePlaces, Terms.columns_at, Terms.numbers}
+use Rattle.dwp_index.{proofs.Indexes.Behind, specs.Places.ArePlaces}
+use Rattle.dwp_index.specs.IndexBytes.{columns_at, numbers}
+use Rattle.std.proofs.Common.{[], length, ◌*◌, ◌≡◌, ◌≤◌}
 use Rattle.dwp_index.proofs.parsing.read_columns.Given as goal
 
 abbrev pub invariant-loop-i : goal.invariant-loop-i

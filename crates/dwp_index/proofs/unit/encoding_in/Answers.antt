@@ -1,5 +1,5 @@
 use Rattle.std.proofs.Common.{arith, refl, sym, ◌+◌, ◌-◌, ◌∙◌, ◌≡◌}
-use Rattle.dwp_index.proofs.FirstUnit.{split_encoding}
+use Rattle.dwp_index.proofs.UnitBytes.{split_encoding}
 use Rattle.dwp_index.proofs.unit.encoding_in.Goals as goal
 
 pub returns-then-body-eq8 : goal.returns-then-body-eq8

@@ -1,5 +1,4 @@
-use Rattle.std.proofs.Common.{◌≡◌}
-use Rattle.dwp_index.specs.Used.{used_in}
+use Rattle.{dwp_index.specs.Used.used_in, std.proofs.Common.◌≡◌}
 use Rattle.dwp_index.proofs.units.used_slot.Given as goal
 
 abbrev pub invariant-loop-slot : goal.invariant-loop-slot

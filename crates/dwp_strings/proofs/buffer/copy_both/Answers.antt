@@ -1,5 +1,5 @@
-use Rattle.dwp_strings.proofs.Terms.{arith, eqb-true, ◌-◌, ◌∙◌}
-use Rattle.dwp_strings.proofs.LaneLemmas.{both_some}
+use Rattle.std.proofs.Common.{arith, eqb-true, ◌-◌, ◌∙◌}
+use Rattle.dwp_strings.proofs.Lanes.{both_some}
 use Rattle.dwp_strings.proofs.buffer.copy_both.Goals as goal
 
 pub returns : goal.returns

@@ -1,4 +1,5 @@
-use Rattle.dwp_strings.proofs.{LaneLemmas.lanes_some, Terms.arith, Terms.leb-true}
+use Rattle.dwp_strings.proofs.Lanes.{lanes_some}
+use Rattle.std.proofs.Common.{arith, leb-true}
 use Rattle.dwp_strings.proofs.buffer.copy_ended.Goals as goal
 
 pub returns-then-end-lt-HALF : goal.returns-then-end-lt-HALF

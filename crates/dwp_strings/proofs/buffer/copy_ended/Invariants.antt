@@ -1,4 +1,5 @@
-use Rattle.dwp_strings.proofs.Terms.{IsCopied, slice_index, ℕ, ◌-◌, ◌<◌, ◌≢◌}
+use Rattle.std.proofs.Common.{slice_index, ℕ, ◌-◌, ◌<◌, ◌≢◌}
+use Rattle.dwp_strings.specs.Ends.{IsCopied}
 use Rattle.dwp_strings.proofs.buffer.copy_ended.Given as goal
 
 abbrev pub invariant-loop-at : goal.invariant-loop-at

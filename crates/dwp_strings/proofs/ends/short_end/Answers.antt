@@ -1,5 +1,6 @@
-use Rattle.dwp_strings.proofs.Terms.{arith, cases_lt, refl, ◌*◌, ◌+◌, ◌-◌}
-use Rattle.dwp_strings.proofs.LaneLemmas.{lanes_some, lanes_zero}
+use Rattle.dwp_strings.proofs.Lanes.{lanes_some, lanes_zero}
+use Rattle.std.proofs.Common.{arith, refl, ◌*◌, ◌+◌, ◌-◌}
+use Rattle.std.proofs.lemmas.Bool.{cases_lt}
 use Rattle.dwp_strings.proofs.ends.short_end.Goals as goal
 
 pub returns-then-some-lt-LANES-clause-some : goal.returns-then-some-lt-LANES-clause-some

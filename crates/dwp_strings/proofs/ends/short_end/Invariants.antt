@@ -1,4 +1,4 @@
-use Rattle.dwp_strings.proofs.Terms.{length, slice_index, ℕ, ◌*◌, ◌<◌, ◌≢◌, ◌≤◌}
+use Rattle.std.proofs.Common.{length, slice_index, ℕ, ◌*◌, ◌<◌, ◌≢◌, ◌≤◌}
 use Rattle.dwp_strings.proofs.ends.short_end.Given as goal
 
 abbrev pub invariant-loop-round : goal.invariant-loop-round

@@ -1,5 +1,4 @@
-use Rattle.dwp_strings.proofs.Terms.{refl}
-use Rattle.std.specs.Hash.FoldHasher.{folded_multiply}
+use Rattle.std.{proofs.Common.refl, specs.Hash.FoldHasher.folded_multiply}
 use Rattle.dwp_strings.proofs.hash.folded_multiply.Goals as goal
 
 pub returns : goal.returns

@@ -1,5 +1,5 @@
-use Rattle.dwp_strings.proofs.Terms.{arith, refl, ◌+◌, ◌∙◌}
-use Rattle.dwp_strings.proofs.HashLemmas.{mixed_first, mixed_more, mixed_all}
+use Rattle.dwp_strings.proofs.Hashed.{mixed_all, mixed_first, mixed_more}
+use Rattle.std.proofs.Common.{arith, refl, ◌+◌, ◌∙◌}
 use Rattle.dwp_strings.proofs.hash.long_hash.Goals as goal
 
 pub loop-at-init : goal.loop-at-init

@@ -1,5 +1,5 @@
-use Rattle.dwp_strings.proofs.Terms.{◌%◌, ◌-◌, ◌<◌, length, ◌≡◌}
-use Rattle.dwp_strings.proofs.HashLemmas.{mixed_to}
+use Rattle.std.proofs.Common.{length, ◌%◌, ◌-◌, ◌<◌, ◌≡◌}
+use Rattle.dwp_strings.proofs.Hashed.{mixed_to}
 use Rattle.dwp_strings.proofs.hash.long_hash.Given as goal
 
 abbrev pub invariant-loop-at : goal.invariant-loop-at

@@ -1,5 +1,5 @@
-use Rattle.dwp_strings.proofs.{HashLemmas.read_behind, Terms.arith, Terms.take_rest}
-use Rattle.std.specs.Hash.FoldHasher.{read_u64}
+use Rattle.{dwp_strings.proofs.Hashed.read_behind, std.specs.Hash.FoldHasher.read_u64}
+use Rattle.std.proofs.{Common.arith, lemmas.List.take_rest}
 use Rattle.dwp_strings.proofs.hash.word_at.Goals as goal
 
 pub returns : goal.returns

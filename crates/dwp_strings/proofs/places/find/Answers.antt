@@ -1,4 +1,5 @@
-use Rattle.dwp_strings.proofs.{PlacesLemmas.free_past, PlacesLemmas.none_of, Terms.arith}
+use Rattle.dwp_strings.proofs.Hashed.{free_past, none_of}
+use Rattle.std.proofs.Common.{arith}
 use Rattle.dwp_strings.proofs.places.find.Goals as goal
 
 pub loop-number-init : goal.loop-number-init

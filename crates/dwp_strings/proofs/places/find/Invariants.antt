@@ -1,4 +1,4 @@
-use Rattle.dwp_strings.proofs.{PlacesLemmas.ArePassed, Terms.home}
+use Rattle.dwp_strings.{proofs.Hashed.ArePassed, specs.Places.home}
 use Rattle.dwp_strings.proofs.places.find.Given as goal
 
 abbrev pub invariant-loop-number : goal.invariant-loop-number

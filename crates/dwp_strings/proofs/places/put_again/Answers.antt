@@ -1,5 +1,6 @@
-use Rattle.dwp_strings.proofs.Terms.{arith, free, get_or, home, place_of, refl, ◌-◌}
-use Rattle.dwp_strings.proofs.PlacesLemmas.{each_from, slot_within}
+use Rattle.dwp_strings.proofs.Hashed.{each_from, slot_within}
+use Rattle.dwp_strings.specs.Places.{free, home, place_of}
+use Rattle.std.proofs.Common.{arith, get_or, refl, ◌-◌}
 use Rattle.dwp_strings.proofs.places.put_again.Goals as goal
 
 pub loop-number-preserved : goal.loop-number-preserved

@@ -1,4 +1,5 @@
-use Rattle.dwp_strings.proofs.Terms.{Some, free, get_or, place_of, ℕ, ◌-◌, ◌<◌, ◌≡◌, ◌≢◌}
+use Rattle.std.proofs.Common.{Some, get_or, ℕ, ◌-◌, ◌<◌, ◌≡◌, ◌≢◌}
+use Rattle.dwp_strings.specs.Places.{free, place_of}
 use Rattle.dwp_strings.proofs.places.put_again.Given as goal
 
 abbrev pub invariant-loop-number : goal.invariant-loop-number

@@ -1,5 +1,5 @@
-use Rattle.dwp_strings.proofs.Terms.{Some, ap, arith, place_of, ◌∙◌}
-use Rattle.dwp_strings.proofs.PlacesLemmas.{kept_from, put_from}
+use Rattle.dwp_strings.{proofs.Hashed.kept_from, proofs.Hashed.put_from, specs.Places.place_of}
+use Rattle.std.proofs.Common.{Some, ap, arith, ◌∙◌}
 use Rattle.dwp_strings.proofs.places.put_next.Goals as goal
 
 pub returns-clause-put : goal.returns-clause-put

@@ -1,4 +1,4 @@
-use Rattle.dwp_strings.proofs.Terms.{length, slice_index, ◌-◌, ◌<◌, ◌≤◌}
+use Rattle.std.proofs.Common.{length, slice_index, ◌-◌, ◌<◌, ◌≤◌}
 use Rattle.dwp_strings.proofs.positions.chunk_of.Given as goal
 
 abbrev pub invariant-loop-high : goal.invariant-loop-high

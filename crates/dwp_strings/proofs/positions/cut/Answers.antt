@@ -1,8 +1,8 @@
-use Rattle.dwp_strings.proofs.Terms.{arith, get_or, get_or_read, length, [], ◌+◌, ◌/◌, ◌<◌, ◌≡◌}
-use Rattle.dwp_strings.proofs.ChunkLemmas.{halves_begun, halves_short, length-pieces, piece_halved}
-use Rattle.dwp_strings.proofs.ChunkLemmas.{counts, halves_same, piece_read, start_within}
-use Rattle.dwp_strings.proofs.{positions.cut.Goals.After-index, Terms.pieces}
-use Rattle.dwp_strings.specs.Chunks.{IsHalved}
+use Rattle.{dwp_strings.proofs.positions.cut.Goals.After-index, std.proofs.lemmas.List.get_or_read}
+use Rattle.dwp_strings.proofs.Chunks.{halves_begun, halves_short, piece_halved, piece_read}
+use Rattle.dwp_strings.proofs.Chunks.{counts, halves_same, length-pieces, start_within}
+use Rattle.std.proofs.Common.{[], arith, get_or, length, ◌+◌, ◌/◌, ◌<◌, ◌≡◌}
+use Rattle.dwp_strings.specs.Chunks.{IsHalved, pieces}
 use Rattle.dwp_strings.proofs.positions.cut.Goals as goal
 
 there : (c : goal.After-index) → c.args.at < length (pieces c.args.chunks.now.items)

@@ -1,8 +1,8 @@
-use Rattle.std.proofs.lemmas.Fn.{filter_same}
-use Rattle.dwp_strings.proofs.Terms.{List, arith, filter, get_or-set_at, length, nat_lt, pieces}
-use Rattle.dwp_strings.proofs.Terms.{rules, ℕ, ◌+◌, ◌<◌, ◌≡◌}
-use Rattle.dwp_strings.proofs.ChunkLemmas.{chunked_all, counts, kept_all, kept_more, kept_within}
-use Rattle.dwp_strings.proofs.ChunkLemmas.{length-pieces, piece_changed, pieces-set, short_filter}
+use Rattle.dwp_strings.proofs.Chunks.{kept_within, length-pieces, piece_changed, short_filter}
+use Rattle.dwp_strings.proofs.Chunks.{chunked_all, counts, kept_all, kept_more, pieces-set}
+use Rattle.std.proofs.Common.{List, arith, filter, length, nat_lt, rules, ℕ, ◌+◌, ◌<◌, ◌≡◌}
+use Rattle.std.proofs.lemmas.{Fn.filter_same, Grind.get_or-set_at}
+use Rattle.dwp_strings.specs.Chunks.{pieces}
 use Rattle.dwp_strings.proofs.positions.keep_all.Goals as goal
 
 pub loop-at-preserved : goal.loop-at-preserved

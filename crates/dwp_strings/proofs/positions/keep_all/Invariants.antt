@@ -1,4 +1,5 @@
-use Rattle.dwp_strings.proofs.{ChunkLemmas.IsKept, Terms.filter, Terms.nat_lt, Terms.pieces}
+use Rattle.dwp_strings.{proofs.Chunks.IsKept, specs.Chunks.pieces}
+use Rattle.std.proofs.Common.{filter, nat_lt}
 use Rattle.dwp_strings.proofs.positions.keep_all.Given as goal
 
 abbrev pub invariant-loop-at : goal.invariant-loop-at

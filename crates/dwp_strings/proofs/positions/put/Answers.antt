@@ -1,5 +1,5 @@
-use Rattle.dwp_strings.proofs.Terms.{arith, insert}
-use Rattle.dwp_strings.proofs.ChunkLemmas.{piece_changed, piece_unchanged}
+use Rattle.dwp_strings.proofs.Chunks.{piece_changed, piece_unchanged}
+use Rattle.std.proofs.Common.{arith, insert}
 use Rattle.dwp_strings.proofs.positions.put.Goals as goal
 
 pub returns-in_err-insert-clause-err : goal.returns-in_err-insert-clause-err

@@ -1,4 +1,5 @@
-use Rattle.dwp_strings.proofs.Terms.{arith, drop, elements, ext_get_or, get_or-map, ◌+◌, ◌-◌}
+use Rattle.std.proofs.Common.{arith, drop, ext_get_or, ◌+◌, ◌-◌}
+use Rattle.std.proofs.lemmas.{Grind.elements, List.get_or-map}
 use Rattle.dwp_strings.proofs.positions.raise.Goals as goal
 
 pub returns : goal.returns

@@ -1,4 +1,4 @@
-use Rattle.dwp_strings.proofs.Terms.{slice_index, ℕ, ◌+◌, ◌<◌, ◌≡◌, ◌≤◌}
+use Rattle.std.proofs.Common.{slice_index, ℕ, ◌+◌, ◌<◌, ◌≡◌, ◌≤◌}
 use Rattle.dwp_strings.proofs.positions.raise.Given as goal
 
 abbrev pub invariant-loop-i : goal.invariant-loop-i

@@ -1,5 +1,6 @@
-use Rattle.dwp_strings.proofs.Terms.{arith, get_or_read, length, pieces, rules, ◌<◌, ◌∙◌}
-use Rattle.dwp_strings.proofs.ChunkLemmas.{IsInHalf, counts, halves_room, in_half}
+use Rattle.{dwp_strings.specs.Chunks.pieces, std.proofs.lemmas.List.get_or_read}
+use Rattle.dwp_strings.proofs.Chunks.{IsInHalf, counts, halves_room, in_half}
+use Rattle.std.proofs.Common.{arith, length, rules, ◌<◌, ◌∙◌}
 use Rattle.dwp_strings.proofs.positions.room_at.Goals.{In_ok-cut}
 use Rattle.dwp_strings.proofs.positions.room_at.Goals as goal
 

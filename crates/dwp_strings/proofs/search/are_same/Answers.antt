@@ -1,5 +1,5 @@
-use Rattle.dwp_strings.proofs.Terms.{arith, eqb-true, ◌-◌}
-use Rattle.dwp_strings.proofs.LaneLemmas.{lanes_same}
+use Rattle.std.proofs.Common.{arith, eqb-true, ◌-◌}
+use Rattle.dwp_strings.proofs.Lanes.{lanes_same}
 use Rattle.dwp_strings.proofs.search.are_same.Goals as goal
 
 pub returns : goal.returns

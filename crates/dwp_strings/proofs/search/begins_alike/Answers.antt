@@ -1,5 +1,5 @@
-use Rattle.dwp_strings.proofs.Terms.{arith, drop, get_or-drop, length-drop, take_rest}
-use Rattle.dwp_strings.proofs.CompareLemmas.{alike_front}
+use Rattle.{dwp_strings.proofs.Named.alike_front, std.proofs.lemmas.List.take_rest}
+use Rattle.std.proofs.Common.{arith, drop, get_or-drop, length-drop}
 use Rattle.dwp_strings.proofs.search.begins_alike.Goals as goal
 
 pub returns-then-bytes-at-eq0 : goal.returns-then-bytes-at-eq0

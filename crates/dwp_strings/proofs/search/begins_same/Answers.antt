@@ -1,5 +1,5 @@
-use Rattle.dwp_strings.proofs.Terms.{arith, leb-true}
-use Rattle.dwp_strings.proofs.LaneLemmas.{lanes_same_before, same_fronts}
+use Rattle.dwp_strings.proofs.Lanes.{lanes_same_before, same_fronts}
+use Rattle.std.proofs.Common.{arith, leb-true}
 use Rattle.dwp_strings.proofs.search.begins_same.Goals as goal
 
 pub returns-then-count-lt-LANES : goal.returns-then-count-lt-LANES

@@ -1,4 +1,4 @@
-use Rattle.dwp_strings.proofs.Terms.{slice_index, ℕ, ◌-◌, ◌<◌, ◌≡◌}
+use Rattle.std.proofs.Common.{slice_index, ℕ, ◌-◌, ◌<◌, ◌≡◌}
 use Rattle.dwp_strings.proofs.search.begins_same.Given as goal
 
 abbrev pub invariant-loop-at : goal.invariant-loop-at

@@ -1,6 +1,6 @@
-use Rattle.dwp_strings.proofs.Terms.{arith, exact_bytes, sym, ◌∙◌}
-use Rattle.dwp_strings.proofs.CompareLemmas.{before_more, behind_more, halved_more}
-use Rattle.dwp_strings.proofs.HashedLemmas.{known_offset_in}
+use Rattle.{dwp_strings.proofs.Hashed.known_offset_in, std.proofs.lemmas.Map.Lookups.exact_bytes}
+use Rattle.dwp_strings.proofs.Named.{before_more, behind_more, halved_more}
+use Rattle.std.proofs.Common.{arith, sym, ◌∙◌}
 use Rattle.dwp_strings.proofs.search.search.Goals as goal
 
 pub overflow_add-compared : goal.overflow_add-compared

@@ -1,5 +1,6 @@
-use Rattle.dwp_strings.proofs.Terms.{IsBefore, length, slice_index, string_from, ℕ, ◌-◌, ◌<◌, ◌≤◌}
-use Rattle.dwp_strings.proofs.CompareLemmas.{IsHalved}
+use Rattle.dwp_strings.{proofs.Named.IsHalved, specs.Strings.IsBefore}
+use Rattle.std.proofs.Common.{length, slice_index, ℕ, ◌-◌, ◌<◌, ◌≤◌}
+use Rattle.dwp_bytes.specs.StringOffsets.{string_from}
 use Rattle.dwp_strings.proofs.search.search.Given as goal
 
 abbrev pub invariant-loop-low : goal.invariant-loop-low

@@ -1,5 +1,5 @@
-use Rattle.dwp_strings.proofs.Terms.{arith, Equal-is, exact_bytes, nat_list_cmp_total, tied_itself}
-use Rattle.dwp_strings.proofs.CompareLemmas.{alike_at}
+use Rattle.{dwp_strings.proofs.Named.alike_at, std.proofs.Common.arith, std.specs.Cmp.Equal-is}
+use Rattle.std.proofs.lemmas.{Cmp.nat_list_cmp_total, Cmp.tied_itself, Map.Lookups.exact_bytes}
 use Rattle.dwp_strings.proofs.search.stands_at.Goals as goal
 
 pub returns-then-rest-string : goal.returns-then-rest-string

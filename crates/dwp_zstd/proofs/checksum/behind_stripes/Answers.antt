@@ -1,7 +1,7 @@
-use Rattle.dwp_zstd.proofs.Terms.{◌+◌, ◌-◌, ◌<◌, ◌≡◌, arith, common_steps, drop, List, refl, ℕ}
-use Rattle.dwp_zstd.proofs.Rounds.{no_round, one_round}
+use Rattle.dwp_zstd.{proofs.Loops.one_round, specs.declared.checksum.Accumulators.Accumulators}
+use Rattle.{dwp_zstd.proofs.Loops.no_round, std.proofs.lemmas.Grind.common_steps}
+use Rattle.std.proofs.Common.{arith, drop, List, refl, ℕ, ◌+◌, ◌-◌, ◌<◌, ◌≡◌}
 use Rattle.dwp_zstd.specs.Checksum.{behind_stripe, behind_stripes}
-use Rattle.dwp_zstd.specs.declared.checksum.Accumulators.{Accumulators}
 use Rattle.dwp_zstd.proofs.checksum.behind_stripes.Goals as goal
 
 -- one stripe more

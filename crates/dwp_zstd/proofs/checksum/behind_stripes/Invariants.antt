@@ -1,4 +1,4 @@
-use Rattle.dwp_zstd.proofs.Terms.{◌*◌, ◌+◌, ◌-◌, ◌/◌, length, ◌≡◌}
+use Rattle.std.proofs.Common.{length, ◌*◌, ◌+◌, ◌-◌, ◌/◌, ◌≡◌}
 use Rattle.dwp_zstd.specs.Checksum.{behind_stripes}
 use Rattle.dwp_zstd.proofs.checksum.behind_stripes.Given as goal
 

@@ -1,4 +1,4 @@
-use Rattle.dwp_zstd.proofs.Terms.{◌*◌, ◌+◌, ◌-◌, ◌/◌, length, ◌≡◌}
+use Rattle.std.proofs.Common.{length, ◌*◌, ◌+◌, ◌-◌, ◌/◌, ◌≡◌}
 use Rattle.dwp_zstd.specs.Checksum.{with_lanes}
 use Rattle.dwp_zstd.proofs.checksum.with_lanes.Given as goal
 

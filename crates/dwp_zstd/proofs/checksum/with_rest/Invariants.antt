@@ -1,5 +1,5 @@
-use Rattle.dwp_zstd.proofs.Terms.{drop, ◌≡◌}
 use Rattle.dwp_zstd.specs.Checksum.{with_bytes, with_rest}
+use Rattle.std.proofs.Common.{drop, ◌≡◌}
 use Rattle.dwp_zstd.proofs.checksum.with_rest.Given as goal
 
 abbrev pub invariant-loop-byte : goal.invariant-loop-byte

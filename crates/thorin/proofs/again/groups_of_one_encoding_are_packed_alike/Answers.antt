@@ -1,6 +1,8 @@
-use Rattle.thorin.proofs.Terms.{All-head, All-tail, HasCommonEncoding, start, units_in, [], ◌∷◌}
-use Rattle.thorin_again.specs.Again.{HaveEncodingOf}
+use Rattle.{thorin.specs.Again.HasCommonEncoding, thorin_again.specs.Again.HaveEncodingOf}
+use Rattle.std.proofs.lemmas.List.Elements.{All-head, All-tail}
 use Rattle.thorin.proofs.Running.{as-written, each-taken}
+use Rattle.thorin_join.proofs.Terms.{units_in, [], ◌∷◌}
+use Rattle.thorin_join.specs.Builder.{start}
 use Rattle.thorin.proofs.again.groups_of_one_encoding_are_packed_alike.Goals as goal
 
 pub returns-clause-encodings : goal.returns-clause-encodings

@@ -1,27 +1,27 @@
 -- What a package means as an input is what a reader of packages finds in it.
-use Rattle.thorin.proofs.Terms
-use Terms.{ap, as_error, bind-was, both, by-choice, Compilation, DwarfObject, Elf, elf_of, Encoding}
-use Terms.{encoding_of, Endianness, Err, false, find, has_name, Indexes, inl, input_meaning, inr}
-use Terms.{is-false, is-same, is_some, List, map, Meaning, None, Ok, Option, ParseFileKind, refl}
-use Terms.{Result, rules, same-ok, same-self, SectionKind, SectionMeaning, Some, Source}
-use Terms.{source_units, sym, true, TypeUnit, UnitRead, Used, [], ℕ, ◌++◌, ◌>>=◌, ◌||◌, ◌∙◌, ◌∷◌}
-use Terms.{◌≡◌, ◌⊎◌}
-use Rattle.thorin_input.specs.Used.{input_file_of, InputFile, used_bytes, used_from, used_kind}
-use Rattle.thorin_input.specs.Used.{first, has_info, has_kind, opened, with_used}
-use Rattle.dwp_index.specs.Package.{index_in_section, Package, package_of, row_bytes}
-use Rattle.thorin_join.specs.Meaning.{contributions_by, meaning_by, meaning_with, object_meaning}
-use Rattle.thorin_join.specs.Meaning.{source_meaning, unit_meaning}
-use Rattle.thorin.specs.MeaningRead.{has_index, MeansByReader, unit_of_package, unit_of_row}
-use Rattle.thorin.specs.MeaningRead.{unit_with}
-use Rattle.dwp_base.{proofs.KindsRead.read-kind, specs.Sections.all_kinds, specs.Sections.same_kind}
-use Rattle.dwp_index.specs.{Index.Index, Index.range_in, Index.Ranges, Package.part_of}
+use Rattle.thorin_join.proofs.Terms as Joined
+use Joined.{ap, as_error, bind-was, Compilation, DwarfObject, Elf, elf_of, Encoding, Endianness}
+use Joined.{Err, false, Indexes, inl, inr, is-same, is_some, List, map, Meaning, None, Ok, Option}
+use Joined.{refl, Result, same-ok, same-self, SectionKind, Some, Source, source_units, sym, true}
+use Joined.{TypeUnit, UnitRead, Used, ℕ, [], ◌++◌, ◌>>=◌, ◌||◌, ◌∙◌, ◌∷◌, ◌≡◌, ◌⊎◌}
 use Rattle.thorin_input.specs.Indexes.{index_for, index_in, indexes_of, is_package, version_test}
-use Rattle.dwp_bytes.specs.declared.error.ReadError.{ReadError}
+use Rattle.thorin_input.specs.Used.{first, has_info, has_kind, input_file_of, InputFile, opened}
+use Rattle.thorin_join.specs.Meaning.{contributions_by, input_meaning, meaning_by, meaning_with}
+use Rattle.{thorin.specs.MeaningRead.unit_of_package, thorin_errors.specs.Errors.ParseFileKind}
+use Rattle.dwp_index.specs.Package.{index_in_section, Package, package_of, part_of, row_bytes}
+use Rattle.dwp_base.proofs.{Bools.both, Bools.is-false, KindsRead.read-kind, Steps.by-choice}
+use Rattle.thorin.specs.MeaningRead.{has_index, MeansByReader, unit_of_row, unit_with}
 use Rattle.dwp_base.specs.declared.section.SectionKind.TheVariants.{CuIndex, TuIndex}
-use Rattle.dwp_index.proofs.HeldContents.{found-passes, named-of}
 use Rattle.dwp_index.specs.Contents.{content, content_among, contents_of, is_of_kind}
-use Rattle.std.proofs.lemmas.List.Folds.{find-append}
-use Rattle.thorin_input.proofs.Walking.{kind-full}
+use Rattle.thorin_join.specs.Meaning.{object_meaning, source_meaning, unit_meaning}
+use Rattle.std.proofs.{Common.find, Common.rules, lemmas.List.Folds.find-append}
+use Rattle.thorin_input.specs.Used.{used_bytes, used_from, used_kind, with_used}
+use Rattle.thorin_input.{proofs.Walking.kind-full, specs.Encodings.encoding_of}
+use Rattle.dwp_index.proofs.Packages.{found-passes, named-of}
+use Rattle.dwp_bytes.specs.declared.error.ReadError.{ReadError}
+use Rattle.dwp_elf_read.specs.Elf.{has_name, SectionMeaning}
+use Rattle.dwp_index.specs.Index.{Index, range_in, Ranges}
+use Rattle.dwp_base.specs.Sections.{all_kinds, same_kind}
 use Rattle.dwp_elf_read.specs.Identification as identification
 use Rattle.dwp_index.specs.Package as reader
 use Rattle.dwp_index.specs.declared.error.PackageError.TheVariants as errors

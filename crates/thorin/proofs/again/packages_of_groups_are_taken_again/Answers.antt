@@ -1,11 +1,11 @@
-use Rattle.thorin.proofs.Terms
-use Terms.{arith, ArePackedAlone, begun-now, CanBePackedAgain, inl, input-keeps, inr, IsSoundBegun}
-use Terms.{List, Ok, refl, start, State, taken, taken_each, written_elf, [], ℕ, ⊎_elim, ◌∙◌, ◌∷◌}
-use Terms.{◌≡◌}
-use Rattle.thorin.{proofs.Running.each-taken, proofs.Running.read-text, specs.Groups.IsUnwritten}
-use Rattle.thorin_join.specs.Builder.{order_of}
+use Rattle.thorin_join.proofs.Terms.{arith, inl, inr, IsSoundBegun, List, refl, [], ◌∙◌, ◌∷◌, ◌≡◌}
+use Rattle.thorin.{proofs.Running.each-taken, proofs.Running.read-text, specs.Groups.taken_each}
+use Rattle.thorin.specs.{Again.CanBePackedAgain, Groups.ArePackedAlone, Groups.IsUnwritten}
+use Rattle.{dwp_elf.specs.Written.written_elf, std.proofs.Common.⊎_elim}
 use Rattle.thorin_again.specs.OwnRefusals.{IsForeseen, UnlessForeseen}
-use Rattle.thorin_again.proofs.Opened.{and-then}
+use Rattle.thorin_join.proofs.{Joined.input-keeps, Terms.Ok, Terms.ℕ}
+use Rattle.thorin_join.specs.Builder.{order_of, start, State, taken}
+use Rattle.thorin_again.proofs.{Lists.begun-now, Opened.and-then}
 use Rattle.thorin.proofs.again.packages_of_groups_are_taken_again.Goals as goal
 
 pub returns-clause-alone : goal.returns-clause-alone

@@ -1,5 +1,5 @@
-use Rattle.std.proofs.lemmas.Result.{IfOk-weaker}
-use Rattle.thorin.proofs.{Running.run-accepts, Terms.IsWritten, Terms.rules, Terms.start}
+use Rattle.{std.proofs.Common.rules, thorin.proofs.Running.run-accepts, thorin.specs.Run.IsWritten}
+use Rattle.{std.proofs.lemmas.Result.IfOk-weaker, thorin_join.specs.Builder.start}
 use Rattle.thorin.proofs.again.packed_files_are_taken_again.Goals as goal
 
 pub returns-clause-again : goal.returns-clause-again

@@ -1,9 +1,10 @@
-use Rattle.thorin.proofs.Terms
-use Terms.{arith, begun-now, Encoding, input-keeps, IsOfEncoding, IsPackageOf, IsPlainOf, List, Ok}
-use Terms.{start, subst, sym, taken, units_in, ℕ, ◌≡◌}
-use Rattle.thorin.proofs.{GroupJoins.taken-joins, Running.as-written, Running.read-text}
+use Rattle.thorin_join.proofs.Terms.{arith, Encoding, List, Ok, subst, sym, units_in, ℕ, ◌≡◌}
 use Rattle.thorin_again.specs.Again.{HaveEncodingOf, input_encoding, MeansWhereTaken}
-use Rattle.thorin_join.proofs.Files.Finished.{finished-is}
+use Rattle.thorin_again.specs.{OneEncoding.IsOfEncoding, PlainInputs.IsPlainOf}
+use Rattle.thorin_join.proofs.{Files.finished-is, Joined.input-keeps}
+use Rattle.thorin_join.specs.{Builder.start, Builder.taken, Join.IsPackageOf}
+use Rattle.thorin.proofs.Running.{as-written, read-text, taken-joins}
+use Rattle.thorin_again.proofs.Lists.{begun-now}
 use Rattle.thorin.proofs.again.refused_packages_mean_what_is_read.Goals as goal
 
 pub returns-clause-taken : goal.returns-clause-taken

@@ -1,33 +1,31 @@
 -- Why inputs that were taken aren't finished: their rows are in the format, so that an index is
 -- refused for two encodings alone, or for a number of a long section. Rows of many units have a
 -- long section: a unit has at least six bytes, those of its length and of its version.
-use Rattle.thorin.proofs.Terms
-use Terms.{ap, AreTaken, arith, begun-now, bind-was, Bool, codes, content_of, Contribution, drop}
-use Terms.{Each, Encoding, Endianness, Err, ErrorValue, filter, finish_test, Format, IndexEntry}
-use Terms.{inl, InProgress, inr, is_compilation, is_some, IsSound, IsSoundBegun, length}
-use Terms.{length-append, length-drop, length-take-le, LieInside, List, names_in, nat_tests, None}
-use Terms.{not, Ok, ok_or, Option, refl, Result, SectionKind, Some, start, State, subst, takes}
-use Terms.{tests_under, true, [], ℕ, ◌*◌, ◌+◌, ◌-◌, ◌<◌, ◌>>=◌, ◌^◌, ◌∷◌, ◌≡◌, ◌≤◌, ◌⊎◌}
-use Rattle.thorin.specs.Unfinished.{AreMixed, HasLongSection, IsIndexNumber, LacksInput}
-use Rattle.thorin.proofs.GroupJoins.{taken-joins}
-use Rattle.thorin_index.specs.EntryTests.{count_test, each, format_test, index_tests, number_test}
-use Rattle.thorin_index.specs.EntryTests.{contributions_test, encoding_test, same_encoding}
-use Rattle.std.proofs.{ByRecursion.all_kept_by, lemmas.List.Filters.length-filter_both}
-use Rattle.dwp_bytes.specs.Input.{Input, number_at, section, split_at}
-use Rattle.dwp_units.specs.Units.{header_at, initial_length_at, Unit as Header, unit_at}
-use Rattle.dwp_units.specs.declared.unit.UnitSection.{UnitSection}
-use Rattle.thorin_join.specs.Laid.{is_at, IsLaid, Lie}
-use Rattle.dwp_bytes.specs.Encoding.{index_version_of}
-use Rattle.dwp_elf.specs.Growing.{Contents}
-use Rattle.dwp_table.specs.Columns.{column_of, contribution_kinds}
+use Rattle.thorin_join.proofs.Terms as Joined
+use Joined.{ap, arith, bind-was, Bool, codes, content_of, Contribution, drop, Each, Encoding}
+use Joined.{Endianness, Err, ErrorValue, filter, Format, IndexEntry, inl, InProgress, inr}
+use Joined.{is_compilation, is_some, IsSound, IsSoundBegun, length, length-append, length-drop}
+use Joined.{LieInside, List, nat_tests, None, not, Ok, Option, refl, Result, SectionKind, Some}
+use Joined.{subst, true, ℕ, [], ◌*◌, ◌+◌, ◌-◌, ◌<◌, ◌>>=◌, ◌^◌, ◌∷◌, ◌≡◌, ◌≤◌, ◌⊎◌}
+use Rattle.thorin_again.specs.{InFormat.HasEncodingOfOne, InFormat.IsInFormat, PlainInputs.AreTaken}
+use Rattle.std.proofs.lemmas.{Bool.cases_lt, List.Sums.count_by-le-length, List.Sums.length-filter}
+use Rattle.std.proofs.{ByRecursion.all_kept_by, Common.length-take-le, Common.ok_or, Common.⊎_elim}
+use Rattle.{std.proofs.lemmas.List.Filters.length-filter_both, thorin_again.proofs.Lists.begun-now}
 use Rattle.thorin_errors.specs.Errors.{MixedInputEncodings, NoOutputObjectCreated, NumberTooLarge}
+use Rattle.thorin_join.specs.{Builder.targets_test, StandApart.contents_begun, StandApart.EachRow}
+use Rattle.{dwp_elf.specs.Growing.Contents, dwp_units.specs.declared.unit.UnitSection.UnitSection}
+use Rattle.{dwp_bytes.specs.Encoding.index_version_of, thorin_index.specs.EntryTests.tests_under}
+use Rattle.thorin_index.specs.EntryTests.{format_test, index_tests, number_test, same_encoding}
+use Rattle.thorin_join.specs.Builder.{compilations, finish_test, indexes_test, names_in, start}
+use Rattle.{thorin.proofs.Running.taken-joins, thorin_join.proofs.Joined.sound-inside}
+use Rattle.thorin_index.specs.EntryTests.{contributions_test, count_test, each, encoding_test}
+use Rattle.dwp_units.specs.Units.{header_at, initial_length_at, Unit as Header, unit_at}
+use Rattle.thorin.specs.Unfinished.{AreMixed, HasLongSection, IsIndexNumber, LacksInput}
 use Rattle.thorin_index.specs.Entries.{contribution_to, offset_or_0, size_or_0}
-use Rattle.thorin_join.specs.Builder.{compilations, indexes_test, targets_test}
-use Rattle.thorin_join.specs.StandApart.{contents_begun, EachRow}
-use Rattle.thorin_join.proofs.{Rows.StandApart.sound-inside, Units.ReadInTurn.each-all}
-use Rattle.thorin_again.specs.InFormat.{HasEncodingOfOne, IsInFormat}
-use Rattle.std.proofs.lemmas.List.Sums.{count_by-le-length, length-filter}
-use Rattle.std.proofs.{Common.⊎_elim, lemmas.Bool.cases_lt}
+use Rattle.thorin_join.specs.{Builder.State, Laid.is_at, Laid.IsLaid, Laid.Lie}
+use Rattle.thorin_join.proofs.{Joined.takes, Units.each-all}
+use Rattle.dwp_bytes.specs.Input.{Input, number_at, section, split_at}
+use Rattle.dwp_table.specs.Columns.{column_of, contribution_kinds}
 use Rattle.dwp_base.specs.declared.section.SectionKind.TheVariants as kinds
 use Rattle.dwp_units.specs.declared.unit.UnitSection.TheVariants as places
 use Rattle.thorin.proofs.again.taken_inputs_are_finished.Goals as goal

@@ -1,4 +1,5 @@
-use Rattle.thorin.proofs.{Running.as-written, Running.read-text, Terms.AnswersAs, Terms.units_in}
+use Rattle.{thorin_again.specs.OneEncoding.AnswersAs, thorin_join.proofs.Terms.units_in}
+use Rattle.thorin.proofs.Running.{as-written, read-text}
 use Rattle.thorin.proofs.again.written_packages_are_taken_again.Goals as goal
 
 pub returns-clause-again : goal.returns-clause-again

@@ -1,10 +1,10 @@
-use Rattle.thorin.proofs.Terms
-use Terms.{bind-err, bind-ok, Bor, bytes_in, drop, Err, get_or, IfOk, inr, inl, IsPackageOf, length}
-use Terms.{List, Ok, PacksAlone, refl, start, State, sym, taken, taken_each, units_in, Writes, []}
-use Terms.{ℕ}
-use Terms.{◌+◌, ◌<◌, ◌>>=◌, ◌∙◌, ◌≡◌}
-use Rattle.std.proofs.lemmas.List.{at_drop_more, drop_all}
-use Rattle.thorin.proofs.{GroupJoins.taken-joins, Running.each-taken}
+use Rattle.std.proofs.{Common.get_or, Common.IfOk, lemmas.List.at_drop_more, lemmas.List.drop_all}
+use Rattle.thorin_join.proofs.Terms.{bind-ok, drop, Err, inl, inr, [], ◌+◌, ◌<◌, ◌>>=◌, ◌∙◌, ◌≡◌}
+use Rattle.thorin_join.specs.{Builder.start, Builder.State, Builder.taken, Join.IsPackageOf}
+use Rattle.{dwp_base.proofs.Steps.bind-err, std.proofs.Common.Bor, thorin.specs.Run.Writes}
+use Rattle.thorin_join.proofs.Terms.{length, List, Ok, refl, sym, units_in, ℕ}
+use Rattle.thorin.specs.Groups.{bytes_in, PacksAlone, taken_each}
+use Rattle.thorin.proofs.Running.{each-taken, taken-joins}
 use Rattle.thorin.proofs.groups.pack_alone.Goals as goal
 
 abbrev none : Bor (List ℕ)

@@ -1,4 +1,6 @@
-use Rattle.thorin.proofs.Terms.{bytes_in, drop, start, taken_each, ◌≡◌}
+use Rattle.thorin.specs.Groups.{bytes_in, taken_each}
+use Rattle.thorin_join.proofs.Terms.{drop, ◌≡◌}
+use Rattle.thorin_join.specs.Builder.{start}
 use Rattle.thorin.proofs.groups.pack_alone.Given as goal
 
 -- what comes of the inputs that are left comes of all

@@ -1,9 +1,9 @@
-use Rattle.thorin.proofs.Terms
-use Terms.{Bor, bytes_in, drop, Err, get_or, groups_in, inl, inr, List, map-append, map_more, Ok}
-use Terms.{drop_more, take-append-drop, PacksAlone, PacksInGroups, rules, take, take_all, [], ℕ}
-use Terms.{◌++◌, ◌+◌, ◌∷◌, ◌≡◌}
-use Rattle.std.proofs.lemmas.Result.{err_from_is_err_and, IfOk-weaker}
-use Rattle.thorin.proofs.Running.{packed-more}
+use Rattle.thorin_join.proofs.Terms.{drop, Err, inl, inr, List, map-append, [], ◌++◌, ◌+◌, ◌∷◌, ◌≡◌}
+use Rattle.std.proofs.lemmas.{List.drop_more, Result.err_from_is_err_and, Result.IfOk-weaker}
+use Rattle.thorin.specs.Groups.{bytes_in, groups_in, PacksAlone, PacksInGroups}
+use Rattle.{std.proofs.lemmas.List.map_more, thorin.proofs.Running.packed-more}
+use Rattle.thorin_join.proofs.Terms.{Ok, take, take-append-drop, ℕ}
+use Rattle.std.proofs.Common.{Bor, get_or, rules, take_all}
 use Rattle.thorin.proofs.groups.pack_groups.Goals as goal
 
 abbrev none : Bor (List (Bor (List ℕ)))

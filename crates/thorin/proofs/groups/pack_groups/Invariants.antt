@@ -1,4 +1,5 @@
-use Rattle.thorin.proofs.Terms.{ArePackedAlone, bytes_in, groups_in, take}
+use Rattle.thorin.specs.Groups.{ArePackedAlone, bytes_in, groups_in}
+use Rattle.thorin_join.proofs.Terms.{take}
 use Rattle.thorin.proofs.groups.pack_groups.Given as goal
 
 -- the groups so far were packed

@@ -1,4 +1,4 @@
-use Rattle.thorin.proofs.GroupJoins.{groups-defined, groups-joined}
+use Rattle.thorin.proofs.Running.{groups-defined, groups-joined}
 use Rattle.thorin.proofs.laws.groups_are_joined_alike.Goals as goal
 
 pub returns : goal.returns

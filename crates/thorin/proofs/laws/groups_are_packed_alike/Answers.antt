@@ -1,4 +1,4 @@
-use Rattle.thorin.proofs.GroupJoins.{means-all}
+use Rattle.thorin.proofs.Running.{means-all}
 use Rattle.thorin.proofs.laws.groups_are_packed_alike.Goals as goal
 
 pub returns : goal.returns

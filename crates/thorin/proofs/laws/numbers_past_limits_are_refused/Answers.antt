@@ -1,6 +1,6 @@
-use Rattle.thorin.proofs.Terms.{arith, tests_under, [], ◌∷◌}
-use Rattle.dwp_elf.specs.Numbers.{Fits}
+use Rattle.{dwp_elf.specs.Numbers.Fits, thorin_index.specs.EntryTests.tests_under}
 use Rattle.thorin_strings.specs.StringOffsets.{fitting_offset, remapped_entry}
+use Rattle.thorin_join.proofs.Terms.{arith, [], ◌∷◌}
 use Rattle.thorin.proofs.laws.numbers_past_limits_are_refused.Goals as goal
 
 pub returns-clause-elf_32_file : goal.returns-clause-elf_32_file

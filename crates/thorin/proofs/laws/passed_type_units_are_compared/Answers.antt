@@ -1,19 +1,18 @@
 -- The type units that an input's steps pass over and find to differ are those of its list of units.
-use Rattle.thorin.proofs.Terms
-use Terms.{ap, append-nil, append_assoc, begun-now, bind-was, Compilation, DwarfObject, Elf}
-use Terms.{IndexEntry, inl, InProgress, inr, List, map, map-append, Meaning, None, Ok, Option, refl}
-use Terms.{rules, same-ok, same_name, Some, Source, source-made, source_units, sym, takes, TypeUnit}
-use Terms.{UnitRead, Used, [], ℕ, ◌++◌, ◌∷◌, ◌≡◌}
+use Rattle.thorin_join.proofs.Terms.{DwarfObject, IndexEntry, InProgress, Ok, Option, sym, TypeUnit}
+use Rattle.thorin_join.proofs.Terms.{Elf, inr, List, map, map-append, Source, ℕ, [], ◌++◌, ◌∷◌, ◌≡◌}
+use Rattle.thorin_join.specs.{Builder.package_or_new, Represents.meaning_at, Represents.units_begun}
+use Rattle.thorin_join.proofs.Terms.{ap, append-nil, Compilation, inl, Meaning, same-ok, same_name}
+use Rattle.thorin_join.proofs.{Joined.source-made, Joined.takes, Joined.with_all_parts, Terms.Some}
 use Rattle.thorin.specs.Differing.{differing, differing_by, input_units, object_units, read_bytes}
-use Rattle.thorin.specs.Differing.{Bytes, own_bytes}
+use Rattle.thorin_join.proofs.Terms.{append_assoc, bind-was, None, refl, source_units, UnitRead}
+use Rattle.thorin_join.proofs.{Terms.Used, Units.Steps, Units.units-read}
+use Rattle.std.proofs.{Common.rules, lemmas.Map.Made.lookup-map_values, lemmas.Simd.map-map}
+use Rattle.{dwp_units.specs.Units.Unit as Header, thorin_again.proofs.Lists.begun-now}
 use Rattle.thorin_input.specs.NewUnits.{Adding, New, NewUnit, with_first, with_unit}
-use Rattle.thorin_join.specs.Represents.{meaning_at, units_begun}
-use Rattle.thorin_join.specs.Builder.{differing_begun, package_or_new}
+use Rattle.thorin_join.{proofs.Parts.each-unit, specs.Builder.differing_begun}
 use Rattle.thorin_join.specs.State.{adding, held_units, with_source}
-use Rattle.std.proofs.{lemmas.Map.Made.lookup-map_values, lemmas.Simd.map-map}
-use Rattle.dwp_units.specs.Units.{Unit as Header}
-use Rattle.thorin_join.proofs.Units.ReadInTurn.{Steps, units-read}
-use Rattle.thorin_join.proofs.{Joined.with_all_parts, Parts.Added.each-unit}
+use Rattle.thorin.specs.Differing.{Bytes, own_bytes}
 use Rattle.thorin.proofs.laws.passed_type_units_are_compared.Goals as goal
 
 -- ---- what steps do

@@ -1,4 +1,4 @@
-use Rattle.thorin.proofs.{Running.run-accepts, Terms.start}
+use Rattle.{thorin.proofs.Running.run-accepts, thorin_join.specs.Builder.start}
 use Rattle.thorin.proofs.packing.pack.Goals as goal
 
 pub returns-in-Ok-clause-packed : goal.returns-in-Ok-clause-packed

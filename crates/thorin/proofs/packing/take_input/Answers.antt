@@ -1,4 +1,4 @@
-use Rattle.thorin.proofs.Terms.{accepted_of, refl}
+use Rattle.{thorin_builder.specs.Taking.accepted_of, thorin_join.proofs.Terms.refl}
 use Rattle.thorin.proofs.packing.take_input.Goals as goal
 
 pub returns-in-Object-clause-taken : goal.returns-in-Object-clause-taken

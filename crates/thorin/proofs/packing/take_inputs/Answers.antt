@@ -1,5 +1,7 @@
-use Rattle.thorin.proofs.Terms.{get_or, Input, rules, take, take_all, take_more, [], ◌++◌, ◌∷◌, ◌≡◌}
-use Rattle.thorin.{proofs.Running.ran-next, specs.declared.packing.Input.TheVariants.Object}
+use Rattle.std.proofs.{Common.get_or, Common.rules, Common.take_all, lemmas.List.take_more}
+use Rattle.thorin.specs.declared.packing.Input.{Input, TheVariants.Object}
+use Rattle.thorin_join.proofs.Terms.{take, [], ◌++◌, ◌∷◌, ◌≡◌}
+use Rattle.thorin.proofs.Running.{ran-next}
 use Rattle.thorin.proofs.packing.take_inputs.Goals as goal
 
 pub loop-input-preserved : goal.loop-input-preserved

@@ -1,4 +1,5 @@
-use Rattle.thorin.proofs.Terms.{List, Ran, take, ℕ}
+use Rattle.thorin_join.proofs.Terms.{List, take, ℕ}
+use Rattle.thorin.specs.Run.{Ran}
 use Rattle.thorin.proofs.packing.take_inputs.Given as goal
 
 -- the inputs so far ran

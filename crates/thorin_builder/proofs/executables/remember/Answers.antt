@@ -1,5 +1,5 @@
-use Rattle.thorin_builder.proofs.Terms.{inl, inr, Remembers, rules, string_bytes, ◌≡◌}
-use Rattle.thorin_input.proofs.NewUnitLemmas.{either_way}
+use Rattle.{thorin_builder.specs.Repeated.Remembers, thorin_input.proofs.NewUnitLemmas.either_way}
+use Rattle.std.proofs.Common.{inl, inr, rules, string_bytes, ◌≡◌}
 use Rattle.thorin_builder.proofs.executables.remember.Goals as goal
 
 pub returns-in-Ok : goal.returns-in-Ok

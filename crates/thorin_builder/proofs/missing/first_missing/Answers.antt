@@ -1,9 +1,9 @@
-use Rattle.thorin_builder.proofs.Terms
-use Terms.{◌+◌, ap, arith, at_drop_more, Bool, cond, drop, false, filter, get_or_from_slice_get}
-use Terms.{is_missing, List, not, refl, rules, slice_get_within, Some, sym, true, ℕ, ◌∙◌, ◌∷◌, ◌≡◌}
-use Rattle.std.specs.Prelude.{slice_get}
-use Rattle.dwp_base.proofs.Finds.{slice_get_none}
-use Rattle.thorin_builder.proofs.Names.{missing-is}
+use Rattle.std.proofs.Common.{ap, arith, Bool, cond, drop, false, List, not, ◌+◌, ◌∙◌, ◌∷◌, ◌≡◌}
+use Rattle.{dwp_base.proofs.Finds.slice_get_none, thorin_builder.proofs.Inputs.missing-is}
+use Rattle.std.proofs.lemmas.Option.{get_or_from_slice_get, slice_get_within}
+use Rattle.std.proofs.Common.{refl, rules, slice_get, Some, sym, true, ℕ}
+use Rattle.thorin_join.{proofs.Terms.filter, specs.Builder.is_missing}
+use Rattle.std.proofs.lemmas.List.{at_drop_more}
 use Rattle.thorin_builder.proofs.missing.first_missing.Goals as goal
 
 -- the first of those that are left passes, or is passed over

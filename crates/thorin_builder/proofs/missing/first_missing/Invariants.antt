@@ -1,4 +1,5 @@
-use Rattle.thorin_builder.proofs.Terms.{drop, filter, is_missing, ◌≡◌}
+use Rattle.thorin_join.{proofs.Terms.filter, specs.Builder.is_missing}
+use Rattle.std.proofs.Common.{drop, ◌≡◌}
 use Rattle.thorin_builder.proofs.missing.first_missing.Given as goal
 
 -- those that were passed over are contained

@@ -1,8 +1,9 @@
-use Rattle.thorin_builder.proofs.Terms
-use Terms.{DebugTypeSignature, Error, File, IdentifiersFit, IfOk, in_progress_of, InProgress}
-use Terms.{IsFinishedState, map, refl, Result, rules, Some, State, ◌≡◌}
-use Rattle.std.specs.Prelude.{OnOk}
-use Rattle.thorin_join.specs.Builder.{IsFinished}
+use Rattle.{dwp_elf.specs.FileText.Object as File, thorin_builder.specs.StateView.in_progress_of}
+use Rattle.dwp_table.specs.declared.object.DebugTypeSignature.{DebugTypeSignature}
+use Rattle.std.proofs.Common.{IfOk, map, OnOk, refl, Result, rules, Some, ◌≡◌}
+use Rattle.thorin_join.specs.Builder.{IsFinished, IsFinishedState, State}
+use Rattle.thorin_join.proofs.Terms.{IdentifiersFit, InProgress}
+use Rattle.thorin_errors.specs.declared.error.Error.{Error}
 use Rattle.thorin_builder.proofs.package.finished_begun.Goals as goal
 
 -- what was finished of the package of a state

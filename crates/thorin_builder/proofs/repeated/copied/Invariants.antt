@@ -1,4 +1,5 @@
-use Rattle.thorin_builder.proofs.Terms.{◌++◌, drop, map, part, ◌≡◌}
+use Rattle.std.proofs.Common.{drop, map, ◌++◌, ◌≡◌}
+use Rattle.thorin_input.specs.View.{part}
 use Rattle.thorin_builder.proofs.repeated.copied.Given as goal
 
 -- the parts so far, and those that are left, are all

@@ -1,4 +1,6 @@
-use Rattle.thorin_builder.proofs.Terms.{drop, IsGrown, map, Object, part, with_parts, ◌≡◌}
+use Rattle.{thorin_input.specs.View.part, thorin_join.proofs.Terms.with_parts}
+use Rattle.dwp_elf.specs.{FileText.Object, Growing.IsGrown}
+use Rattle.std.proofs.Common.{drop, map, ◌≡◌}
 use Rattle.thorin_builder.proofs.repeated.put_each.Given as goal
 
 -- the parts that are left, added to what there is, give what all give; and nothing was lost

@@ -1,4 +1,5 @@
-use Rattle.thorin_builder.proofs.Terms.{drop, IdentifiersFit, rows_in, ◌≡◌}
+use Rattle.{thorin_builder.specs.RowsByIndex.rows_in, thorin_join.proofs.Terms.IdentifiersFit}
+use Rattle.std.proofs.Common.{drop, ◌≡◌}
 use Rattle.thorin_builder.proofs.state.are_all.Given as goal
 
 -- all are chosen where those that are left are; all identifiers have 64 bits where those have

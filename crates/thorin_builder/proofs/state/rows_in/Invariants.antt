@@ -1,4 +1,5 @@
-use Rattle.thorin_builder.proofs.Terms.{drop, IdentifiersFit, rows_in, ◌++◌, ◌≡◌}
+use Rattle.{thorin_builder.specs.RowsByIndex.rows_in, thorin_join.proofs.Terms.IdentifiersFit}
+use Rattle.std.proofs.Common.{drop, ◌++◌, ◌≡◌}
 use Rattle.thorin_builder.proofs.state.rows_in.Given as goal
 
 -- those chosen so far, and those chosen of the rows that are left, are those of all; all

@@ -1,5 +1,5 @@
 use Rattle.std.proofs.{Common.arith, lemmas.Int.ints, lemmas.Int.to_z-of_z}
-use Rattle.thorin_c.proofs.PlainFiles.{told_early}
+use Rattle.thorin_c.proofs.Files.{told_early}
 use Rattle.thorin_c.proofs.decompressing.thorin_decompress.Goals as goal
 
 pub returns-in-Err-clause-error : goal.returns-in-Err-clause-error

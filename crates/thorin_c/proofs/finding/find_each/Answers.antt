@@ -1,6 +1,6 @@
-use Rattle.std.proofs.Common.{map, refl, arith}
+use Rattle.thorin_c.proofs.Lists.{kept-ahead, replaced-all, replaced-next}
 use Rattle.thorin_c.specs.Finding.{found_as, looked}
-use Rattle.thorin_c.proofs.Replacing.{replaced-next, replaced-all, kept-ahead}
+use Rattle.std.proofs.Common.{arith, map, refl}
 use Rattle.thorin_c.proofs.finding.find_each.Goals as goal
 
 pub loop-i-preserved : goal.loop-i-preserved

@@ -1,5 +1,5 @@
+use Rattle.thorin_c.{proofs.Lists.outcome, specs.Finding.found_as, specs.Finding.looked}
 use Rattle.std.proofs.Common.{map, ◌≡◌}
-use Rattle.thorin_c.{proofs.Replacing.outcome, specs.Finding.found_as, specs.Finding.looked}
 use Rattle.thorin_c.proofs.finding.find_each.Given as goal
 
 -- those so far are looked up, and of each other comes what came of it before

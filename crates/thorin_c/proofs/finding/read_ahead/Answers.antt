@@ -1,6 +1,6 @@
-use Rattle.std.proofs.Common.{arith, ◌∙◌}
+use Rattle.thorin_c.{proofs.Lists.status_left, specs.Finding.found_as}
 use Rattle.std.proofs.lemmas.List.{take-set-le}
-use Rattle.thorin_c.{proofs.Replacing.status_left, specs.Finding.found_as}
+use Rattle.std.proofs.Common.{arith, ◌∙◌}
 use Rattle.thorin_c.proofs.finding.read_ahead.Goals as goal
 
 pub loop-i-preserved : goal.loop-i-preserved

@@ -1,7 +1,6 @@
-use Rattle.std.proofs.Common.{◌≡◌, length, take, map}
+use Rattle.{dwp_table.specs.Columns.contribution_kinds, thorin_c.specs.Finding.range_of}
+use Rattle.std.proofs.Common.{length, map, take, ◌≡◌}
 use Rattle.dwp_index.specs.Index.{range_in}
-use Rattle.dwp_table.specs.Columns.{contribution_kinds}
-use Rattle.thorin_c.specs.Finding.{range_of}
 use Rattle.thorin_c.proofs.finding.write_ranges.Given as goal
 
 abbrev pub invariant-loop-i : goal.invariant-loop-i

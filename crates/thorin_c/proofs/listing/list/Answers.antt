@@ -1,9 +1,9 @@
-use Rattle.thorin_c.proofs.listing.list.Goals as goal
-use Rattle.std.proofs.Common.{arith, length, map, refl, ◌∙◌, ◌≡◌}
-use Rattle.std.proofs.lemmas.List.{append_assoc, length-map, length_push}
-use Rattle.thorin_c.specs.{declared.types.ThorinName.ThorinName, Listing.name_of}
-use Rattle.thorin_c.proofs.Writing.{pass-next, put-next}
+use Rattle.thorin_c.{proofs.Lists.pass-next, proofs.Lists.put-next, specs.Listing.name_of}
 use Rattle.thorin_c.proofs.listing.list.Goals.{else-place-names, then-place-names}
+use Rattle.std.proofs.Common.{append_assoc, arith, length, map, refl, ◌∙◌, ◌≡◌}
+use Rattle.thorin_c.specs.declared.types.ThorinName.{ThorinName}
+use Rattle.std.proofs.lemmas.List.{length-map, length_push}
+use Rattle.thorin_c.proofs.listing.list.Goals as goal
 
 pub loop-entry-preserved : goal.loop-entry-preserved
 loop-entry-preserved c =

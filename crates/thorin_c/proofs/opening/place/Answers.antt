@@ -1,7 +1,7 @@
+use Rattle.thorin_c.proofs.Files.{located, unplaced}
+use Rattle.dwp_elf_read.specs.View.{bytes_of, elf}
 use Rattle.dwp_dwarf.proofs.Terms.{None, ◌∙◌}
-use Rattle.dwp_elf_read.specs.View.{elf, bytes_of}
 use Rattle.dwp_index.specs.Firsts.{found_in}
-use Rattle.thorin_c.proofs.PlacesRead.{located, unplaced}
 use Rattle.thorin_c.proofs.opening.place.Goals as goal
 
 pub returns-in_default-clause-content : goal.returns-in_default-clause-content

@@ -1,10 +1,9 @@
-use Rattle.std.proofs.Common.{ap, arith, refl}
-use Rattle.dwp_index.specs.Package.{package_of}
-use Rattle.thorin_c.specs.Opening.{package_in}
-use Rattle.thorin_c.proofs.PlacesRead.{contents_read, contents_stop, inside_each, IsPlaceOf}
-use Rattle.std.{proofs.lemmas.Option.slice_get-get_or, specs.Prelude.slice_set}
-use Rattle.dwp_base.{proofs.KindsRead.read-more, specs.Sections.all_kinds}
 use Rattle.dwp_elf_read.specs.{declared.error.ReadError.ReadError, View.bytes_of, View.elf}
+use Rattle.thorin_c.proofs.Files.{contents_read, contents_stop, inside_each, IsPlaceOf}
+use Rattle.{dwp_index.specs.Package.package_of, thorin_c.specs.Opening.package_in}
+use Rattle.dwp_base.{proofs.KindsRead.read-more, specs.Sections.all_kinds}
+use Rattle.std.proofs.Common.{ap, arith, refl, slice_set}
+use Rattle.std.proofs.lemmas.Option.{slice_get-get_or}
 use Rattle.thorin_c.proofs.opening.placed.Goals as goal
 
 pub loop-kind-init : goal.loop-kind-init

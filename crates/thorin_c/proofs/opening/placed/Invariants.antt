@@ -1,7 +1,6 @@
-use Rattle.std.proofs.Common.{◌≡◌, length}
-use Rattle.dwp_base.proofs.KindsRead.{ReadBelow}
-use Rattle.dwp_elf_read.specs.View.{elf, bytes_of}
-use Rattle.thorin_c.proofs.PlacesRead.{IsPlaceOf}
+use Rattle.{dwp_base.proofs.KindsRead.ReadBelow, thorin_c.proofs.Files.IsPlaceOf}
+use Rattle.dwp_elf_read.specs.View.{bytes_of, elf}
+use Rattle.std.proofs.Common.{length, ◌≡◌}
 use Rattle.thorin_c.proofs.opening.placed.Given as goal
 
 abbrev pub invariant-loop-kind : goal.invariant-loop-kind

@@ -1,4 +1,4 @@
-use Rattle.thorin_c.proofs.Taking.{accepts-next}
+use Rattle.thorin_c.proofs.Lists.{accepts-next}
 use Rattle.thorin_c.proofs.packing.add_all.Goals as goal
 
 pub loop-number-preserved : goal.loop-number-preserved

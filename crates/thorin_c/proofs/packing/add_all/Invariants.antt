@@ -1,5 +1,4 @@
-use Rattle.std.proofs.Common.{take}
-use Rattle.thorin_c.specs.Packing.{Accepts}
+use Rattle.{std.proofs.Common.take, thorin_c.specs.Packing.Accepts}
 use Rattle.thorin_c.proofs.packing.add_all.Given as goal
 
 -- the inputs so far are accepted

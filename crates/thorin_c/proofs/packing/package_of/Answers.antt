@@ -1,6 +1,7 @@
+use Rattle.{thorin.proofs.Running.each-taken, thorin_c.specs.Packing.bytes_of}
 use Rattle.std.proofs.Common.{ap, inr, length, refl, rules, sym, ◌<◌, ◌∙◌}
-use Rattle.thorin.proofs.{Running.each-taken, Terms.length-map, Terms.start, Terms.units_in}
-use Rattle.thorin_c.specs.Packing.{bytes_of}
+use Rattle.thorin_join.specs.{Builder.start, Represents.units_in}
+use Rattle.std.proofs.lemmas.List.{length-map}
 use Rattle.thorin_c.proofs.packing.package_of.Goals as goal
 
 pub returns-in-Ok-clause-packed : goal.returns-in-Ok-clause-packed

@@ -1,6 +1,6 @@
-use mir.Val.{SFits}
 use Rattle.std.proofs.{Common.rules, Common.w32, lemmas.Int.to_z-of_z}
-use Rattle.thorin_c.proofs.Taking.{at_an_input, refuses, runs_out_at}
+use Rattle.thorin_c.proofs.Lists.{at_an_input, refuses, runs_out_at}
+use mir.Val.{SFits}
 use Rattle.thorin_c.proofs.packing.thorin_differing_types.Goals as goal
 
 pub returns-in-Err-clause-refused : goal.returns-in-Err-clause-refused

@@ -1,8 +1,8 @@
-use Rattle.std.proofs.Common.{◌≡◌, length, rules, arith}
+use Rattle.thorin_c.proofs.Lists.{packing_out, packing_refused, packing_unfinished}
+use Rattle.thorin_c.proofs.packing.thorin_pack.Goals.{else-packed, then-packed}
+use Rattle.std.proofs.Common.{arith, length, rules, ◌≡◌}
 use Rattle.std.proofs.Math.Seq.{take-append_seam}
-use Rattle.thorin_c.proofs.Taking.{packing_out, packing_refused, packing_unfinished}
 use Rattle.thorin_c.proofs.packing.thorin_pack.Goals as goal
-use Rattle.thorin_c.proofs.packing.thorin_pack.Goals.{then-packed, else-packed}
 
 pub returns-else-len-out-clause-again : goal.returns-else-len-out-clause-again
 returns-else-len-out-clause-again c done one =

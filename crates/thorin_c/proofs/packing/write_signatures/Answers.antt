@@ -1,7 +1,7 @@
-use Rattle.std.proofs.Common.{◌∙◌, ◌≤◌, length, refl, arith}
-use Rattle.thorin_c.proofs.Writing.{put-at, pass-at}
+use Rattle.thorin_c.proofs.packing.write_signatures.Goals.{else-i-types, then-i-types}
+use Rattle.std.proofs.Common.{arith, length, refl, ◌∙◌, ◌≤◌}
+use Rattle.thorin_c.proofs.Lists.{pass-at, put-at}
 use Rattle.thorin_c.proofs.packing.write_signatures.Goals as goal
-use Rattle.thorin_c.proofs.packing.write_signatures.Goals.{then-i-types, else-i-types}
 
 pub loop-i-preserved : goal.loop-i-preserved
 loop-i-preserved c =

@@ -1,6 +1,6 @@
+use Rattle.{thorin_c.proofs.Lists.lists, thorin_executable.specs.Skeletons.skeletons_of}
+use Rattle.thorin_c.specs.declared.types.ThorinReport.{ThorinReport}
 use Rattle.std.proofs.Common.{ap, refl}
-use Rattle.thorin_executable.specs.Skeletons.{skeletons_of}
-use Rattle.thorin_c.{proofs.SkeletonLists.lists, specs.declared.types.ThorinReport.ThorinReport}
 use Rattle.thorin_c.proofs.skeletons.thorin_skeletons.Goals as goal
 
 pub returns-in-None-clause-listed : goal.returns-in-None-clause-listed

@@ -1,5 +1,5 @@
-use Rattle.thorin_check.proofs.{Own.own_read, Own.own_unread, Own.row_of_found, Terms.sym}
-use Rattle.thorin_check.proofs.Terms.{Abbrev}
+use Rattle.{dwp_base.specs.declared.section.SectionKind.TheVariants.Abbrev, std.proofs.Common.sym}
+use Rattle.thorin_check.proofs.Packages.{own_read, own_unread, row_of_found}
 use Rattle.thorin_check.proofs.abbreviations.read.Goals as goal
 
 pub read_behind-requires : goal.read_behind-requires

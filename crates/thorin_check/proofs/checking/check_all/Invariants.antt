@@ -1,5 +1,5 @@
-use Rattle.thorin_check.proofs.Terms.{Told, so_far, take}
-use Rattle.thorin_check.specs.Checking.{TellsExecutables}
+use Rattle.thorin_check.specs.{Checking.TellsExecutables, Telling.so_far, Telling.Told}
+use Rattle.std.proofs.Common.{take}
 use Rattle.thorin_check.proofs.checking.check_all.Given as goal
 
 -- the faults of the executables so far

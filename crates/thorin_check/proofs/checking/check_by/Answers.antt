@@ -1,6 +1,6 @@
 use Rattle.thorin_check.proofs.Checked.{checked, file_read, not_checked, printed_some}
-use Rattle.thorin_check.proofs.{Terms.grown, Terms.refl, Told.exit_is}
-use Rattle.std.proofs.KnownBytes.{Keeps-refl}
+use Rattle.{thorin_check.proofs.Told.exit_is, thorin_print.proofs.Printed.grown}
+use Rattle.std.proofs.{Common.refl, KnownBytes.Keeps-refl}
 use Rattle.thorin_check.proofs.checking.check_by.Goals as goal
 
 pub returns-in_err-bytes : goal.returns-in_err-bytes

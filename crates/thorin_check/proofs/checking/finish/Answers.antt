@@ -1,4 +1,5 @@
-use Rattle.thorin_check.proofs.Terms.{arith, flushed, nat_tests, not_flushed}
+use Rattle.std.proofs.{Common.arith, lemmas.Bool.Decides.nat_tests}
+use Rattle.thorin_print.proofs.Printed.{flushed, not_flushed}
 use Rattle.thorin_check.proofs.Told.{exit_is}
 use Rattle.thorin_check.proofs.checking.finish.Goals as goal
 

@@ -1,6 +1,6 @@
 use Rattle.thorin_check.proofs.Checked.{broken_left, executable_read, executable_unread}
-use Rattle.thorin_check.proofs.{Terms.rules, Terms.◌≡◌, Told.exit_is}
-use Rattle.thorin_check.{proofs.Terms.true, specs.Faults.room_of}
+use Rattle.thorin_check.{proofs.Told.exit_is, specs.Faults.room_of}
+use Rattle.std.proofs.Common.{rules, true, ◌≡◌}
 use Rattle.thorin_check.proofs.executables.check_executable.Goals as goal
 
 pub returns-in_err-read : goal.returns-in_err-read

@@ -1,7 +1,7 @@
 use Rattle.thorin_check.proofs.Checked.{broken_left, left_told, long_left, none_looked, on_next}
-use Rattle.thorin_check.proofs.Terms.{[], append-nil, arith, None, refl, true}
-use Rattle.thorin_check.proofs.Told.{exit_is, none_told, stopped_behind, tells_as, told_as}
-use Rattle.thorin_check.proofs.Told.{told_then}
+use Rattle.thorin_check.proofs.Told.{none_told, stopped_behind, tells_as, told_as, told_then}
+use Rattle.std.proofs.Common.{[], append-nil, arith, None, refl, true}
+use Rattle.thorin_check.proofs.Told.{exit_is}
 use Rattle.thorin_check.proofs.executables.check_listed.Goals as goal
 
 pub loop-unit-init : goal.loop-unit-init

@@ -1,4 +1,5 @@
-use Rattle.thorin_check.proofs.{Checked.GoesOn, Terms.length, Terms.so_far, Terms.Told}
+use Rattle.{std.proofs.Common.length, thorin_check.proofs.Checked.GoesOn}
+use Rattle.thorin_check.specs.Telling.{so_far, Told}
 use Rattle.thorin_check.proofs.executables.check_listed.Given as goal
 
 abbrev pub decreases-loop-unit : goal.decreases-loop-unit

@@ -1,4 +1,4 @@
-use Rattle.thorin_check.proofs.Terms.{ap, append_assoc, codes, string_bytes, sym, ◌++◌, ◌∙◌}
+use Rattle.std.proofs.Common.{ap, append_assoc, codes, string_bytes, sym, ◌++◌, ◌∙◌}
 use Rattle.thorin_print.specs.{declared.form.Form.TheVariants.Json, Spelled.spelled}
 use Rattle.thorin_find.{proofs.Pieces.both, specs.Lines.json_unit}
 use Rattle.thorin_check.proofs.faults.put_members.Goals as goal

@@ -1,4 +1,5 @@
-use Rattle.thorin_check.proofs.{Apart.all_apart, Apart.next_apart, Terms.arith}
+use Rattle.thorin_check.proofs.Packages.{all_apart, next_apart}
+use Rattle.std.proofs.Common.{arith}
 use Rattle.thorin_check.proofs.overlaps.are_apart.Goals as goal
 
 pub loop-i-preserved : goal.loop-i-preserved

@@ -1,5 +1,4 @@
-use Rattle.thorin_check.proofs.Terms.{IsApart}
-use Rattle.std.specs.List.{AllAdjacentBelow}
+use Rattle.{std.specs.List.AllAdjacentBelow, thorin_check.specs.Apart.IsApart}
 use Rattle.thorin_check.proofs.overlaps.are_apart.Given as goal
 
 -- each range so far is apart from the one before

@@ -1,4 +1,4 @@
-use Rattle.thorin_check.proofs.Apart.{first_all, ranges_sorted}
+use Rattle.thorin_check.proofs.Packages.{first_all, ranges_sorted}
 use Rattle.thorin_check.proofs.overlaps.sorted_ranges.Goals as goal
 
 pub returns-then-is_sorted : goal.returns-then-is_sorted

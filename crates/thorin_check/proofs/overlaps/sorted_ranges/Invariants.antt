@@ -1,4 +1,4 @@
-use Rattle.thorin_check.proofs.Apart.{HasFirst}
+use Rattle.thorin_check.proofs.Packages.{HasFirst}
 use Rattle.thorin_check.proofs.overlaps.sorted_ranges.Given as goal
 
 -- the ranges of the slots so far

@@ -1,8 +1,8 @@
-use Rattle.thorin_check.proofs.Told.{exit_is, none_told, stopped_behind, told_as, told_then}
-use Rattle.thorin_check.proofs.Distinct.{first_again, first_all, first_more, first_none}
-use Rattle.thorin_check.proofs.Terms.{All, IsOfUnit, none_grown, sym, ◌∙◌}
-use Rattle.std.proofs.lemmas.List.Sorted.{All-permutation}
-use Rattle.thorin_check.proofs.SharedStrings.{same_range}
+use Rattle.thorin_check.proofs.Told.{first_again, first_all, first_more, first_none, stopped_behind}
+use Rattle.std.proofs.{Common.sym, Common.◌∙◌, lemmas.List.Sorted.All-permutation}
+use Rattle.thorin_check.{proofs.Packages.same_offsets, specs.Gathered.IsOfUnit}
+use Rattle.thorin_check.proofs.Told.{exit_is, none_told, told_as, told_then}
+use Rattle.{std.specs.List.All, thorin_print.proofs.Printed.none_grown}
 use Rattle.thorin_check.proofs.strings.check_strings.Goals as goal
 
 pub loop-i-init : goal.loop-i-init
@@ -19,7 +19,7 @@ loop-i-preserved g c =
 pub loop-i-preserved-then-eq : goal.loop-i-preserved-then-eq
 loop-i-preserved-then-eq g c =
     told_as c.loop-i.invariant (first_again _ _ c.loop-i.i _ c.loop-i-test.true _
-    (same_range _ _ (sym c.eq.ensures ∙ c.if-eq.true)))
+    (same_offsets _ _ (sym c.eq.ensures ∙ c.if-eq.true)))
 
 pub returns-in_err-check_strings_of : goal.returns-in_err-check_strings_of
 returns-in_err-check_strings_of g c =

@@ -1,4 +1,4 @@
-use Rattle.thorin_check.proofs.{Distinct.TellsFirst, Terms.so_far, Terms.Told}
+use Rattle.thorin_check.{proofs.Told.TellsFirst, specs.Telling.so_far, specs.Telling.Told}
 use Rattle.thorin_check.proofs.strings.check_strings.Given as goal
 
 -- the faults of the units so far

@@ -1,8 +1,8 @@
-use Rattle.thorin_check.proofs.Told.{exit_is, for_each_more, none_told, text_stopped}
-use Rattle.thorin_check.proofs.Terms.{arith, List, Ok, Option, ReadError, refl, Result, string_of}
-use Rattle.thorin_check.proofs.{SharedStrings.of_found, Terms.ℕ, Told.text_told, Told.told_then}
+use Rattle.{dwp_bytes.specs.declared.error.ReadError.ReadError, thorin_find.specs.Finding.string_of}
+use Rattle.thorin_check.{proofs.Packages.of_found, proofs.Told.exit_is, specs.Faults.TellsNumbered}
+use Rattle.thorin_check.proofs.Told.{for_each_more, none_told, text_stopped, text_told, told_then}
+use Rattle.std.proofs.Common.{arith, List, Ok, Option, refl, Result, ℕ}
 use Rattle.std.proofs.lemmas.List.FromFn.{map-range_with_len_more}
-use Rattle.thorin_check.specs.Faults.{TellsNumbered}
 use Rattle.thorin_check.proofs.strings.check_strings_of.Goals as goal
 
 pub returns-in-Ok-None : goal.returns-in-Ok-None

@@ -1,5 +1,6 @@
-use Rattle.thorin_check.proofs.Terms.{ForEach, Told, map, range_with_len, so_far, string_of}
-use Rattle.thorin_check.specs.Faults.{TellsNumbered}
+use Rattle.thorin_check.specs.{Faults.TellsNumbered, Telling.ForEach, Telling.so_far, Telling.Told}
+use Rattle.std.{proofs.Common.map, specs.List.range_with_len}
+use Rattle.thorin_find.specs.Finding.{string_of}
 use Rattle.thorin_check.proofs.strings.check_strings_of.Given as goal
 
 -- the faults of the strings so far

@@ -1,7 +1,7 @@
-use Rattle.thorin_check.proofs.Told.{exit_is, none_told, stopped_behind, told_then}
+use Rattle.thorin_check.proofs.Told.{exit_is, none_told, row_more, stopped_behind, told_then}
 use Rattle.std.proofs.lemmas.List.Elements.{All-cons, All-nil, Contains-push}
-use Rattle.thorin_check.proofs.Terms.{[], arith, inl, inr, refl, ◌+◌, ◌∷◌, ◌≡◌}
-use Rattle.thorin_check.{proofs.NamedRows.row_more, specs.Faults.IsUnnamed}
+use Rattle.std.proofs.Common.{[], arith, inl, inr, refl, ◌+◌, ◌∷◌, ◌≡◌}
+use Rattle.thorin_check.specs.Faults.{IsUnnamed}
 use Rattle.thorin_check.proofs.tables.check_rows.Goals as goal
 
 pub loop-row-init : goal.loop-row-init

@@ -1,5 +1,4 @@
-use Rattle.thorin_check.specs.Faults.{ArePast, TellsRowsOf}
-use Rattle.thorin_check.proofs.Terms.{so_far, Told}
+use Rattle.thorin_check.specs.{Faults.ArePast, Faults.TellsRowsOf, Telling.so_far, Telling.Told}
 use Rattle.thorin_check.proofs.tables.check_rows.Given as goal
 
 -- the faults of the rows so far, and the slots that don't name the next one

@@ -1,5 +1,5 @@
-use Rattle.thorin_check.proofs.Terms.{rules, ◌++◌}
 use Rattle.{dwp_base.specs.Sections.name_of, thorin_check.proofs.Told.what_told}
+use Rattle.std.proofs.Common.{rules, ◌++◌}
 use Rattle.thorin_check.proofs.tables.check_section.Goals as goal
 
 pub returns : goal.returns

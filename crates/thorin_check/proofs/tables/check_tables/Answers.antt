@@ -1,7 +1,7 @@
-use Rattle.thorin_check.proofs.Terms.{contribution_kinds, not, rules, ◌&&◌, ◌≡◌}
-use Rattle.thorin_check.proofs.Told.{exit_is, stopped_behind, told_all, told_next, told_then}
-use Rattle.thorin_check.proofs.Told.{in_turn, then_or}
-use Rattle.thorin_check.specs.Faults.{lacks_abbreviations, lacks_strings}
+use Rattle.thorin_check.{proofs.Told.exit_is, proofs.Told.then_or, specs.Faults.lacks_abbreviations}
+use Rattle.{dwp_table.specs.Columns.contribution_kinds, thorin_check.specs.Faults.lacks_strings}
+use Rattle.thorin_check.proofs.Told.{in_turn, stopped_behind, told_all, told_next, told_then}
+use Rattle.std.proofs.Common.{not, rules, ◌&&◌, ◌≡◌}
 use Rattle.thorin_check.proofs.tables.check_tables.Goals as goal
 
 pub returns-in_err-check_section : goal.returns-in_err-check_section

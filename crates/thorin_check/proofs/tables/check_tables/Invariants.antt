@@ -1,4 +1,5 @@
-use Rattle.thorin_check.proofs.Terms.{TellsColumns, Told, contribution_kinds, so_far, take}
+use Rattle.thorin_check.specs.{Indexes.TellsColumns, Telling.so_far, Telling.Told}
+use Rattle.{dwp_table.specs.Columns.contribution_kinds, std.proofs.Common.take}
 use Rattle.thorin_check.proofs.tables.check_tables.Given as goal
 
 -- the faults of the sections so far

@@ -1,5 +1,5 @@
-use Rattle.thorin_check.proofs.Terms.{arith, nat_tests, sym, ◌∙◌}
-use Rattle.thorin_check.proofs.NamedRows.{none_names}
+use Rattle.{std.proofs.lemmas.Bool.Decides.nat_tests, thorin_check.proofs.Told.none_names}
+use Rattle.std.proofs.Common.{arith, sym, ◌∙◌}
 use Rattle.thorin_check.proofs.tables.is_named.Goals as goal
 
 pub returns-then-is_from-clause-unnamed : goal.returns-then-is_from-clause-unnamed

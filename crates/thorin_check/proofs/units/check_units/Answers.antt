@@ -1,5 +1,5 @@
-use Rattle.thorin_check.proofs.Told.{exit_is, text_stopped, then_or, told_all}
-use Rattle.thorin_check.proofs.Distinct.{seen_next, text_seen, units_apart, units_then}
+use Rattle.thorin_check.proofs.Told.{seen_next, text_seen, text_stopped, units_apart, units_then}
+use Rattle.thorin_check.proofs.Told.{exit_is, then_or, told_all}
 use Rattle.thorin_check.proofs.units.check_units.Goals as goal
 
 pub loop-i-preserved : goal.loop-i-preserved

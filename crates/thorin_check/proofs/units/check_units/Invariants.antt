@@ -1,4 +1,5 @@
-use Rattle.thorin_check.proofs.Terms.{ForEach, IsSeen, TellsSeen, Told, so_far, take}
+use Rattle.thorin_check.specs.{Gathered.TellsSeen, Telling.ForEach, Telling.so_far, Telling.Told}
+use Rattle.{std.proofs.Common.take, thorin_check.specs.Gathered.IsSeen}
 use Rattle.thorin_check.proofs.units.check_units.Given as goal
 
 -- the faults of the entries so far

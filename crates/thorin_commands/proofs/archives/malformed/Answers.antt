@@ -1,6 +1,6 @@
-use Rattle.thorin_commands.proofs.{Lines.followed, Terms.refl, Terms.rules, Terms.Some}
+use Rattle.thorin_commands.{proofs.Lines.followed, specs.Cause.Malformed}
 use Rattle.dwp_archive.specs.Texts.{archive_text}
-use Rattle.thorin_commands.specs.Cause.{Malformed}
+use Rattle.std.proofs.Common.{refl, rules, Some}
 use Rattle.thorin_commands.proofs.archives.malformed.Goals as goal
 
 pub returns : goal.returns

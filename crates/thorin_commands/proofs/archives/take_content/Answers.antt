@@ -1,5 +1,5 @@
-use Rattle.thorin_commands.{proofs.Opened.content_took, specs.Packing.declines, specs.Packing.reads}
-use Rattle.thorin_commands.proofs.Causes.{bytes_refused, content_refused}
+use Rattle.thorin_commands.proofs.Causes.{bytes_refused, content_refused, content_took}
+use Rattle.thorin_commands.specs.Packing.{declines, reads}
 use Rattle.thorin_commands.proofs.archives.take_content.Goals as goal
 
 pub returns-in-Ok-clause-took : goal.returns-in-Ok-clause-took

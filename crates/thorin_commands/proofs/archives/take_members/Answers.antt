@@ -1,8 +1,8 @@
-use Rattle.thorin_commands.proofs.Terms.{err_from_is_err_and, filter-append, map, map-append}
-use Rattle.thorin_commands.proofs.Terms.{member, refl, take_all, take_more, [], ◌∙◌}
-use Rattle.dwp_archive.specs.declared.member.NameForm.TheVariants.{Short}
-use Rattle.thorin_commands.proofs.Causes.{among, bad, refuses_by, stops_among}
-use Rattle.thorin_commands.proofs.Opened.{each_append, each_none}
+use Rattle.thorin_commands.proofs.Causes.{among, each_append, each_none, refuses_by, stops_among}
+use Rattle.{std.proofs.lemmas.Result.err_from_is_err_and, thorin_commands.proofs.Causes.bad}
+use Rattle.std.proofs.lemmas.List.{Elements.filter-append, map-append, take_all, take_more}
+use Rattle.dwp_archive.specs.{declared.member.NameForm.TheVariants.Short, View.member}
+use Rattle.std.proofs.Common.{[], map, refl, ◌∙◌}
 use Rattle.dwp_archive.specs.declared.member.Member as declared
 use Rattle.thorin_commands.proofs.archives.take_members.Goals as goal
 

@@ -1,5 +1,6 @@
-use Rattle.thorin_commands.proofs.Terms.{manner_of, map, member, reads, split_contents, take}
-use Rattle.thorin_commands.proofs.Terms.{TookEach, ◌≡◌}
+use Rattle.{dwp_archive.specs.View.member, thorin_commands.specs.Archives.split_contents}
+use Rattle.thorin_commands.specs.{Opened.TookEach, Packing.manner_of, Packing.reads}
+use Rattle.std.proofs.Common.{map, take, ◌≡◌}
 use Rattle.thorin_commands.proofs.archives.take_members.Given as goal
 
 -- the members so far were taken, and nothing was told

@@ -1,6 +1,7 @@
-use Rattle.thorin_commands.proofs.Terms.{declines, Ok, on_ok_weaker, reads, rules, ◌≡◌}
-use Rattle.thorin_commands.proofs.Causes.{archive, bytes_refused, err_by, reason_by, unread_told}
-use Rattle.thorin_commands.proofs.{Causes.plain, Opened.took_archive, Opened.took_object}
+use Rattle.thorin_commands.proofs.Causes.{bytes_refused, took_archive, took_object, unread_told}
+use Rattle.std.proofs.{Common.Ok, Common.rules, Common.◌≡◌, lemmas.Result.on_ok_weaker}
+use Rattle.thorin_commands.proofs.Causes.{archive, err_by, plain, reason_by}
+use Rattle.thorin_commands.specs.Packing.{declines, reads}
 use Rattle.thorin_commands.proofs.archives.take_opened.Goals as goal
 
 pub returns-in_ok-tell_refused-in-Err-clause-told :

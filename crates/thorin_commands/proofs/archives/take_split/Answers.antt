@@ -1,6 +1,6 @@
-use Rattle.thorin_commands.proofs.Terms.{false, member, true, ◌≡◌}
-use Rattle.thorin_commands.specs.Archives.{is_split}
-use Rattle.thorin_commands.proofs.{Causes.one_stops, Opened.each_none}
+use Rattle.{dwp_archive.specs.View.member, thorin_commands.specs.Archives.is_split}
+use Rattle.thorin_commands.proofs.Causes.{each_none, one_stops}
+use Rattle.std.proofs.Common.{false, true, ◌≡◌}
 use Rattle.thorin_commands.proofs.archives.take_split.Goals as goal
 
 pub returns-then-not-is_split-clause-took : goal.returns-then-not-is_split-clause-took

@@ -1,9 +1,9 @@
-use Rattle.thorin_commands.proofs.Terms.{arith, drop, err_from_is_err_and, get_or, Input, rules}
-use Rattle.thorin_commands.proofs.Terms.{take, take_all, take_more, [], ◌++◌, ◌+◌, ◌∷◌, ◌≡◌}
-use Rattle.thorin_commands.proofs.Causes.{refuses_by, split_at, stops_at}
-use Rattle.std.proofs.lemmas.Grind.{common_steps}
-use Rattle.thorin.specs.declared.packing.Input.TheVariants.{Object}
 use Rattle.thorin_commands.proofs.Warned.{lack_count, taken_told, taking_begins, taking_more}
+use Rattle.std.proofs.Common.{[], arith, drop, get_or, rules, take, ◌++◌, ◌+◌, ◌∷◌, ◌≡◌}
+use Rattle.std.proofs.lemmas.{Grind.common_steps, Result.err_from_is_err_and}
+use Rattle.thorin.specs.declared.packing.Input.{Input, TheVariants.Object}
+use Rattle.thorin_commands.proofs.Causes.{refuses_by, split_at, stops_at}
+use Rattle.std.proofs.lemmas.List.{take_all, take_more}
 use Rattle.thorin_commands.proofs.making.fill.Goals as goal
 
 abbrev none : Input

@@ -1,4 +1,5 @@
-use Rattle.thorin_commands.proofs.Terms.{manner_of, reads, take, TookTelling}
+use Rattle.thorin_commands.specs.{Made.TookTelling, Packing.manner_of, Packing.reads}
+use Rattle.std.proofs.Common.{take}
 use Rattle.thorin_commands.proofs.making.fill.Given as goal
 
 -- the inputs so far were taken and told

@@ -1,4 +1,5 @@
-use Rattle.thorin_commands.proofs.Terms.{inl, inr, refl, Unfinished}
+use Rattle.thorin_commands.specs.Cause.{Unfinished}
+use Rattle.std.proofs.Common.{inl, inr, refl}
 use Rattle.thorin_commands.proofs.making.finished.Goals as goal
 
 pub returns : goal.returns

@@ -1,9 +1,10 @@
-use Rattle.thorin_commands.proofs.Terms.{ap, Bool, declines, differing_in, false, left, ◌∙◌, ◌≡◌}
-use Rattle.thorin_commands.proofs.Terms.{IfOk-weaker, manner_of, reads, refl, State, true, units_in}
-use Rattle.thorin_commands.proofs.Made.{differing_left, if_refused, never_empty, none_began}
-use Rattle.thorin_commands.proofs.Causes.{err_by, finishing, refuses_by, taking}
-use Rattle.thorin_commands.specs.Cause.{Finishing, Taking}
-use Rattle.thorin_commands.proofs.{Opened.all_joined, Warned.printed_as}
+use Rattle.thorin_commands.proofs.Warned.{differing_left, if_refused, never_empty, printed_as}
+use Rattle.thorin_commands.proofs.Causes.{all_joined, err_by, finishing, refuses_by, taking}
+use Rattle.{std.proofs.lemmas.Result.IfOk-weaker, thorin_commands.proofs.Warned.none_began}
+use Rattle.thorin_join.specs.{Builder.differing_in, Builder.State, Represents.units_in}
+use Rattle.thorin_commands.specs.{Cause.Finishing, Cause.Taking, Opened.left}
+use Rattle.thorin_commands.specs.Packing.{declines, manner_of, reads}
+use Rattle.std.proofs.Common.{ap, Bool, false, refl, true, ◌∙◌, ◌≡◌}
 use Rattle.thorin_commands.proofs.making.packed_inputs.Goals as goal
 
 -- a package without the list of units that executables refer to has the same units

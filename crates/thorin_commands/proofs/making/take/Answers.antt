@@ -1,6 +1,6 @@
-use Rattle.thorin_commands.proofs.Terms.{declines, Ok, on_ok_weaker, reads, rules, ◌≡◌}
-use Rattle.thorin_commands.proofs.Causes.{alone, err_by, reason_by, refused}
-use Rattle.thorin_commands.proofs.Opened.{took_alone}
+use Rattle.thorin_commands.proofs.Causes.{alone, err_by, reason_by, refused, took_alone}
+use Rattle.std.proofs.{Common.Ok, Common.rules, Common.◌≡◌, lemmas.Result.on_ok_weaker}
+use Rattle.thorin_commands.specs.Packing.{declines, reads}
 use Rattle.thorin_commands.proofs.making.take.Goals as goal
 
 pub returns-in_default-clause-took : goal.returns-in_default-clause-took

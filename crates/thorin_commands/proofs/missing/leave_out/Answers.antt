@@ -1,6 +1,6 @@
-use Rattle.thorin_commands.proofs.Terms.{append_assoc, missing_in, refl, rules, string_bytes, true}
-use Rattle.thorin_commands.proofs.Terms.{◌≡◌}
+use Rattle.{std.proofs.lemmas.List.append_assoc, thorin_commands.specs.Warned.missing_in}
 use Rattle.thorin_commands.proofs.Warned.{all_left, left_next, line_told, none_printed}
+use Rattle.std.proofs.Common.{refl, rules, string_bytes, true, ◌≡◌}
 use Rattle.thorin_commands.proofs.missing.leave_out.Goals as goal
 
 pub loop-target-init : goal.loop-target-init

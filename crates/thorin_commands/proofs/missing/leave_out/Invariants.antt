@@ -1,6 +1,6 @@
-use Rattle.thorin_commands.proofs.Terms.{IsPrinted, missing_in, ◌++◌, ◌≡◌}
-use Rattle.thorin_commands.specs.Warned.{InOrder, IsLeftLine}
-use Rattle.thorin_builder.specs.Missing.{missing_left}
+use Rattle.{thorin_builder.specs.Missing.missing_left, thorin_output.specs.Warnings.IsPrinted}
+use Rattle.thorin_commands.specs.Warned.{InOrder, IsLeftLine, missing_in}
+use Rattle.std.proofs.Common.{◌++◌, ◌≡◌}
 use Rattle.thorin_commands.proofs.missing.leave_out.Given as goal
 
 -- those so far are told

@@ -1,5 +1,4 @@
-use Rattle.std.proofs.Common.{string_bytes}
-use Rattle.thorin_commands.proofs.Warned.{named_next}
+use Rattle.{std.proofs.Common.string_bytes, thorin_commands.proofs.Warned.named_next}
 use Rattle.thorin_commands.proofs.notes.lines_of_differing.Goals as goal
 
 pub loop-number-preserved : goal.loop-number-preserved

@@ -1,5 +1,5 @@
-use Rattle.thorin_commands.proofs.Terms.{map, string_bytes, take}
 use Rattle.thorin_commands.specs.Warned.{InOrder, IsNamedLine}
+use Rattle.std.proofs.Common.{map, string_bytes, take}
 use Rattle.thorin_commands.proofs.notes.lines_of_differing.Given as goal
 
 -- the lines so far

@@ -1,7 +1,7 @@
-use Rattle.thorin_commands.proofs.Terms.{Bor, drop, get_or, inr, List, rules, take, [], ℕ, ◌+◌, ◌∷◌}
-use Rattle.thorin_commands.proofs.{Causes.split_at, Terms.take_all, Terms.take_more}
+use Rattle.std.{proofs.lemmas.List.take_all, proofs.lemmas.List.take_more, specs.Borrow.Bor}
+use Rattle.std.proofs.Common.{[], drop, get_or, inr, List, rules, take, ℕ, ◌+◌, ◌∷◌}
+use Rattle.thorin_commands.{proofs.Causes.split_at, specs.Packing.AreApart}
 use Rattle.std.proofs.lemmas.List.Elements.{All-append, All-cons, All-nil}
-use Rattle.thorin_commands.specs.Packing.{AreApart}
 use Rattle.thorin_commands.proofs.packing.has_file.Goals as goal
 
 abbrev none : Bor (List ℕ)

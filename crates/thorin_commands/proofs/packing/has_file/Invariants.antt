@@ -1,5 +1,4 @@
-use Rattle.std.proofs.Common.{take}
-use Rattle.thorin_commands.specs.Packing.{AllApart}
+use Rattle.{std.proofs.Common.take, thorin_commands.specs.Packing.AllApart}
 use Rattle.thorin_commands.proofs.packing.has_file.Given as goal
 
 -- those so far are apart

@@ -1,5 +1,5 @@
-use Rattle.thorin_commands.proofs.Terms.{inr, rules}
-use Rattle.thorin_commands.proofs.{Made.packs_telling, Whys.begun, Whys.packs, Whys.why_writing}
+use Rattle.{std.proofs.Common.inr, std.proofs.Common.rules, thorin_commands.proofs.Causes.begun}
+use Rattle.thorin_commands.proofs.{Causes.packs, Causes.why_writing, Warned.packs_telling}
 use Rattle.thorin_commands.proofs.packing.pack.Goals as goal
 
 pub returns-in-Ok-write_then_warn-clause-packed : goal.returns-in-Ok-write_then_warn-clause-packed

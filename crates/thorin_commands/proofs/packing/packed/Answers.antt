@@ -1,7 +1,8 @@
-use Rattle.thorin_commands.proofs.Terms.{asked, asks, declines, IfOk-weaker, inl, map, [], ◌≡◌}
-use Rattle.thorin_commands.proofs.Terms.{reads, refl, rules, string_bytes, TellsInputs, true}
-use Rattle.thorin_commands.proofs.{Causes.empty_for, Warned.no_macros}
-use Rattle.thorin_commands.proofs.Made.{made_for, made_ready, made_twice}
+use Rattle.thorin_commands.proofs.Warned.{made_for, made_ready, made_twice, no_macros}
+use Rattle.std.proofs.Common.{[], inl, map, refl, rules, string_bytes, true, ◌≡◌}
+use Rattle.thorin_commands.{proofs.Causes.empty_for, specs.Warned.TellsInputs}
+use Rattle.thorin_commands.specs.Packing.{asked, asks, declines, reads}
+use Rattle.std.proofs.lemmas.Result.{IfOk-weaker}
 use Rattle.thorin_commands.proofs.packing.packed.Goals as goal
 
 pub returns-in-Ok-clause-ready : goal.returns-in-Ok-clause-ready

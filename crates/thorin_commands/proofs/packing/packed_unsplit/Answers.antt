@@ -1,7 +1,8 @@
-use Rattle.thorin_commands.proofs.Terms.{arith, asked, asks, declines, false, [], ◌++◌, ◌∷◌, ◌≡◌}
-use Rattle.thorin_commands.proofs.Terms.{IfOk-weaker, inr, None, paths_in, reads, Some, TellsTaken}
-use Rattle.thorin_commands.proofs.{Causes.first_of, Causes.told_unsplit, Made.made_for, Terms.map}
-use Rattle.std.proofs.lemmas.Grind.{common_steps}
+use Rattle.thorin_commands.proofs.{Causes.first_of, Causes.told_unsplit, Warned.made_for}
+use Rattle.std.proofs.Common.{[], arith, false, inr, map, None, Some, ◌++◌, ◌∷◌, ◌≡◌}
+use Rattle.thorin_commands.specs.Packing.{asked, asks, declines, paths_in, reads}
+use Rattle.std.proofs.lemmas.{Grind.common_steps, Result.IfOk-weaker}
+use Rattle.thorin_commands.specs.Warned.{TellsTaken}
 use Rattle.thorin_commands.proofs.packing.packed_unsplit.Goals as goal
 
 pub returns-clause-made : goal.returns-clause-made

@@ -1,8 +1,9 @@
-use Rattle.thorin_commands.proofs.Terms.{arith, inl, inr, path_bytes, path_of, rules, string_bytes}
-use Rattle.thorin_commands.proofs.Terms.{sym, Types, unsplit_line, ◌≡◌, ◌⊎◌}
-use Rattle.thorin_print.specs.Shown.{shown}
-use Rattle.thorin_commands.proofs.Warned.{printed_ok, unsplit_told}
 use Rattle.thorin_commands.proofs.telling.warn_for.Goals.{in-Types, in_default-3, in_default-3-2}
+use Rattle.{std.specs.Path.path_bytes, thorin_inputs.specs.declared.notes.Lack.TheVariants.Types}
+use Rattle.std.proofs.Common.{arith, inl, inr, rules, string_bytes, sym, ◌≡◌, ◌⊎◌}
+use Rattle.thorin_commands.proofs.Warned.{printed_ok, unsplit_told}
+use Rattle.thorin_commands.specs.Warned.{path_of, unsplit_line}
+use Rattle.thorin_print.specs.Shown.{shown}
 use Rattle.thorin_commands.proofs.telling.warn_for.Goals as goal
 
 pub returns-clause-line : goal.returns-clause-line

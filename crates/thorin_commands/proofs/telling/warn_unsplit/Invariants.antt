@@ -1,4 +1,5 @@
-use Rattle.thorin_commands.proofs.Terms.{IsPrinted, take, TellUnsplitBy, true, ◌≡◌}
+use Rattle.{thorin_commands.specs.Warned.TellUnsplitBy, thorin_output.specs.Warnings.IsPrinted}
+use Rattle.std.proofs.Common.{take, true, ◌≡◌}
 use Rattle.thorin_commands.proofs.telling.warn_unsplit.Given as goal
 
 -- the inputs so far

@@ -1,7 +1,6 @@
-use Rattle.std.proofs.Common.{◌≡◌, ℕ, Err, arith, take_all}
-use Rattle.std.proofs.lemmas.Bool.Decides.{nat_tests}
-use Rattle.dwp_bytes.specs.Input.{Input, front, truncate_at}
-use Rattle.dwp_bytes.specs.declared.error.ReadError.{ReadError}
+use Rattle.dwp_bytes.specs.{declared.error.ReadError.ReadError, Input.Input, Input.truncate_at}
+use Rattle.{dwp_bytes.specs.Input.front, std.proofs.lemmas.Bool.Decides.nat_tests}
+use Rattle.std.proofs.Common.{arith, Err, take_all, ℕ, ◌≡◌}
 use Rattle.thorin_find.proofs.names.beginning.Goals as goal
 
 -- what has fewer bytes is its own beginning

@@ -1,8 +1,8 @@
-use Rattle.thorin_index.proofs.Terms.{[], arith, common_steps, drop, length, length-map}
-use Rattle.thorin_index.proofs.Terms.{length-take-le, map, map_more, refl, replicate, rules, take}
-use Rattle.thorin_index.proofs.Terms.{take_all, take_at, ◌++◌, ◌+◌, ◌∙◌, ◌∷◌, ◌≡◌}
+use Rattle.std.proofs.Common.{[], arith, drop, map, refl, rules, take, ◌++◌, ◌+◌, ◌∙◌, ◌∷◌, ◌≡◌}
+use Rattle.std.proofs.Common.{length, length-take-le, replicate, take_all, take_at}
+use Rattle.std.proofs.lemmas.{Grind.common_steps, List.length-map, List.map_more}
+use Rattle.thorin_index.proofs.Rows.{looked_more, none_looked}
 use Rattle.dwp_table.proofs.Placing.{empty_table}
-use Rattle.thorin_index.proofs.RowLemmas.{looked_more, none_looked}
 use Rattle.thorin_index.proofs.index_writer.bucket.Goals as goal
 
 pub loop-i-init : goal.loop-i-init

@@ -1,4 +1,5 @@
-use Rattle.thorin_index.proofs.Terms.{IsHashTable, IsLooked, map, take}
+use Rattle.{dwp_table.specs.Table.IsHashTable, thorin_index.specs.Buckets.IsLooked}
+use Rattle.std.proofs.Common.{map, take}
 use Rattle.thorin_index.proofs.index_writer.bucket.Given as goal
 
 -- the units so far stand in the table

@@ -1,4 +1,5 @@
-use Rattle.thorin_index.proofs.Terms.{false, is_used, take, ◌≡◌}
+use Rattle.thorin_index.specs.IndexText.{is_used}
+use Rattle.std.proofs.Common.{false, take, ◌≡◌}
 use Rattle.thorin_index.proofs.index_writer.is_used.Given as goal
 
 abbrev pub invariant-loop-position : goal.invariant-loop-position

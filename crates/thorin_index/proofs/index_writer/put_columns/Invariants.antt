@@ -1,4 +1,5 @@
-use Rattle.thorin_index.proofs.Terms.{column_numbers, numbers_bytes, take, ◌++◌, ◌≡◌}
+use Rattle.thorin_index.specs.IndexText.{column_numbers, numbers_bytes}
+use Rattle.std.proofs.Common.{take, ◌++◌, ◌≡◌}
 use Rattle.thorin_index.proofs.index_writer.put_columns.Given as goal
 
 abbrev pub invariant-loop-kind : goal.invariant-loop-kind

@@ -1,4 +1,5 @@
-use Rattle.thorin_index.proofs.Terms.{numbers_bytes, take, ◌++◌, ◌≡◌}
+use Rattle.thorin_index.specs.IndexText.{numbers_bytes}
+use Rattle.std.proofs.Common.{take, ◌++◌, ◌≡◌}
 use Rattle.thorin_index.proofs.index_writer.put_numbers.Given as goal
 
 abbrev pub invariant-loop-number : goal.invariant-loop-number

@@ -1,5 +1,6 @@
-use Rattle.thorin_index.proofs.Terms.{blank, get_or, measure_of, numbers_bytes, row_numbers}
-use Rattle.thorin_index.proofs.Terms.{rows_bytes, take, ◌++◌, ◌≡◌}
+use Rattle.thorin_index.specs.IndexText.{measure_of, numbers_bytes, row_numbers, rows_bytes}
+use Rattle.std.proofs.Common.{get_or, take, ◌++◌, ◌≡◌}
+use Rattle.thorin_index.specs.Rows.{blank}
 use Rattle.thorin_index.proofs.index_writer.put_rows.Given as goal
 
 abbrev pub invariant-loop-position : goal.invariant-loop-position

@@ -1,7 +1,8 @@
-use Rattle.thorin_index.proofs.Terms.{IndexEntry, List, ap, arith, blank, entry_ids, get_or}
-use Rattle.thorin_index.proofs.Terms.{get_or-map, identifier_of, length, number_bytes, refl}
-use Rattle.thorin_index.proofs.Terms.{signature_of, suc, ℕ, ◌-◌, ◌<◌, ◌∙◌, ◌≡◌}
-use Rattle.thorin_index.proofs.RowLemmas.{one_piece}
+use Rattle.std.proofs.Common.{List, ap, arith, get_or, length, refl, suc, ℕ, ◌-◌, ◌<◌, ◌∙◌, ◌≡◌}
+use Rattle.thorin_index.specs.{IndexText.entry_ids, declared.entry.IndexEntry.IndexEntry}
+use Rattle.{dwp_base.specs.Numbers.number_bytes, std.proofs.lemmas.List.get_or-map}
+use Rattle.dwp_table.specs.{Objects.identifier_of, Table.signature_of}
+use Rattle.thorin_index.{proofs.Rows.one_piece, specs.Rows.blank}
 use Rattle.thorin_index.proofs.index_writer.put_signatures.Goals.{else-row-eq0, then-row-eq0}
 use Rattle.thorin_index.proofs.index_writer.put_signatures.Goals as goal
 

@@ -1,4 +1,5 @@
-use Rattle.thorin_index.proofs.Terms.{entry_ids, signatures_bytes, take, ◌++◌, ◌≡◌}
+use Rattle.thorin_index.specs.IndexText.{entry_ids, signatures_bytes}
+use Rattle.std.proofs.Common.{take, ◌++◌, ◌≡◌}
 use Rattle.thorin_index.proofs.index_writer.put_signatures.Given as goal
 
 abbrev pub invariant-loop-row : goal.invariant-loop-row

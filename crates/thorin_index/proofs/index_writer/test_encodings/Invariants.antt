@@ -1,4 +1,5 @@
-use Rattle.thorin_index.proofs.Terms.{drop, each, encoding_test, ◌≡◌}
+use Rattle.thorin_index.specs.EntryTests.{each, encoding_test}
+use Rattle.std.proofs.Common.{drop, ◌≡◌}
 use Rattle.thorin_index.proofs.index_writer.test_encodings.Given as goal
 
 -- what is left has the first error of all

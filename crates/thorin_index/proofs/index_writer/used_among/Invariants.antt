@@ -1,4 +1,5 @@
-use Rattle.thorin_index.proofs.Terms.{filter, is_used, take, vec_len, ◌≡◌, ◌≤◌}
+use Rattle.std.proofs.Common.{filter, take, vec_len, ◌≡◌, ◌≤◌}
+use Rattle.thorin_index.specs.IndexText.{is_used}
 use Rattle.thorin_index.proofs.index_writer.used_among.Given as goal
 
 abbrev pub invariant-loop-kind : goal.invariant-loop-kind

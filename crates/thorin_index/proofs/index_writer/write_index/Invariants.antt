@@ -1,4 +1,4 @@
-use Rattle.thorin_index.proofs.Terms.{take, ◌≡◌}
+use Rattle.std.proofs.Common.{take, ◌≡◌}
 use Rattle.thorin_index.proofs.index_writer.write_index.Given as goal
 
 -- the entries so far are rows

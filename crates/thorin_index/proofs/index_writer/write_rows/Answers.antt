@@ -1,5 +1,5 @@
-use Rattle.thorin_index.proofs.Terms.{arith}
-use Rattle.thorin_index.proofs.RowLemmas.{index_is, rows_within}
+use Rattle.thorin_index.proofs.Rows.{index_is, rows_within}
+use Rattle.std.proofs.Common.{arith}
 use Rattle.thorin_index.proofs.index_writer.write_rows.Goals as goal
 
 pub index_text-requires : goal.index_text-requires

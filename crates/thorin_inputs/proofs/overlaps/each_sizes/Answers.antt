@@ -1,6 +1,5 @@
-use Rattle.std.proofs.Common.{arith}
-use Rattle.dwp_elf_read.specs.View.{elf}
-use Rattle.thorin_inputs.proofs.Sizes.{each_end}
+use Rattle.{dwp_elf_read.specs.View.elf, std.proofs.Common.arith}
+use Rattle.thorin_inputs.proofs.Counted.{each_end}
 use Rattle.thorin_inputs.proofs.overlaps.each_sizes.Goals as goal
 
 pub returns : goal.returns

@@ -1,6 +1,5 @@
-use Rattle.std.proofs.Common.{◌≡◌, ◌≤◌, ◌+◌, ◌-◌, ◌^◌, drop, min, sum_by}
-use Rattle.dwp_elf_read.specs.View.{elf}
-use Rattle.thorin_inputs.specs.Overlaps.{each_size}
+use Rattle.{dwp_elf_read.specs.View.elf, thorin_inputs.specs.Overlaps.each_size}
+use Rattle.std.proofs.Common.{drop, min, sum_by, ◌+◌, ◌-◌, ◌^◌, ◌≡◌, ◌≤◌}
 use Rattle.thorin_inputs.proofs.overlaps.each_sizes.Given as goal
 
 -- those so far and those that are left are all

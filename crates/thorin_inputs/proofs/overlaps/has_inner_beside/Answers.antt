@@ -1,18 +1,16 @@
+use Rattle.thorin_inputs.proofs.overlaps.has_inner_beside.Goals.{else-holds-via-then-holds+in_ok-count+else-branch}
+use Rattle.thorin_inputs.proofs.Counted.{not_too_large, section_counted, section_passed, sizes_none}
+use Rattle.thorin_inputs.proofs.overlaps.has_inner_beside.Goals.{in-Some+else-holds, in_default}
+use Rattle.thorin_inputs.specs.InnerStrings.{begins_inside, first_content, is_inner, or_nothing}
+use Rattle.thorin_inputs.proofs.overlaps.has_inner_beside.Goals.{else-holds-via-else-holds}
+use Rattle.std.proofs.Common.{ap, arith, drop, length, refl, sym, ◌&&◌, ◌+◌, ◌≡◌}
+use Rattle.{dwp_base.proofs.Finds.slice_get_none, dwp_elf_read.specs.View.elf}
+use Rattle.thorin_inputs.proofs.Counted.{left_more, left_same, too_large}
+use Rattle.dwp_base.specs.declared.section.SectionKind.TheVariants.{Str}
+use Rattle.std.{proofs.lemmas.List.drop_all, specs.List.list_any}
+use Rattle.thorin_inputs.specs.InnerStrings.{has_word, names}
 use Rattle.dwp_elf_read.specs.View as view
 use Rattle.thorin_inputs.proofs.overlaps.has_inner_beside.Goals as goal
-use Rattle.std.proofs.Common.{ap, arith, drop, length, refl, sym, ◌&&◌, ◌+◌, ◌≡◌}
-use Rattle.std.proofs.lemmas.List.{drop_all}
-use Rattle.thorin_inputs.specs.InnerStrings.{begins_inside, first_content, has_word, is_inner}
-use Rattle.thorin_inputs.specs.InnerStrings.{names, or_nothing}
-use Rattle.thorin_inputs.proofs.InnerPlaces.{left_more, left_same, not_too_large, sizes_none}
-use Rattle.thorin_inputs.proofs.InnerPlaces.{section_counted, section_passed, too_large}
-use Rattle.thorin_inputs.proofs.overlaps.has_inner_beside.Goals.{else-holds-via-then-holds+in_ok-count+else-branch}
-use Rattle.thorin_inputs.proofs.overlaps.has_inner_beside.Goals.{in_default, in-Some+else-holds}
-use Rattle.thorin_inputs.proofs.overlaps.has_inner_beside.Goals.{else-holds-via-else-holds}
-use Rattle.std.specs.List.{list_any}
-use Rattle.dwp_base.proofs.Finds.{slice_get_none}
-use Rattle.dwp_base.specs.declared.section.SectionKind.TheVariants.{Str}
-use Rattle.dwp_elf_read.specs.View.{elf}
 
 pub loop-i-init : goal.loop-i-init
 loop-i-init c = record {

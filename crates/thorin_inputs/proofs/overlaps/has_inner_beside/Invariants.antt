@@ -1,10 +1,7 @@
-use Rattle.std.proofs.Common.{◌&&◌, drop}
-use Rattle.std.specs.List.{list_any}
-use Rattle.dwp_base.specs.declared.section.SectionKind.TheVariants.{Str}
-use Rattle.dwp_elf_read.specs.View.{elf}
-use Rattle.thorin_inputs.proofs.InnerPlaces.{Left}
-use Rattle.thorin_inputs.specs.InnerStrings.{begins_inside, first_content, is_inner, names}
-use Rattle.thorin_inputs.specs.InnerStrings.{or_nothing}
+use Rattle.{dwp_base.specs.declared.section.SectionKind.TheVariants.Str, std.specs.List.list_any}
+use Rattle.thorin_inputs.specs.InnerStrings.{begins_inside, first_content, is_inner, or_nothing}
+use Rattle.{std.proofs.Common.drop, std.proofs.Common.◌&&◌, thorin_inputs.proofs.Counted.Left}
+use Rattle.{dwp_elf_read.specs.View.elf, thorin_inputs.specs.InnerStrings.names}
 use Rattle.thorin_inputs.proofs.overlaps.has_inner_beside.Given as goal
 
 -- those that are counted and those that are left are all

@@ -1,7 +1,6 @@
-use Rattle.std.proofs.Common.{◌≡◌, ◌+◌, ◌-◌, length}
+use Rattle.{dwp_index.specs.Index.row_in, thorin_inputs.specs.InnerStrings.is_row_between}
+use Rattle.std.proofs.Common.{length, ◌+◌, ◌-◌, ◌≡◌}
 use Rattle.std.specs.List.{list_any, range_with_len}
-use Rattle.dwp_index.specs.Index.{row_in}
-use Rattle.thorin_inputs.specs.InnerStrings.{is_row_between}
 use Rattle.thorin_inputs.proofs.overlaps.has_row_between.Given as goal
 
 -- some row of those that are left, where it is one of all

@@ -1,5 +1,4 @@
-use Rattle.std.proofs.Common.{◌∙◌}
-use Rattle.thorin_inputs.proofs.InnerPlaces.{sized}
+use Rattle.{std.proofs.Common.◌∙◌, thorin_inputs.proofs.Counted.sized}
 use Rattle.thorin_inputs.proofs.overlaps.size_at.Goals as goal
 
 pub returns-in-Ok : goal.returns-in-Ok

@@ -1,9 +1,7 @@
-use Rattle.std.proofs.Common.{arith, drop}
-use Rattle.std.proofs.lemmas.{Bool.Decides.nat_tests, Grind.common_steps}
+use Rattle.{std.proofs.lemmas.List.Sums.common_prefix_len-le, thorin_inputs.proofs.Fronts.alike}
 use Rattle.std.proofs.lemmas.List.Sums.{common_prefix_len-drop_no, common_prefix_len-drop_yes}
-use Rattle.std.proofs.lemmas.List.Sums.{common_prefix_len-le}
-use Rattle.std.specs.Prelude.{◌==◌}
-use Rattle.thorin_inputs.proofs.Fronts.{alike}
+use Rattle.std.proofs.lemmas.{Bool.Decides.nat_tests, Grind.common_steps}
+use Rattle.std.proofs.Common.{arith, drop, ◌==◌}
 use Rattle.thorin_inputs.proofs.prefixes.common_length.Goals as goal
 
 pub loop-i-preserved : goal.loop-i-preserved

@@ -1,6 +1,6 @@
-use Rattle.std.proofs.{Common.of_calls, Common.rules}
+use Rattle.thorin_inputs.{proofs.Fronts.parted, specs.Mapped.Entry, specs.Mapped.is_upto}
 use Rattle.std.proofs.lemmas.List.Sorted.{IsPartitionPoint-from_clause}
-use Rattle.thorin_inputs.{proofs.Nested.parted, specs.Mapped.Entry, specs.Mapped.is_upto}
+use Rattle.std.proofs.Common.{of_calls, rules}
 use Rattle.thorin_inputs.proofs.prefixes.count_upto.Goals as goal
 
 pub returns-clause-point : goal.returns-clause-point

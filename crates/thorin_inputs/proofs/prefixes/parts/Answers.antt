@@ -1,8 +1,7 @@
-use Rattle.std.proofs.Common.{arith, false, List, true, ℕ, ◌≡◌}
-use Rattle.std.specs.Prelude.{MatchOption, None, Option, Some}
+use Rattle.std.proofs.Common.{arith, false, List, MatchOption, None, Option, Some, true, ℕ, ◌≡◌}
 use Rattle.std.specs.{Borrow.Bor, Str.Pattern.FindsChar, Str.Pattern.SplitsAtFirstByte}
-use Rattle.std.proofs.lemmas.Bool.{le-ltb, lt-ltb}
 use Rattle.thorin_inputs.specs.Prefixes.{from_of, has_equals, to_of}
+use Rattle.std.proofs.lemmas.Bool.{le-ltb, lt-ltb}
 use Rattle.thorin_inputs.proofs.prefixes.parts.Goals as goal
 
 parted : (word : List ℕ) (r : Option (Bor (List ℕ) × Bor (List ℕ)))

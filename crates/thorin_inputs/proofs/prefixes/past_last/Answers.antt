@@ -1,6 +1,5 @@
-use Rattle.std.proofs.Common.{arith, ◌-◌}
-use Rattle.thorin_inputs.proofs.Nested.{walked-first, walked-on}
-use Rattle.thorin_inputs.proofs.prefixes.past_last.Invariants.{none}
+use Rattle.{std.proofs.Common.arith, std.proofs.Common.◌-◌, thorin_inputs.proofs.Fronts.walked-on}
+use Rattle.thorin_inputs.proofs.{Fronts.walked-first, prefixes.past_last.Invariants.none}
 use Rattle.thorin_inputs.proofs.prefixes.past_last.Goals as goal
 
 pub loop-place-init : goal.loop-place-init

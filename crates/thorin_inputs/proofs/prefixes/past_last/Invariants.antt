@@ -1,6 +1,6 @@
-use Rattle.std.proofs.Common.{◌-◌, List, ℕ, []}
+use Rattle.thorin_inputs.proofs.Fronts.{From, Walked}
+use Rattle.std.proofs.Common.{[], List, ℕ, ◌-◌}
 use Rattle.std.specs.Borrow.{Bor}
-use Rattle.thorin_inputs.proofs.Nested.{From, Walked}
 use Rattle.thorin_inputs.proofs.prefixes.past_last.Given as goal
 
 abbrev pub none : Bor (List ℕ)

@@ -1,4 +1,4 @@
-use Rattle.thorin_join.proofs.Files.Finished.{finished-is}
+use Rattle.thorin_join.proofs.Files.{finished-is}
 use Rattle.thorin_join.proofs.laws.finished_packages_are_read.Goals as goal
 
 pub returns : goal.returns

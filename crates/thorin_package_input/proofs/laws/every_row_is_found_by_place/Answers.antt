@@ -1,4 +1,4 @@
-use Rattle.thorin_package_input.proofs.FirstRow.{first_found, no_row}
+use Rattle.thorin_package_input.proofs.Rows.{first_found, no_row}
 use Rattle.thorin_package_input.proofs.laws.every_row_is_found_by_place.Goals as goal
 
 pub returns : goal.returns

@@ -1,4 +1,4 @@
-use Rattle.thorin_package_input.proofs.OffsetsJoined.{joined_read}
+use Rattle.thorin_package_input.proofs.ReadAlike.{joined_read}
 use Rattle.thorin_package_input.proofs.laws.joined_string_offsets_are_read_in_turn.Goals as goal
 
 pub returns : goal.returns

@@ -1,9 +1,9 @@
-use Rattle.thorin_package_input.proofs.Terms.{range_at, with_rows}
-use Rattle.std.proofs.Common.{map, sym, ap, arith, ◌<◌, length, ◌∙◌, option_copied}
-use Rattle.thorin_package_input.proofs.RowSteps.{row_stored, row_absent, rows_none}
-use Rattle.thorin_package_input.proofs.packaged_offsets.add_rows.Goals as goal
 use Rattle.thorin_package_input.proofs.packaged_offsets.add_rows.Goals.{in-Some-range_of_row+in_ok-insert}
 use Rattle.thorin_package_input.proofs.packaged_offsets.add_rows.Goals.{in_default-range_of_row}
+use Rattle.thorin_package_input.specs.{PackagedOffsets.with_rows, RangeKeys.range_at}
+use Rattle.std.proofs.Common.{ap, arith, length, map, option_copied, sym, ◌<◌, ◌∙◌}
+use Rattle.thorin_package_input.proofs.Rows.{row_absent, row_stored, rows_none}
+use Rattle.thorin_package_input.proofs.packaged_offsets.add_rows.Goals as goal
 
 pub loop-number-preserved : goal.loop-number-preserved
 loop-number-preserved c =

@@ -1,5 +1,7 @@
-use Rattle.thorin_package_input.proofs.Terms.{range_at, ranges_of, StrOffsets, with_ranges}
-use Rattle.std.proofs.Common.{◌≡◌, drop, map}
+use Rattle.thorin_package_input.specs.{PackagedOffsets.with_ranges, RowPlaces.ranges_of}
+use Rattle.dwp_base.specs.declared.section.SectionKind.TheVariants.{StrOffsets}
+use Rattle.thorin_package_input.specs.RangeKeys.{range_at}
+use Rattle.std.proofs.Common.{drop, map, ◌≡◌}
 use Rattle.thorin_package_input.proofs.packaged_offsets.add_rows.Given as goal
 
 -- those so far with those of the rows that are left are all

@@ -1,7 +1,7 @@
-use Rattle.std.proofs.Common.{ap₂, arith, refl, ◌++◌, ◌∙◌}
-use Rattle.std.proofs.{lemmas.List.take_rest, lemmas.Result.err_from_is_err_and}
+use Rattle.thorin_package_input.proofs.ReadAlike.{all_written, next, one_more, one_refused}
+use Rattle.std.proofs.lemmas.{List.take_rest, Result.err_from_is_err_and}
 use Rattle.dwp_base.specs.declared.section.Contribution.{Contribution}
-use Rattle.thorin_package_input.proofs.RewriteSteps.{all_written, next, one_more, one_refused}
+use Rattle.std.proofs.Common.{ap₂, arith, refl, ◌++◌, ◌∙◌}
 use Rattle.thorin_package_input.proofs.packaged_offsets.rewritten.Goals as goal
 
 abbrev zero_range : Contribution

@@ -1,5 +1,4 @@
-use Rattle.thorin_strings.specs.Known.{AreKnown}
-use Rattle.thorin_package_input.proofs.RewriteSteps.{IsSoFar}
+use Rattle.{thorin_package_input.proofs.ReadAlike.IsSoFar, thorin_strings.specs.Known.AreKnown}
 use Rattle.thorin_package_input.proofs.packaged_offsets.rewritten.Given as goal
 
 abbrev pub invariant-loop-range : goal.invariant-loop-range

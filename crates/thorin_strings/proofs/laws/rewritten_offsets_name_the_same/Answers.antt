@@ -1,4 +1,4 @@
-use Rattle.thorin_strings.proofs.NamedEntries.{range_named}
+use Rattle.thorin_strings.proofs.Remapping.{range_named}
 use Rattle.thorin_strings.proofs.laws.rewritten_offsets_name_the_same.Goals as goal
 
 pub returns : goal.returns

@@ -1,5 +1,5 @@
+use Rattle.std.proofs.Common.{append-nil, append_assoc, arith, rules}
 use Rattle.std.proofs.lemmas.List.{nil_from_length}
-use Rattle.thorin_strings.proofs.Terms.{append-nil, append_assoc, arith, rules}
 use Rattle.thorin_strings.proofs.words.append_by_pieces.Goals as goal
 
 pub loop-piece-init : goal.loop-piece-init

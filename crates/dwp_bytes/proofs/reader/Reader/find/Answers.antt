@@ -1,4 +1,4 @@
-use Rattle.dwp_bytes.proofs.Found.{found_is}
+use Rattle.dwp_bytes.proofs.Reading.{found_is}
 use Rattle.dwp_bytes.proofs.reader.Reader.find.Goals as goal
 
 pub returns : goal.returns

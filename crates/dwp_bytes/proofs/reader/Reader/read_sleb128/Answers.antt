@@ -1,7 +1,7 @@
+use Rattle.dwp_bytes.proofs.Reading.{cast_less, cast_lowest, fits, signed_more, sleb_big}
+use Rattle.dwp_bytes.proofs.Reading.{sleb_fails, sleb_high, sleb_low}
+use Rattle.std.proofs.lemmas.{Int.ints, Result.err_from_is_err_and}
 use Rattle.std.proofs.Common.{ap, arith, ◌*◌, ◌-◌, ◌<◌, ◌^◌, ◌≡◌}
-use Rattle.dwp_bytes.proofs.Lebs.{cast_less, cast_lowest, fits, signed_more, sleb_fails, sleb_high}
-use Rattle.dwp_bytes.proofs.Lebs.{sleb_big, sleb_low}
-use Rattle.std.proofs.{lemmas.Int.ints, lemmas.Result.err_from_is_err_and}
 use Rattle.dwp_bytes.proofs.reader.Reader.read_sleb128.Goals as goal
 
 pub returns-in_err-byte : goal.returns-in_err-byte
@@ -65,22 +65,31 @@ returns-in-127 g c =
     (omega (arith, last)) (cast_lowest c.loop.value _ fits last)
 
 pub overflow_mul-result : goal.overflow_mul-result
-overflow_mul-result g c = omega (arith, fits c.loop.invariant.1 c.from.result c.loop-test.true (omega arith))
+overflow_mul-result g c =
+    omega (arith, fits c.loop.invariant.1 c.from.result c.loop-test.true (omega arith))
 
 pub overflow_add-result : goal.overflow_add-result
-overflow_add-result g c = omega (arith, fits c.loop.invariant.1 c.from.result c.loop-test.true (omega arith))
+overflow_add-result g c =
+    omega (arith, fits c.loop.invariant.1 c.from.result c.loop-test.true (omega arith))
 
 pub overflow_mul-result-then-byte-lt128 : goal.overflow_mul-result-then-byte-lt128
-overflow_mul-result-then-byte-lt128 g c = omega (arith, fits c.loop.invariant.1 c.from-then-byte-lt128.result c.loop-test.true (omega arith))
+overflow_mul-result-then-byte-lt128 g c =
+    let m = fits c.loop.invariant.1 c.from-then-byte-lt128.result c.loop-test.true (omega arith) in
+    omega (arith, m)
 
 pub overflow_sub-result : goal.overflow_sub-result
-overflow_sub-result g c = omega (arith, ints, fits c.loop.invariant.1 c.from-then-byte-lt128.result c.loop-test.true (omega arith))
+overflow_sub-result g c =
+    let m = fits c.loop.invariant.1 c.from-then-byte-lt128.result c.loop-test.true (omega arith) in
+    omega (arith, ints, m)
 
 pub overflow_mul-value : goal.overflow_mul-value
-overflow_mul-value g c = omega (arith, fits c.loop.invariant.1 c.from-in-loop.result c.loop-test.true (omega arith))
+overflow_mul-value g c =
+    omega (arith, fits c.loop.invariant.1 c.from-in-loop.result c.loop-test.true (omega arith))
 
 pub overflow_add-value : goal.overflow_add-value
-overflow_add-value g c = omega (arith, fits c.loop.invariant.1 c.from-in-loop.result c.loop-test.true (omega arith))
+overflow_add-value g c =
+    omega (arith, fits c.loop.invariant.1 c.from-in-loop.result c.loop-test.true (omega arith))
 
 pub overflow_mul-scale : goal.overflow_mul-scale
-overflow_mul-scale g c = omega (arith, fits c.loop.invariant.1 127 c.loop-test.true (omega arith))
+overflow_mul-scale g c =
+    omega (arith, fits c.loop.invariant.1 127 c.loop-test.true (omega arith))

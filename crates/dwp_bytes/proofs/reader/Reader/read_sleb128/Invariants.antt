@@ -1,5 +1,5 @@
+use Rattle.dwp_bytes.{proofs.Reading.signed, proofs.Reading.SoFar, specs.Leb.signed_leb_at}
 use Rattle.std.proofs.Common.{◌≡◌}
-use Rattle.dwp_bytes.{proofs.Lebs.signed, proofs.Lebs.SoFar, specs.Leb.signed_leb_at}
 use Rattle.dwp_bytes.proofs.reader.Reader.read_sleb128.Given as goal
 
 abbrev pub invariant-loop : goal.invariant-loop

@@ -1,5 +1,5 @@
+use Rattle.dwp_bytes.proofs.Reading.{fits, last_fits, more, uleb_big, uleb_ends, uleb_fails}
 use Rattle.std.proofs.{Common.ap, Common.arith, lemmas.Result.err_from_is_err_and}
-use Rattle.dwp_bytes.proofs.Lebs.{fits, last_fits, more, uleb_big, uleb_ends, uleb_fails}
 use Rattle.dwp_bytes.proofs.reader.Reader.read_uleb128.Goals as goal
 
 pub returns-in_err-byte : goal.returns-in_err-byte

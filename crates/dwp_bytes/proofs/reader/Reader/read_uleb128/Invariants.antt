@@ -1,5 +1,5 @@
+use Rattle.dwp_bytes.{proofs.Reading.SoFar, proofs.Reading.unsigned, specs.Leb.leb_at}
 use Rattle.std.proofs.Common.{◌≡◌}
-use Rattle.dwp_bytes.{proofs.Lebs.SoFar, proofs.Lebs.unsigned, specs.Leb.leb_at}
 use Rattle.dwp_bytes.proofs.reader.Reader.read_uleb128.Given as goal
 
 abbrev pub invariant-loop : goal.invariant-loop

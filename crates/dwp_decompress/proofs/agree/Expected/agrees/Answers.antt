@@ -1,7 +1,7 @@
-use Rattle.std.proofs.Common.{ap, arith, option_map, rules, Some, sym, ◌∙◌}
 use Rattle.dwp_elf_read.{proofs.Compared.same_file, specs.View.elf, specs.View.section}
-use Rattle.dwp_decompress.specs.Result.{plain_contents, result_file}
 use Rattle.dwp_decompress.proofs.Sections.{agree_end, agree_step, get_content}
+use Rattle.std.proofs.Common.{ap, arith, option_map, rules, Some, sym, ◌∙◌}
+use Rattle.dwp_decompress.specs.Result.{plain_contents, result_file}
 use Rattle.dwp_decompress.proofs.agree.Expected.agrees.Goals as goal
 
 pub loop-i-preserved : goal.loop-i-preserved

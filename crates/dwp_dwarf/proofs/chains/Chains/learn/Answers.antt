@@ -1,4 +1,5 @@
-use Rattle.dwp_dwarf.{proofs.Keys.put_keeps, proofs.Places.places_stay, specs.Chains.RemembersPlace}
+use Rattle.dwp_dwarf.proofs.Places.{places_stay, put_keeps}
+use Rattle.dwp_dwarf.specs.Chains.{RemembersPlace}
 use Rattle.dwp_dwarf.proofs.chains.Chains.learn.Goals as goal
 
 pub returns-in_err-place-clause-places : goal.returns-in_err-place-clause-places

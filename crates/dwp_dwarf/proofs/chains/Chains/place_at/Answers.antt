@@ -1,6 +1,5 @@
+use Rattle.dwp_dwarf.proofs.{Places.place_end, Places.place_next, Tables.look_up-by}
 use Rattle.dwp_dwarf.proofs.Terms.{length, refl, sym, ◌∙◌}
-use Rattle.dwp_dwarf.proofs.Places.{place_end, place_next}
-use Rattle.dwp_dwarf.proofs.Tables.{look_up-by}
 use Rattle.dwp_dwarf.proofs.chains.Chains.place_at.Goals as goal
 
 pub returns-in_ok-version-in-Ok-Some-clause-place :

@@ -1,4 +1,4 @@
-use Rattle.dwp_dwarf.proofs.{Keys.put_keeps, Terms.ListsNeeded}
+use Rattle.dwp_dwarf.proofs.{Places.put_keeps, Terms.ListsNeeded}
 use Rattle.dwp_dwarf.proofs.needed.NeededLists.list.Goals as goal
 
 pub returns-then-put : goal.returns-then-put

@@ -1,5 +1,5 @@
 use Rattle.dwp_dwarf.proofs.Terms.{declaration_of, none_met, sym, ◌∙◌, ◌≡◌}
-use Rattle.dwp_dwarf.proofs.NeededAttributes.{first_needed}
+use Rattle.dwp_dwarf.proofs.Values.{first_needed}
 use Rattle.dwp_dwarf.proofs.needed.NeededLists.number.Goals as goal
 
 pub returns-in-Some-clause-number : goal.returns-in-Some-clause-number

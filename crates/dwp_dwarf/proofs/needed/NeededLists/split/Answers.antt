@@ -1,5 +1,4 @@
-use Rattle.dwp_dwarf.proofs.Terms.{declaration_of, sym, ◌≡◌}
-use Rattle.dwp_dwarf.proofs.NeededAttributes.{split_needed}
+use Rattle.dwp_dwarf.proofs.{Terms.declaration_of, Terms.sym, Terms.◌≡◌, Values.split_needed}
 use Rattle.dwp_dwarf.proofs.needed.NeededLists.split.Goals as goal
 
 pub returns-in-Some-clause-split : goal.returns-in-Some-clause-split

@@ -1,6 +1,7 @@
-use Rattle.dwp_elf.proofs.Terms.{arith, common_steps, contents_of, refl, sym, ◌≡◌}
-use Rattle.dwp_elf.specs.Growing.{with_bytes}
-use Rattle.dwp_elf.proofs.{Growth.is_grown-with_bytes, KindCounts.KindsDiffer-appended}
+use Rattle.dwp_elf.proofs.Changes.{is_grown-with_bytes, KindsDiffer-appended}
+use Rattle.dwp_elf.specs.{Contents.contents_of, Growing.with_bytes}
+use Rattle.std.proofs.Common.{arith, refl, sym, ◌≡◌}
+use Rattle.std.proofs.lemmas.Grind.{common_steps}
 use Rattle.dwp_elf.proofs.object.WritableObject.append.Goals as goal
 
 pub invariant_of-self-2 : goal.invariant_of-self-2

@@ -1,7 +1,7 @@
-use Rattle.dwp_elf.proofs.Terms
-use Terms.{appended, arith, common_steps, contents_of, refl, rules, sym, ◌≡◌}
-use Rattle.dwp_elf.{proofs.Changes.absent, specs.Growing.with_bytes}
-use Rattle.dwp_elf.proofs.{Growth.is_grown-with_bytes, KindCounts.KindsDiffer-appended}
+use Rattle.dwp_elf.specs.{Contents.appended, Contents.contents_of, Growing.with_bytes}
+use Rattle.dwp_elf.proofs.Changes.{absent, is_grown-with_bytes, KindsDiffer-appended}
+use Rattle.std.proofs.Common.{arith, refl, rules, sym, ◌≡◌}
+use Rattle.std.proofs.lemmas.Grind.{common_steps}
 use Rattle.dwp_elf.proofs.object.WritableObject.append_moved.Goals as goal
 
 pub invariant_of-self-in-None : goal.invariant_of-self-in-None

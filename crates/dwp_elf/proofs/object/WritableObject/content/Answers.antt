@@ -1,5 +1,5 @@
-use Rattle.dwp_elf.proofs.Terms.{sym, ◌∙◌}
-use Rattle.dwp_elf.proofs.Changes.{at_first, absent}
+use Rattle.dwp_elf.proofs.Changes.{absent, at_first}
+use Rattle.std.proofs.Common.{sym, ◌∙◌}
 use Rattle.dwp_elf.proofs.object.WritableObject.content.Goals as goal
 
 pub returns-in-Some : goal.returns-in-Some

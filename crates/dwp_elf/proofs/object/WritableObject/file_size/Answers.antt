@@ -1,4 +1,5 @@
-use Rattle.dwp_elf.proofs.{Limits.length-file_text, Terms.arith, Terms.common_steps}
+use Rattle.std.proofs.{Common.arith, lemmas.Grind.common_steps}
+use Rattle.dwp_elf.proofs.ReadingBack.{length-file_text}
 use Rattle.dwp_elf.proofs.object.WritableObject.file_size.Goals as goal
 
 pub returns-clause-size : goal.returns-clause-size

@@ -1,8 +1,7 @@
-use Rattle.std.proofs.Common.{rules}
-use Rattle.std.proofs.lemmas.Iterator.{YieldsList-from_map, YieldsList-from_slice}
-use Rattle.std.proofs.lemmas.Iterator.{items_from_collect}
-use Rattle.dwp_elf.proofs.Terms.{SectionKind, Vec, sym, ℕ}
-use Rattle.dwp_elf.proofs.Changes.{told_lengths}
+use Rattle.std.proofs.{Common.rules, Common.sym, Common.ℕ, lemmas.Iterator.YieldsList-from_slice}
+use Rattle.std.proofs.lemmas.Iterator.{items_from_collect, YieldsList-from_map}
+use Rattle.{dwp_elf.proofs.Changes.told_lengths, std.specs.Global.Vec}
+use Rattle.dwp_base.specs.declared.section.SectionKind.{SectionKind}
 use Rattle.dwp_elf.proofs.object.WritableObject.lengths.Goals as goal
 
 pub returns : goal.returns

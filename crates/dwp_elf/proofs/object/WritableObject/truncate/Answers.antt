@@ -1,8 +1,9 @@
-use Rattle.dwp_elf.proofs.Terms
-use Terms.{List, ap, arith, common_steps, contents_of, refl, sym, truncated, ℕ, ◌∙◌, ◌≡◌}
-use Rattle.dwp_elf.specs.{declared.object.WritableObject.TheInside.Inside, Object.object_of}
-use Rattle.dwp_elf.proofs.Changes.{cut_all, cut_more, length-contents_of, truncated-contents_of}
-use Rattle.dwp_elf.proofs.{Growth.truncated-begins, KindCounts.KindsDiffer-truncated}
+use Rattle.dwp_elf.proofs.Changes.{KindsDiffer-truncated, length-contents_of, truncated-contents_of}
+use Rattle.dwp_elf.specs.{Contents.contents_of, Contents.truncated, Object.object_of}
+use Rattle.dwp_elf.specs.declared.object.WritableObject.TheInside.{Inside}
+use Rattle.dwp_elf.proofs.Changes.{cut_all, cut_more, truncated-begins}
+use Rattle.std.proofs.Common.{ap, arith, List, refl, sym, ℕ, ◌∙◌, ◌≡◌}
+use Rattle.std.proofs.lemmas.Grind.{common_steps}
 use Rattle.dwp_elf.proofs.object.WritableObject.truncate.Goals as goal
 
 -- all but the contents is as it was

@@ -1,5 +1,5 @@
-use Rattle.dwp_elf.proofs.Terms.{contents_of, length, ◌≡◌, ◌≤◌}
-use Rattle.dwp_elf.proofs.Changes.{cut}
+use Rattle.dwp_elf.{proofs.Changes.cut, specs.Contents.contents_of}
+use Rattle.std.proofs.Common.{length, ◌≡◌, ◌≤◌}
 use Rattle.dwp_elf.proofs.object.WritableObject.truncate.Given as goal
 
 abbrev pub invariant-loop-number : goal.invariant-loop-number

@@ -1,6 +1,6 @@
-use Rattle.dwp_elf.proofs.Terms.{refl, ◌∙◌}
-use Rattle.dwp_elf.proofs.SoFar.{part_after, part_before, Writes-after, failed}
-use Rattle.dwp_elf.proofs.Parts.{text_parts, zeros_of}
+use Rattle.dwp_elf.proofs.SoFar.{failed, part_after, part_before, Writes-after}
+use Rattle.dwp_elf.proofs.ReadingBack.{text_parts, zeros_of}
+use Rattle.std.proofs.Common.{refl, ◌∙◌}
 use Rattle.dwp_elf.proofs.object.WritableObject.write_parts.Goals as goal
 
 pub returns-in_err-write_whole-clause-text : goal.returns-in_err-write_whole-clause-text

@@ -1,7 +1,7 @@
-use Rattle.std.proofs.Common.{Err, Ok, rules, sym}
-use Rattle.dwp_index.proofs.Terms.{Answers, elf}
-use Rattle.dwp_base.proofs.KindsRead.{answers-each}
+use Rattle.dwp_base.{proofs.KindsRead.answers-each, specs.Reading.Answers}
 use Rattle.dwp_index.specs.Contents.{content_among, contents_of}
+use Rattle.std.proofs.Common.{Err, Ok, rules, sym}
+use Rattle.dwp_elf_read.specs.View.{elf}
 use Rattle.dwp_index.proofs.contents.Contents.read.Goals as goal
 
 pub returns-in-Ok : goal.returns-in-Ok

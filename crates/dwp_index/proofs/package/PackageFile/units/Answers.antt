@@ -1,4 +1,4 @@
-use Rattle.dwp_index.proofs.UsedOnce.{entries_once}
+use Rattle.dwp_index.proofs.Indexes.{entries_once}
 use Rattle.dwp_index.proofs.package.PackageFile.units.Goals as goal
 
 pub returns-clause-once : goal.returns-clause-once

@@ -1,5 +1,5 @@
+use Rattle.dwp_index.{proofs.Indexes.says_some, specs.Places.NO_COLUMN}
 use Rattle.std.proofs.Common.{arith, sym}
-use Rattle.dwp_index.proofs.{Columns.says_some, Terms.NO_COLUMN}
 use Rattle.dwp_index.proofs.unit_index.Row.range.Goals as goal
 
 pub read_u32_at-size-requires : goal.read_u32_at-size-requires

@@ -1,7 +1,8 @@
-use Rattle.std.proofs.Common.{List, None, Option, ap, arith, inl, inr, length, refl, sym, ℕ, ◌+◌, ◌∙◌, ◌≡◌, ◌≤◌}
-use Rattle.dwp_table.proofs.Tables.{finds_exactly, count_within, few_slots}
-use Rattle.dwp_index.proofs.Terms.{FindsExactly, IsIndex, found_row, look_count, row_of}
-use Rattle.dwp_index.proofs.Views.{end-on, end-start, ended, row_of-used, slots-length, unended}
+use Rattle.std.proofs.Common.{List, None, Option, ap, inl, inr, length, refl, sym, ℕ, ◌+◌, ◌∙◌, ◌≡◌}
+use Rattle.dwp_index.proofs.Indexes.{end-on, end-start, ended, row_of-used, slots-length, unended}
+use Rattle.dwp_table.specs.{Probing.found_row, Probing.row_of, Table.FindsExactly, Table.IsIndex}
+use Rattle.{dwp_table.specs.Probing.look_count, std.proofs.Common.arith, std.proofs.Common.◌≤◌}
+use Rattle.dwp_table.proofs.Tables.{count_within, few_slots, finds_exactly}
 use Rattle.dwp_index.proofs.unit_index.UnitIndex.find_counted.Goals as goal
 
 -- what the row and the count of a look-up say in a table of distinct identifiers

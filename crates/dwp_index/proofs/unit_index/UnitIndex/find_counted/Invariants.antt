@@ -1,4 +1,4 @@
-use Rattle.dwp_index.proofs.Views.{IsLooking}
+use Rattle.dwp_index.proofs.Indexes.{IsLooking}
 use Rattle.dwp_index.proofs.unit_index.UnitIndex.find_counted.Given as goal
 
 abbrev pub invariant-loop-looked : goal.invariant-loop-looked

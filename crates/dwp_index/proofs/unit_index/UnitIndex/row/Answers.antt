@@ -1,8 +1,8 @@
-use Rattle.std.proofs.Common.{arith, le-ltb, length, lt-ltb, refl, [], ◌-◌}
+use Rattle.std.proofs.Common.{[], arith, le-ltb, length, lt-ltb, refl, ◌-◌}
+use Rattle.dwp_index.proofs.Indexes.{get_or-number_rows, units-length}
+use Rattle.dwp_index.specs.{Fields.index_in, Index.row_in}
 use Rattle.dwp_index.proofs.unit_index.UnitIndex.row.Goals.{then-row-eq0-via-else-row-eq0+then-row-self}
 use Rattle.dwp_index.proofs.unit_index.UnitIndex.row.Goals.{then-row-eq0-via-then-row-eq0}
-use Rattle.dwp_index.proofs.Terms.{index_in, row_in}
-use Rattle.dwp_index.proofs.{NumberLists.get_or-number_rows, Views.units-length}
 use Rattle.dwp_index.proofs.unit_index.UnitIndex.row.Goals as goal
 
 pub returns-then-row-eq0 : goal.returns-then-row-eq0

@@ -1,5 +1,5 @@
-use Rattle.dwp_strings.proofs.Terms.{ap₂, arith, elements, length, refl, ◌++◌, ◌+◌, ◌∙◌}
-use Rattle.dwp_strings.proofs.CopyLemmas.{in_room}
+use Rattle.{dwp_strings.proofs.Lanes.in_room, std.proofs.lemmas.Grind.elements}
+use Rattle.std.proofs.Common.{ap₂, arith, length, refl, ◌++◌, ◌+◌, ◌∙◌}
 use Rattle.dwp_strings.proofs.buffer.Buffer.append.Goals as goal
 
 pub returns-then-string-len-clause-ok : goal.returns-then-string-len-clause-ok

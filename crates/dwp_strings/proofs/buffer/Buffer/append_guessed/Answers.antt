@@ -1,5 +1,6 @@
-use Rattle.dwp_strings.proofs.Terms.{ap₂, arith, elements, refl, ◌++◌, ◌+◌, ◌∙◌}
-use Rattle.dwp_strings.proofs.{CopyLemmas.in_room, LaneLemmas.same_fronts}
+use Rattle.std.proofs.Common.{ap₂, arith, refl, ◌++◌, ◌+◌, ◌∙◌}
+use Rattle.dwp_strings.proofs.Lanes.{in_room, same_fronts}
+use Rattle.std.proofs.lemmas.Grind.{elements}
 use Rattle.dwp_strings.proofs.buffer.Buffer.append_guessed.Goals as goal
 
 pub returns-clause-appended : goal.returns-clause-appended

@@ -1,5 +1,5 @@
-use Rattle.dwp_strings.proofs.Terms.{inl, refl, rules, ◌+◌}
-use Rattle.dwp_strings.proofs.HashedLemmas.{added, carried_kept, indexed_push, unplaced}
+use Rattle.dwp_strings.proofs.Hashed.{added, carried_kept, indexed_push, unplaced}
+use Rattle.std.proofs.Common.{inl, refl, rules, ◌+◌}
 use Rattle.dwp_strings.proofs.entries.Entries.add.Goals as goal
 
 pub returns : goal.returns

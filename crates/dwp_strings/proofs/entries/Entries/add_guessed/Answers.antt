@@ -1,6 +1,7 @@
-use Rattle.dwp_strings.proofs.Terms.{IsFirstZero, arith, inl, refl, rules, take, ◌+◌}
-use Rattle.dwp_strings.proofs.CompareLemmas.{ended_free, ended_front, ended_take}
-use Rattle.dwp_strings.proofs.HashedLemmas.{added, carried_kept, indexed_push, unplaced}
+use Rattle.dwp_strings.proofs.Hashed.{added, carried_kept, indexed_push, unplaced}
+use Rattle.dwp_strings.proofs.Named.{ended_free, ended_front, ended_take}
+use Rattle.std.proofs.Common.{arith, inl, refl, rules, take, ◌+◌}
+use Rattle.dwp_strings.specs.Ends.{IsFirstZero}
 use Rattle.dwp_strings.proofs.entries.Entries.add_guessed.Goals as goal
 
 pub returns : goal.returns

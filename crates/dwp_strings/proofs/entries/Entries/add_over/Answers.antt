@@ -1,5 +1,6 @@
-use Rattle.dwp_strings.proofs.Terms.{BeginsAt, arith, false≢true, inl, refl, rules, sym, ◌+◌, ◌∙◌}
-use Rattle.dwp_strings.proofs.HashedLemmas.{added, carried_over, indexed_push, misplaced}
+use Rattle.dwp_strings.proofs.Hashed.{added, carried_over, indexed_push, misplaced}
+use Rattle.{dwp_strings.specs.Strings.BeginsAt, std.proofs.lemmas.Bool.false≢true}
+use Rattle.std.proofs.Common.{arith, inl, refl, rules, sym, ◌+◌, ◌∙◌}
 use Rattle.dwp_strings.proofs.entries.Entries.add_over.Goals as goal
 
 pub returns : goal.returns

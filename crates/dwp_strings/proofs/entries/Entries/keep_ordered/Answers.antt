@@ -1,13 +1,13 @@
-use Rattle.dwp_strings.proofs.Terms.{refl, sym, ◌∙◌}
-use Rattle.dwp_strings.proofs.HashedLemmas.{carried_among, hashed_kept, inserted_or}
-use Rattle.dwp_strings.proofs.{HashedLemmas.known_offset_in, Named.string_was}
+use Rattle.dwp_strings.proofs.Hashed.{carried_among, hashed_kept, inserted_or, known_offset_in}
+use Rattle.dwp_strings.proofs.Named.{string_was}
+use Rattle.std.proofs.Common.{refl, sym, ◌∙◌}
 use Rattle.dwp_strings.proofs.entries.Entries.keep_ordered.Goals as goal
 
-pub returns-in-Ok-0₀-clause-there : goal.returns-in-Ok-0₀-clause-there
-returns-in-Ok-0₀-clause-there c = λ begins.
+pub returns-in-Ok-place-clause-there : goal.returns-in-Ok-place-clause-there
+returns-in-Ok-place-clause-there c = λ begins.
     let e = c.args.self.now in
-    let found = rw (c.in-Ok-0₀.is, c.as_slice-bytes.ensures.value) at c.search.ensures.found in
-    let among = rw c.in-Ok-0₀.is at c.search.ensures.there in
+    let found = rw (c.in-Ok-place.is, c.as_slice-bytes.ensures.value) at c.search.ensures.found in
+    let among = rw c.in-Ok-place.is at c.search.ensures.there in
     let is = rw c.as_slice-bytes.ensures.value at (string_was _ _ _ c.in-Ok.ensures.meaning) in
     let known = known_offset_in e.bytes _ _ c.args.place c.requires.table.indexed begins is in
     rw (found.1 ∙ sym known.1) at among

@@ -1,6 +1,6 @@
-use Rattle.dwp_strings.proofs.Terms.{arith, held, inr, insert, refl, rules, ◌+◌, ◌≡◌}
-use Rattle.dwp_strings.proofs.HashedLemmas.{added, among_more, among_one, carried_among}
-use Rattle.dwp_strings.proofs.HashedLemmas.{indexed_both, unordered, used_found}
+use Rattle.dwp_strings.proofs.Hashed.{among_more, among_one, carried_among, indexed_both, unordered}
+use Rattle.dwp_strings.{proofs.Hashed.added, proofs.Hashed.used_found, specs.Hashed.held}
+use Rattle.std.proofs.Common.{arith, inr, insert, refl, rules, ◌+◌, ◌≡◌}
 use Rattle.dwp_strings.proofs.entries.Entries.place_ordered.Goals as goal
 
 pub returns-in-Ok-clause-placed : goal.returns-in-Ok-clause-placed

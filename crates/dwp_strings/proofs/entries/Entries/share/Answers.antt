@@ -1,5 +1,5 @@
-use Rattle.dwp_strings.proofs.Terms.{Some, arith, refl, ◌≡◌}
-use Rattle.dwp_strings.proofs.{HashedLemmas.carried_shared, HashedLemmas.hashed_kept}
+use Rattle.dwp_strings.proofs.Hashed.{carried_shared, hashed_kept}
+use Rattle.std.proofs.Common.{Some, arith, refl, ◌≡◌}
 use Rattle.dwp_strings.specs.Places.{place_in}
 use Rattle.dwp_strings.proofs.entries.Entries.share.Goals as goal
 

@@ -1,4 +1,4 @@
-use Rattle.dwp_strings.proofs.Terms.{arith, refl, sym, with_items_is}
+use Rattle.std.proofs.{Common.arith, Common.refl, Common.sym, lemmas.List.with_items_is}
 use Rattle.dwp_strings.proofs.places.HashedPlaces.enter.Goals as goal
 
 pub returns-then-put_next-clause-entered : goal.returns-then-put_next-clause-entered

@@ -1,5 +1,6 @@
-use Rattle.dwp_strings.proofs.Terms.{Slot, ap, free, get_or_read, place_of, ◌∙◌}
-use Rattle.dwp_strings.proofs.PlacesLemmas.{given_of, others_from, slot_within}
+use Rattle.dwp_strings.specs.{Places.free, Places.place_of, declared.places.Slot.Slot}
+use Rattle.dwp_strings.proofs.Hashed.{given_of, others_from, slot_within}
+use Rattle.std.proofs.{Common.ap, Common.◌∙◌, lemmas.List.get_or_read}
 use Rattle.dwp_strings.proofs.places.HashedPlaces.give.Goals as goal
 
 pub returns-in-Ok-clause-given : goal.returns-in-Ok-clause-given

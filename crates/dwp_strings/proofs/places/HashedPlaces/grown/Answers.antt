@@ -1,4 +1,5 @@
-use Rattle.dwp_strings.proofs.Terms.{arith, refl, with_items, with_items_is}
+use Rattle.std.proofs.{Common.arith, Common.refl, lemmas.List.with_items_is}
+use Rattle.std.specs.Vec.{with_items}
 use Rattle.dwp_strings.proofs.places.HashedPlaces.grown.Goals as goal
 
 pub returns-clause-entered : goal.returns-clause-entered

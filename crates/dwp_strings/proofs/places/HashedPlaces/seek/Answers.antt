@@ -1,5 +1,6 @@
-use Rattle.dwp_strings.proofs.Terms.{Slot, Some, ap, free, get_or_read, sym, ◌-◌, ◌∙◌}
-use Rattle.dwp_strings.proofs.PlacesLemmas.{found_of, slot_within}
+use Rattle.dwp_strings.{proofs.Hashed.found_of, specs.Places.free, specs.declared.places.Slot.Slot}
+use Rattle.{dwp_strings.proofs.Hashed.slot_within, std.proofs.lemmas.List.get_or_read}
+use Rattle.std.proofs.Common.{Some, ap, sym, ◌-◌, ◌∙◌}
 use Rattle.dwp_strings.proofs.places.HashedPlaces.seek.Goals as goal
 
 pub returns-clause-found : goal.returns-clause-found

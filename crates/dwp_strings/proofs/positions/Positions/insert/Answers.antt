@@ -1,7 +1,8 @@
-use Rattle.dwp_strings.proofs.Terms.{ap, arith, common_steps, concat, IsChunked, sym, ◌+◌, ◌∙◌, ◌≡◌}
-use Rattle.dwp_strings.proofs.Terms.{get_or_default, get_or_read, insert, length, with_items_is}
-use Rattle.dwp_strings.proofs.ChunkLemmas.{chunk_inserted, length-starts_from, placed, start_within}
-use Rattle.dwp_strings.proofs.{ChunkLemmas.raised, Terms.pieces}
+use Rattle.dwp_strings.proofs.Chunks.{chunk_inserted, length-starts_from, raised, start_within}
+use Rattle.dwp_strings.{proofs.Chunks.placed, specs.Chunks.IsChunked, specs.Chunks.pieces}
+use Rattle.std.proofs.lemmas.List.{get_or_default, get_or_read, with_items_is}
+use Rattle.std.proofs.Common.{ap, arith, insert, length, sym, ◌+◌, ◌∙◌, ◌≡◌}
+use Rattle.std.{proofs.lemmas.Grind.common_steps, specs.List.concat}
 use Rattle.dwp_strings.proofs.positions.Positions.insert.Goals.{After-raise}
 use Rattle.dwp_strings.proofs.positions.Positions.insert.Goals as goal
 

@@ -1,7 +1,8 @@
-use Rattle.dwp_strings.proofs.Terms.{All-contains, Contains, IsZeroFree, arith, false, false≢true}
-use Rattle.dwp_strings.proofs.Terms.{held, offset_of, refl, sym, true, ◌↔◌, ◌∙◌, ◌≡◌}
-use Rattle.dwp_strings.proofs.HashedLemmas.{known_offset_in, misplaced, unordered, unplaced}
-use Rattle.dwp_strings.proofs.{Named.zero_free-strings_in, Named.zero_within}
+use Rattle.dwp_strings.proofs.Hashed.{known_offset_in, misplaced, unordered, unplaced}
+use Rattle.std.proofs.Common.{Contains, arith, false, refl, sym, true, ◌↔◌, ◌∙◌, ◌≡◌}
+use Rattle.dwp_strings.specs.{Hashed.held, Strings.IsZeroFree, Strings.offset_of}
+use Rattle.std.proofs.lemmas.{Bool.false≢true, List.Elements.All-contains}
+use Rattle.dwp_strings.proofs.Named.{zero_free-strings_in, zero_within}
 use Rattle.dwp_strings.proofs.table.StringTable.find_counted.Goals as goal
 
 is_absent : {P : Type 0} → (P → ⊥) → (false ≡ true) ↔ P
@@ -16,10 +17,10 @@ pub returns-in-Err-2-clause-found : goal.returns-in-Err-2-clause-found
 returns-in-Err-2-clause-found c = rw (← c.self.view_is) (is_absent (unplaced _ c.self.invariant
     c.args.string.now c.hash.result c.hash.ensures c.if-self.false c.in-Err-2.ensures.none))
 
-pub returns-in-Err-0₀-clause-found : goal.returns-in-Err-0₀-clause-found
-returns-in-Err-0₀-clause-found c =
+pub returns-in-Err-place-clause-found : goal.returns-in-Err-place-clause-found
+returns-in-Err-place-clause-found c =
     let absent = c.search-found.ensures.absent in
-    let stands = rw (c.in-Err-0₀.is, c.as_slice.ensures.value) at absent in
+    let stands = rw (c.in-Err-place.is, c.as_slice.ensures.value) at absent in
     rw (← c.self.view_is) (is_absent (unordered _ c.self.invariant c.args.string.now c.hash.result
     c.hash.ensures _ (grind (arith, c.match-seek.branch)) stands))
 

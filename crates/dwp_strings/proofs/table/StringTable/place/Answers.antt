@@ -1,4 +1,4 @@
-use Rattle.dwp_strings.proofs.HashedLemmas.{used_there}
+use Rattle.dwp_strings.proofs.Hashed.{used_there}
 use Rattle.dwp_strings.proofs.table.StringTable.place.Goals.{in-Err, in-Ok}
 use Rattle.dwp_strings.proofs.table.StringTable.place.Goals.{in-Err-2+in_ok-place-in-Err-2+in_default-2}
 use Rattle.dwp_strings.proofs.table.StringTable.place.Goals.{in-Ok-2+else-stands_at-2+in_ok-place-in-Ok-2+in_default+in_ok-share-in-Ok-2}

@@ -1,4 +1,4 @@
-use Rattle.dwp_strings.proofs.HashedLemmas.{used_there}
+use Rattle.dwp_strings.proofs.Hashed.{used_there}
 use Rattle.dwp_strings.proofs.table.StringTable.place_guessed.Goals as goal
 
 pub returns-then-begins_alike-clause-placed : goal.returns-then-begins_alike-clause-placed

@@ -1,5 +1,5 @@
-use Rattle.dwp_strings.proofs.{HashedLemmas.hashed_take, HashedLemmas.indexed_take, Terms.arith}
-use Rattle.dwp_strings.proofs.Terms.{refl}
+use Rattle.dwp_strings.proofs.Hashed.{hashed_take, indexed_take}
+use Rattle.std.proofs.Common.{arith, refl}
 use Rattle.dwp_strings.proofs.table.StringTable.truncate.Goals as goal
 
 pub invariant_of-self : goal.invariant_of-self

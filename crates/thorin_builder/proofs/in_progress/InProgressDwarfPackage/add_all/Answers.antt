@@ -1,5 +1,6 @@
-use Rattle.thorin_builder.proofs.Terms.{rules, take-length, with_all}
-use Rattle.thorin_builder.proofs.Extending.{signatures, signatures-kept, still-extends}
+use Rattle.thorin_builder.proofs.Inputs.{signatures, signatures-kept, still-extends}
+use Rattle.thorin_join.{proofs.Terms.take-length, specs.State.with_all}
+use Rattle.std.proofs.Common.{rules}
 use Rattle.thorin_builder.proofs.in_progress.InProgressDwarfPackage.add_all.Goals as goal
 
 pub returns-in_err-put_parts-clause-extends : goal.returns-in_err-put_parts-clause-extends

@@ -1,5 +1,5 @@
-use Rattle.thorin_builder.proofs.Terms.{rules, take-length}
-use Rattle.thorin_builder.proofs.Extending.{extends-refl, signatures-kept, still-extends}
+use Rattle.thorin_builder.proofs.Inputs.{extends-refl, signatures-kept, still-extends}
+use Rattle.{std.proofs.Common.rules, thorin_join.proofs.Terms.take-length}
 use Rattle.thorin_builder.proofs.in_progress.InProgressDwarfPackage.add_repeated.Goals as goal
 
 pub returns-in-Err-clause-err : goal.returns-in-Err-clause-err

@@ -1,20 +1,21 @@
-use Rattle.thorin_builder.proofs.Terms
-use Terms.{ap, append-nil, Contents, DwarfObject, Extends, file_encoding, held_units, IfOk-weaker}
-use Terms.{IfSome_then, in_progress_of, IndexEntry, InProgress, input_file_of, IsLater, List, map}
-use Terms.{New, None, Ok, one_encoding, own_encoding, parts_of, refl, rules, Source, subst, sym}
-use Terms.{take-length, unit_bytes, UnitlessInput, with_all, with_input, with_more, with_new_units}
-use Terms.{with_parts, with_source, with_source_or_new, with_units, ℕ, [], ◌∙◌, ◌≡◌}
-use Rattle.thorin_join.proofs.Terms.{content_of, contribution_to, kind_of, part_of, place_of}
-use Rattle.thorin_input.specs.Encodings.{encoding_of}
-use Rattle.thorin_join.{proofs.Rows.OneAdded.not-shared, specs.Builder.source_for}
-use Rattle.dwp_elf_read.specs.View.{elf}
-use Rattle.thorin_join.proofs.Parts.Added.{content-with_parts, parts-none}
-use Rattle.thorin_builder.specs.Repeated.{AddsNoUnit}
-use Rattle.thorin_builder.proofs.AddedAgain.{later-refl, with_again}
-use Rattle.thorin_builder.proofs.Extending.{strings-extend, with_source-is}
-use Rattle.thorin_builder.proofs.Later.{parts-later, units-later}
-use Rattle.thorin_input.specs.View as view
+use Rattle.thorin_join.proofs.Terms.{append-nil, content_of, Contents, contribution_to, DwarfObject}
+use Rattle.thorin_join.proofs.Terms.{IndexEntry, InProgress, input_file_of, kind_of, New, part_of}
+use Rattle.std.proofs.Common.{ap, List, map, None, Ok, refl, rules, subst, sym, ℕ, [], ◌∙◌, ◌≡◌}
+use Rattle.thorin_input.specs.Encodings.{encoding_of, file_encoding, one_encoding, own_encoding}
+use Rattle.thorin_builder.proofs.Inputs.{later-refl, parts-later, strings-extend, units-later}
+use Rattle.{thorin_builder.specs.StateView.in_progress_of, thorin_input.specs.Held.unit_bytes}
+use Rattle.thorin_join.proofs.Terms.{parts_of, place_of, Source, take-length, with_input}
+use Rattle.{dwp_elf_read.specs.View.elf, thorin_join.proofs.Rows.not-shared}
+use Rattle.thorin_join.specs.Builder.{source_for, with_source_or_new, with_units}
+use Rattle.thorin_builder.specs.declared.repeated.UnitlessInput.{UnitlessInput}
+use Rattle.thorin_join.proofs.Terms.{with_new_units, with_parts, with_source}
+use Rattle.thorin_join.proofs.Parts.{content-with_parts, parts-none}
+use Rattle.thorin_builder.specs.Repeated.{AddsNoUnit, IsLater, with_more}
+use Rattle.std.proofs.lemmas.{Option.IfSome_then, Result.IfOk-weaker}
+use Rattle.thorin_builder.proofs.Inputs.{with_again, with_source-is}
+use Rattle.thorin_join.specs.State.{Extends, held_units, with_all}
 use Rattle.thorin_builder.proofs.in_progress.InProgressDwarfPackage.adds_again.Goals as goal
+use Rattle.thorin_input.specs.View as view
 
 -- an input without units adds nothing
 nothing-more : (made : InProgress) → with_more [] [] made ≡ made

@@ -1,4 +1,6 @@
-use Rattle.thorin_builder.proofs.Terms.{at_least, take-append-le, take-append_seam, ◌∙◌}
+use Rattle.{thorin_index.proofs.Rows.at_least, thorin_join.proofs.Terms.take-append-le}
+use Rattle.std.proofs.Math.Seq.{take-append_seam}
+use Rattle.std.proofs.Common.{◌∙◌}
 use Rattle.thorin_builder.proofs.in_progress.InProgressDwarfPackage.append_unit.Goals as goal
 
 pub returns-in-Ok-clause-extends : goal.returns-in-Ok-clause-extends

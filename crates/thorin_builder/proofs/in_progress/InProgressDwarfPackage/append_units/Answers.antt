@@ -1,6 +1,7 @@
-use Rattle.thorin_builder.proofs.Terms
-use Terms.{ap, arith, blank, get_or, get_or_default, InProgress, suc, with_new_units, with_rows}
-use Terms.{◌∙◌, ◌≡◌}
+use Rattle.{thorin_index.specs.Rows.blank, thorin_input.proofs.NewUnitLemmas.with_rows}
+use Rattle.thorin_join.proofs.Terms.{InProgress, with_new_units}
+use Rattle.std.proofs.Common.{ap, arith, get_or, suc, ◌∙◌, ◌≡◌}
+use Rattle.std.proofs.lemmas.List.{get_or_default}
 use Rattle.thorin_builder.proofs.in_progress.InProgressDwarfPackage.append_units.Goals as goal
 
 pub loop-name-preserved : goal.loop-name-preserved

@@ -1,6 +1,7 @@
-use Rattle.thorin_builder.proofs.Terms
-use Terms.{Extends, in_progress_of, InProgress, new_of, with_new_units, with_rows, ◌≡◌}
-use Rattle.thorin_input.proofs.NewUnitLemmas.{AreNumbered}
+use Rattle.thorin_join.{proofs.Terms.InProgress, proofs.Terms.with_new_units, specs.State.Extends}
+use Rattle.{thorin_builder.specs.StateView.in_progress_of, thorin_input.specs.UnitView.new_of}
+use Rattle.thorin_input.proofs.NewUnitLemmas.{AreNumbered, with_rows}
+use Rattle.std.proofs.Common.{◌≡◌}
 use Rattle.thorin_builder.proofs.in_progress.InProgressDwarfPackage.append_units.Given as goal
 
 -- the package with the units that are left is the one with all; each of these has its row; and

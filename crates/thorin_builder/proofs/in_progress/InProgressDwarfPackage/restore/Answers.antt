@@ -1,5 +1,6 @@
-use Rattle.thorin_builder.proofs.Terms.{ap, DebugTypeSignature, DwarfObject, IndexEntry, length}
-use Rattle.thorin_builder.proofs.Terms.{rules, ℕ, ◌∙◌}
+use Rattle.dwp_table.specs.declared.object.DebugTypeSignature.{DebugTypeSignature}
+use Rattle.thorin_join.proofs.Terms.{DwarfObject, IndexEntry}
+use Rattle.std.proofs.Common.{ap, length, rules, ℕ, ◌∙◌}
 use Rattle.std.specs.List.{take-map}
 use Rattle.thorin_builder.proofs.in_progress.InProgressDwarfPackage.restore.Goals as goal
 

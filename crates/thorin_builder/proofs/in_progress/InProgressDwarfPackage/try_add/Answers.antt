@@ -1,4 +1,4 @@
-use Rattle.thorin_builder.proofs.Extending.{strings-extend}
+use Rattle.thorin_builder.proofs.Inputs.{strings-extend}
 use Rattle.thorin_builder.proofs.in_progress.InProgressDwarfPackage.try_add.Goals as goal
 
 pub returns-in_err-parts-clause-extends : goal.returns-in_err-parts-clause-extends

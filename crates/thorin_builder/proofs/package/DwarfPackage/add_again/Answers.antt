@@ -1,7 +1,7 @@
-use Rattle.thorin_builder.proofs.Terms
-use Terms.{ap, begun_of, building, in_progress_of, None, rules, Some, State, ◌≡◌}
+use Rattle.thorin_builder.specs.{BuilderView.building, StateView.begun_of, StateView.in_progress_of}
+use Rattle.{thorin_builder.proofs.Inputs.added-known, thorin_join.specs.Builder.State}
 use Rattle.thorin_again.proofs.Lists.{taken-holds, taken-plain}
-use Rattle.thorin_builder.proofs.AddedAgain.{added-known}
+use Rattle.std.proofs.Common.{ap, None, rules, Some, ◌≡◌}
 use Rattle.thorin_builder.proofs.package.DwarfPackage.add_again.Goals as goal
 
 pub invariant_of-self-in-Some : goal.invariant_of-self-in-Some

@@ -1,4 +1,4 @@
-use Rattle.thorin_builder.proofs.Terms.{inl, rules}
+use Rattle.std.proofs.Common.{inl, rules}
 use Rattle.thorin_builder.proofs.package.DwarfPackage.add_and_remember.Goals as goal
 
 pub returns-clause-remembers : goal.returns-clause-remembers

@@ -1,8 +1,7 @@
-use Rattle.thorin_builder.proofs.Terms.{Err, err_from_is_err_and, inr, None, Ok, refl, rules, ◌∙◌}
-use Rattle.thorin_builder.proofs.Terms.{[]}
-use Rattle.dwp_base.proofs.Bools.{both}
-use Rattle.thorin_builder.proofs.Running.{declined-as, ends, list-error, next-declined}
-use Rattle.thorin_builder.proofs.Running.{next-refused, next-taken, none-taken}
+use Rattle.thorin_builder.proofs.Inputs.{declined-as, ends, list-error, next-declined, next-refused}
+use Rattle.{dwp_base.proofs.Bools.both, std.proofs.lemmas.Result.err_from_is_err_and}
+use Rattle.std.proofs.Common.{Err, inr, None, Ok, refl, rules, [], ◌∙◌}
+use Rattle.thorin_builder.proofs.Inputs.{next-taken, none-taken}
 use Rattle.thorin_builder.proofs.package.DwarfPackage.add_each.Goals as goal
 
 pub loop-known-init : goal.loop-known-init

@@ -1,5 +1,5 @@
-use Rattle.thorin_builder.proofs.Terms.{AreTaken, length, ◌≡◌}
-use Rattle.thorin_builder.{proofs.Running.TakenUpTo, specs.Taking.IsUnread}
+use Rattle.thorin_builder.{proofs.Inputs.TakenUpTo, specs.Repeated.AreTaken, specs.Taking.IsUnread}
+use Rattle.std.proofs.Common.{length, ◌≡◌}
 use Rattle.thorin_builder.proofs.package.DwarfPackage.add_each.Given as goal
 
 -- the units so far were taken; what is known of the path that came last, and of those before

@@ -1,6 +1,7 @@
-use Rattle.thorin_builder.proofs.Terms.{Err, err_from_is_err_and, inl, input_error_in, inr, Ok}
-use Rattle.thorin_builder.proofs.Terms.{path_bytes, refl, rules, true, unread, []}
-use Rattle.thorin_builder.proofs.Running.{declined-as, list-error, none-taken, unread-is}
+use Rattle.thorin_builder.proofs.Inputs.{declined-as, list-error, none-taken, unread-is}
+use Rattle.std.{proofs.lemmas.Result.err_from_is_err_and, specs.Path.path_bytes}
+use Rattle.std.proofs.Common.{Err, inl, inr, Ok, refl, rules, true, []}
+use Rattle.thorin_builder.specs.Reading.{input_error_in, unread}
 use Rattle.thorin_builder.proofs.package.DwarfPackage.add_executable_as.Goals as goal
 
 pub returns-in_err-bytes : goal.returns-in_err-bytes

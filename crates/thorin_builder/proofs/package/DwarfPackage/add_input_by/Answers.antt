@@ -1,7 +1,7 @@
-use Rattle.thorin_builder.proofs.Terms
-use Terms.{accepted_of, Err, err_from_is_err_and, input_error_in, Ok, path_bytes, refl, rules, true}
-use Terms.{[]}
-use Rattle.thorin_builder.proofs.Running.{unread-is}
+use Rattle.std.{proofs.lemmas.Result.err_from_is_err_and, specs.Path.path_bytes}
+use Rattle.thorin_builder.specs.{Reading.input_error_in, Taking.accepted_of}
+use Rattle.std.proofs.Common.{Err, Ok, refl, rules, true, []}
+use Rattle.thorin_builder.proofs.Inputs.{unread-is}
 use Rattle.thorin_builder.proofs.package.DwarfPackage.add_input_by.Goals as goal
 
 pub returns-in_err-bytes : goal.returns-in_err-bytes

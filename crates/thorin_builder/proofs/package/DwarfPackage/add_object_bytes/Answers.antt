@@ -1,8 +1,9 @@
-use Rattle.thorin_builder.proofs.Terms
-use Terms.{arith, begun_of, building, own_after, State, ◌≡◌}
-use Rattle.std.proofs.lemmas.Bool.Decides.{nat_tests}
+use Rattle.thorin_builder.specs.{BuilderView.building, StateView.begun_of}
+use Rattle.thorin_builder.proofs.Inputs.{joined-later, taken-as}
 use Rattle.thorin_again.proofs.Lists.{taken-holds, taken-plain}
-use Rattle.thorin_builder.proofs.AddedAgain.{joined-later, taken-as}
+use Rattle.thorin_join.specs.Builder.{own_after, State}
+use Rattle.std.proofs.lemmas.Bool.Decides.{nat_tests}
+use Rattle.std.proofs.Common.{arith, ◌≡◌}
 use Rattle.thorin_builder.proofs.package.DwarfPackage.add_object_bytes.Goals as goal
 
 -- a refused object leaves it so

@@ -1,12 +1,11 @@
-use Rattle.thorin_builder.proofs.Terms
-use Terms.{accepted_of, AreTaken, Err, Io, Memory, Ok, Outcome, path_bytes, refl, rules}
-use Terms.{TakesReferredFile, []}
-use Rattle.indexmap.proofs.SearchLemmas.{on_ok_of}
-use Rattle.thorin_builder.specs.Taking.{PassesOver}
-use Rattle.thorin_builder.proofs.AddedAgain.{are-taken-later, taken-remembered}
-use Rattle.thorin_builder.proofs.Running.{on-ok-taken}
-use Rattle.thorin_builder.proofs.package.DwarfPackage.add_referred.Given.{Over}
+use Rattle.thorin_builder.specs.Taking.{accepted_of, Outcome, PassesOver, TakesReferredFile}
 use Rattle.thorin_builder.proofs.package.DwarfPackage.add_referred.Goals.{In-Err-Failed-Io}
+use Rattle.{indexmap.proofs.SearchLemmas.on_ok_of, thorin_builder.specs.Repeated.AreTaken}
+use Rattle.thorin_builder.proofs.Inputs.{are-taken-later, on-ok-taken, taken-remembered}
+use Rattle.thorin_errors.specs.declared.error.InputError.TheVariants.{Io, Memory}
+use Rattle.thorin_builder.proofs.package.DwarfPackage.add_referred.Given.{Over}
+use Rattle.std.proofs.Common.{Err, Ok, refl, rules, []}
+use Rattle.std.specs.Path.{path_bytes}
 use Rattle.thorin_builder.proofs.package.DwarfPackage.add_referred.Goals as goal
 
 pub returns-in-Ok-clause-taken : goal.returns-in-Ok-clause-taken

@@ -1,10 +1,12 @@
-use Rattle.thorin_builder.proofs.Terms
-use Terms.{accepted_of, err_from_is_err_and, Memory, on_ok_weaker, TakesReferredFile, TakesSkeleton}
-use Terms.{[], AreTaken, came, Err, inl, inr, Io, IsTaken, List, Ok, Outcome, refl, rules, State, ℕ}
-use Rattle.thorin_builder.proofs.AddedAgain.{are-taken-later, taken-found, target-kept}
-use Rattle.thorin_builder.proofs.Running.{on-ok-taken}
-use Rattle.thorin_builder.proofs.package.DwarfPackage.add_skeleton.Given.{Over}
 use Rattle.thorin_builder.proofs.package.DwarfPackage.add_skeleton.Goals.{In-Some, In_ok-add_target}
+use Rattle.thorin_builder.proofs.Inputs.{are-taken-later, on-ok-taken, taken-found, target-kept}
+use Rattle.thorin_builder.specs.{Repeated.AreTaken, Repeated.IsTaken, Taking.TakesSkeleton}
+use Rattle.thorin_builder.specs.Taking.{accepted_of, came, Outcome, TakesReferredFile}
+use Rattle.thorin_errors.specs.declared.error.InputError.TheVariants.{Io, Memory}
+use Rattle.thorin_builder.proofs.package.DwarfPackage.add_skeleton.Given.{Over}
+use Rattle.std.proofs.Common.{Err, inl, inr, List, Ok, refl, rules, ℕ, []}
+use Rattle.std.proofs.lemmas.Result.{err_from_is_err_and, on_ok_weaker}
+use Rattle.thorin_join.specs.Builder.{State}
 use Rattle.thorin_builder.proofs.package.DwarfPackage.add_skeleton.Goals as goal
 
 pub returns-in_err-add_target-clause-taken : goal.returns-in_err-add_target-clause-taken

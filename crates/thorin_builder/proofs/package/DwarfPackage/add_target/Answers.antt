@@ -1,4 +1,5 @@
-use Rattle.thorin_builder.proofs.Terms.{refl, rules, with_name, ◌≡◌}
+use Rattle.std.proofs.Common.{refl, rules, ◌≡◌}
+use Rattle.thorin_input.specs.Names.{with_name}
 use Rattle.thorin_builder.proofs.package.DwarfPackage.add_target.Goals as goal
 
 pub returns-in_ok-insert-in-Compilation-clause-target :

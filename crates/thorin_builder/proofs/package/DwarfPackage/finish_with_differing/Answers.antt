@@ -1,8 +1,11 @@
-use Rattle.thorin_builder.proofs.Terms.{building, Error, File, finish_test, Gives, IfOk, Ok, ◌≡◌}
-use Rattle.thorin_builder.proofs.Terms.{IsFinishedState, Result, rules, State, units_in}
-use Rattle.thorin_again.proofs.Accepted.{own-all, own-by-new}
+use Rattle.{thorin_builder.specs.BuilderView.building, thorin_join.specs.Join.IsPackageOnceWritten}
 use Rattle.thorin_again.specs.OwnAccepted.{IsAcceptedByNewOnceWritten, IsAcceptedOnceWritten}
-use Rattle.thorin_join.{proofs.Files.Finished.finished-is, specs.Join.IsPackageOnceWritten}
+use Rattle.thorin_errors.specs.{Answers.Gives, declared.error.Error.Error}
+use Rattle.thorin_join.proofs.{Files.finished-is, Terms.units_in}
+use Rattle.thorin_join.specs.Builder.{finish_test, IsFinishedState, State}
+use Rattle.thorin_again.proofs.Accepted.{own-all, own-by-new}
+use Rattle.std.proofs.Common.{IfOk, Ok, Result, rules, ◌≡◌}
+use Rattle.dwp_elf.specs.FileText.{Object as File}
 use Rattle.thorin_builder.proofs.package.DwarfPackage.finish_with_differing.Goals as goal
 
 -- what is so of what was finished, by a law

@@ -1,7 +1,7 @@
-use Rattle.thorin_builder.proofs.Terms
-use Terms.{building, Encoding, Option, refl, rules, State, sym, true, ◌∙◌, ◌≡◌}
-use Rattle.std.specs.Option.{is_some}
+use Rattle.std.proofs.Common.{is_some, Option, refl, rules, sym, true, ◌∙◌, ◌≡◌}
+use Rattle.thorin_join.{proofs.Terms.Encoding, specs.Builder.State}
 use Rattle.thorin_again.specs.OwnUnits.{HasOneEncoding, HoldsOwn}
+use Rattle.thorin_builder.specs.BuilderView.{building}
 use Rattle.thorin_builder.proofs.package.DwarfPackage.packs_again.Goals as goal
 
 -- a builder whose inputs have one encoding

@@ -1,6 +1,6 @@
+use Rattle.thorin_c.{proofs.Lists.first_more, specs.declared.types.ThorinSkeleton.ThorinSkeleton}
 use Rattle.std.proofs.Common.{ap, length, map, refl, take, [], ◌++◌, ◌+◌, ◌∙◌, ◌∷◌, ◌≡◌}
-use Rattle.thorin_c.{specs.declared.types.ThorinSkeleton.ThorinSkeleton, specs.Skeletons.paths_of}
-use Rattle.thorin_c.{proofs.SkeletonLists.first_more, specs.Skeletons.skeleton_named}
+use Rattle.thorin_c.specs.Skeletons.{paths_of, skeleton_named}
 use Rattle.thorin_c.proofs.units.FirstUnits.add.Goals as goal
 
 pub returns : goal.returns

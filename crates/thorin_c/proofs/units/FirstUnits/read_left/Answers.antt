@@ -1,4 +1,4 @@
-use Rattle.thorin_c.proofs.SkeletonLists.{goes_on, shorter}
+use Rattle.thorin_c.proofs.Lists.{goes_on, shorter}
 use Rattle.thorin_c.proofs.units.FirstUnits.read_left.Goals as goal
 
 pub loop-unit-preserved : goal.loop-unit-preserved

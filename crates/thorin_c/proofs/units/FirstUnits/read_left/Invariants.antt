@@ -1,5 +1,4 @@
-use Rattle.std.proofs.Common.{length}
-use Rattle.thorin_c.proofs.SkeletonLists.{GoesOn}
+use Rattle.{std.proofs.Common.length, thorin_c.proofs.Lists.GoesOn}
 use Rattle.thorin_c.proofs.units.FirstUnits.read_left.Given as goal
 
 abbrev pub decreases-loop-unit : goal.decreases-loop-unit

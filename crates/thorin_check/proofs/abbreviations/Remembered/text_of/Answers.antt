@@ -1,5 +1,6 @@
-use Rattle.thorin_check.proofs.Terms.{PlaceRead, sym, ◌∙◌}
-use Rattle.thorin_check.proofs.Own.{known_again, known_more, places_same}
+use Rattle.thorin_check.proofs.Packages.{known_again, known_more, places_same}
+use Rattle.thorin_check.specs.declared.abbreviations.PlaceRead.{PlaceRead}
+use Rattle.std.proofs.Common.{sym, ◌∙◌}
 use Rattle.thorin_check.proofs.abbreviations.Remembered.text_of.Goals as goal
 
 pub returns-then-eq-clause-text : goal.returns-then-eq-clause-text

@@ -1,4 +1,5 @@
-use Rattle.thorin_check.proofs.{Apart.apart_on, Terms.contribution_kinds, Terms.take_all}
+use Rattle.{std.proofs.Common.take_all, thorin_check.proofs.Packages.apart_on}
+use Rattle.dwp_table.specs.Columns.{contribution_kinds}
 use Rattle.thorin_check.proofs.overlaps.Overlaps.find.Goals as goal
 
 pub loop-kind-preserved : goal.loop-kind-preserved

@@ -1,4 +1,5 @@
-use Rattle.thorin_check.proofs.Terms.{AreApart, contribution_kinds, false, take, ◌≡◌}
+use Rattle.{dwp_table.specs.Columns.contribution_kinds, thorin_check.specs.Apart.AreApart}
+use Rattle.std.proofs.Common.{false, take, ◌≡◌}
 use Rattle.thorin_check.proofs.overlaps.Overlaps.find.Given as goal
 
 -- no ranges of the sections so far clash

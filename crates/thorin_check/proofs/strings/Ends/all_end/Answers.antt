@@ -1,4 +1,4 @@
-use Rattle.thorin_check.proofs.{SharedStrings.all_read, Terms.arith}
+use Rattle.{std.proofs.Common.arith, thorin_check.proofs.Packages.all_read}
 use Rattle.thorin_check.proofs.strings.Ends.all_end.Goals as goal
 
 pub returns : goal.returns

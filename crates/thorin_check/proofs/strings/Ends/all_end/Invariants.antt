@@ -1,4 +1,5 @@
-use Rattle.thorin_check.proofs.Terms.{entry_in, is_inside, true, ℕ, ◌<◌, ◌≡◌}
+use Rattle.{dwp_bytes.specs.StringOffsets.entry_in, thorin_check.specs.Ends.is_inside}
+use Rattle.std.proofs.Common.{true, ℕ, ◌<◌, ◌≡◌}
 use Rattle.thorin_check.proofs.strings.Ends.all_end.Given as goal
 
 -- the offsets so far are inside

@@ -1,4 +1,5 @@
-use Rattle.thorin_check.proofs.Terms.{arith, nat_tests, string_at, string_in}
+use Rattle.std.proofs.{Common.arith, lemmas.Bool.Decides.nat_tests}
+use Rattle.dwp_bytes.specs.StringOffsets.{string_at, string_in}
 use Rattle.thorin_check.proofs.strings.Ends.error_of.Goals as goal
 
 pub returns-then-offset-self : goal.returns-then-offset-self

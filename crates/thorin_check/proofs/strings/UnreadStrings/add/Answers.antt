@@ -1,12 +1,12 @@
-use Rattle.thorin_check.proofs.SharedStrings.{last_added, listed_added, range_ends, same_range}
-use Rattle.thorin_check.proofs.SharedStrings.{gathered, of_found}
-use Rattle.thorin_check.proofs.Terms.{arith, inl, refl, sym, ◌∙◌}
+use Rattle.thorin_check.proofs.Packages.{last_added, listed_added, range_ends, same_offsets}
+use Rattle.thorin_check.proofs.Packages.{gathered, of_found}
+use Rattle.std.proofs.Common.{arith, inl, refl, sym, ◌∙◌}
 use Rattle.thorin_check.proofs.strings.UnreadStrings.add.Goals as goal
 
 pub returns-then-eq : goal.returns-then-eq
 returns-then-eq c = λ pack g is.
     last_added pack c.args.self.now c.args.unit.now c.args.object g is _ c.in-Some.ensures
-    (same_range _ _ (sym c.eq.ensures ∙ c.if-eq.true))
+    (same_offsets _ _ (sym c.eq.ensures ∙ c.if-eq.true))
 
 pub returns-then-all_end : goal.returns-then-all_end
 returns-then-all_end c = λ pack g is.

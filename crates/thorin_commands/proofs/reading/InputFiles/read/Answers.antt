@@ -1,5 +1,6 @@
-use Rattle.thorin_commands.proofs.Terms.{path_bytes, paths_in, rules, ◌≡◌}
-use Rattle.thorin_commands.{proofs.Taken.through_given, specs.Taken.MayRepeat}
+use Rattle.{std.specs.Path.path_bytes, thorin_commands.proofs.Causes.through_given}
+use Rattle.thorin_commands.specs.{Packing.paths_in, Taken.MayRepeat}
+use Rattle.std.proofs.Common.{rules, ◌≡◌}
 use Rattle.thorin_commands.proofs.reading.InputFiles.read.Goals as goal
 
 pub returns-then-is_given-clause-offered : goal.returns-then-is_given-clause-offered

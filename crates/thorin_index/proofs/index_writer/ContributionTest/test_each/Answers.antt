@@ -1,7 +1,8 @@
-use Rattle.thorin_index.proofs.Terms.{[], arith, blank, contribution_kinds, contribution_to, drop}
-use Rattle.thorin_index.proofs.Terms.{drop_all, err_from_is_err_and, get_or, sym, test_of, ◌∙◌, ◌≡◌}
-use Rattle.thorin_index.specs.EntryTests.{contributions_test}
-use Rattle.thorin_index.proofs.Each.{each_passed, next_fails, next_passes}
+use Rattle.{dwp_table.specs.Columns.contribution_kinds, thorin_index.specs.Entries.contribution_to}
+use Rattle.thorin_index.specs.{EntryTests.contributions_test, EntryTests.test_of, Rows.blank}
+use Rattle.thorin_index.proofs.Rows.{each_passed, next_fails, next_passes}
+use Rattle.std.proofs.lemmas.{List.drop_all, Result.err_from_is_err_and}
+use Rattle.std.proofs.Common.{[], arith, drop, get_or, sym, ◌∙◌, ◌≡◌}
 use Rattle.thorin_index.proofs.index_writer.ContributionTest.test_each.Goals as goal
 
 pub returns-in_err-test-clause-exact : goal.returns-in_err-test-clause-exact

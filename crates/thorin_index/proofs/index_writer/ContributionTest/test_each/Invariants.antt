@@ -1,5 +1,6 @@
-use Rattle.thorin_index.proofs.Terms.{blank, contribution_kinds, drop, each, get_or, test_of, ◌≡◌}
-use Rattle.thorin_index.specs.EntryTests.{contributions_test, each_contribution}
+use Rattle.thorin_index.specs.EntryTests.{contributions_test, each, each_contribution, test_of}
+use Rattle.{dwp_table.specs.Columns.contribution_kinds, thorin_index.specs.Rows.blank}
+use Rattle.std.proofs.Common.{drop, get_or, ◌≡◌}
 use Rattle.thorin_index.proofs.index_writer.ContributionTest.test_each.Given as goal
 
 -- what is left has the first error of all

@@ -1,7 +1,6 @@
-use Rattle.std.proofs.Common.{ap, ◌∙◌}
-use Rattle.std.specs.{Map.lookup, Prelude.Bool}
-use Rattle.thorin_inputs.specs.Repetitions.{File}
-use Rattle.thorin_inputs.proofs.Noting.{file_tests, noted_at}
+use Rattle.{std.specs.Map.lookup, thorin_inputs.specs.Repetitions.File}
+use Rattle.thorin_inputs.proofs.Counted.{file_tests, noted_at}
+use Rattle.std.proofs.Common.{ap, Bool, ◌∙◌}
 use Rattle.thorin_inputs.proofs.growth.Repetitions.note.Goals as goal
 
 pub returns-clause-before : goal.returns-clause-before

@@ -1,7 +1,7 @@
+use Rattle.thorin_inputs.proofs.overlaps.InnerStrings.add.Goals.{else-branch, then-branch}
+use Rattle.thorin_inputs.proofs.Counted.{summed_more, summed_same}
 use Rattle.std.proofs.Common.{arith}
-use Rattle.thorin_inputs.proofs.InnerPlaces.{summed_more, summed_same}
 use Rattle.thorin_inputs.proofs.overlaps.InnerStrings.add.Goals as goal
-use Rattle.thorin_inputs.proofs.overlaps.InnerStrings.add.Goals.{then-branch, else-branch}
 
 pub returns-clause-summed : goal.returns-clause-summed
 returns-clause-summed c =

@@ -1,12 +1,11 @@
-use Rattle.thorin_inputs.proofs.overlaps.InnerStrings.count_by.Goals as goal
-use Rattle.std.proofs.Common.{arith, drop, length, sym, ◌*◌, ◌∙◌}
 use Rattle.thorin_inputs.proofs.overlaps.InnerStrings.count_by.Goals.{else-begins_inside-via-then-begins_inside+in_ok-add+else-branch}
 use Rattle.thorin_inputs.proofs.overlaps.InnerStrings.count_by.Goals.{else-begins_inside-via-else-begins_inside}
-use Rattle.std.proofs.lemmas.List.{take_rest}
-use Rattle.dwp_base.specs.Numbers.{number}
+use Rattle.thorin_inputs.proofs.Counted.{among, counted_one, left_more, word_counted, word_passed}
+use Rattle.{dwp_base.specs.Numbers.number, thorin_inputs.proofs.Counted.left_same}
 use Rattle.thorin_inputs.specs.InnerStrings.{begins_inside, word_count}
-use Rattle.thorin_inputs.proofs.InnerPlaces.{among, counted_one, left_more, left_same}
-use Rattle.thorin_inputs.proofs.InnerPlaces.{word_counted, word_passed}
+use Rattle.std.proofs.Common.{arith, drop, length, sym, ◌*◌, ◌∙◌}
+use Rattle.std.proofs.lemmas.List.{take_rest}
+use Rattle.thorin_inputs.proofs.overlaps.InnerStrings.count_by.Goals as goal
 
 pub returns-then-branch : goal.returns-then-branch
 returns-then-branch c =

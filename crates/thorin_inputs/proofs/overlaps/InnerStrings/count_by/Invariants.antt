@@ -1,9 +1,7 @@
-use Rattle.std.proofs.Common.{◌*◌, ◌-◌, ◌||◌, ◌&&◌, eqb, drop, length}
-use Rattle.std.specs.List.{list_any, range_with_len}
-use Rattle.dwp_base.specs.Numbers.{number}
-use Rattle.thorin_inputs.proofs.InnerPlaces.{Left}
-use Rattle.thorin_inputs.specs.InnerPlaces.{is_counted}
+use Rattle.{dwp_base.specs.Numbers.number, std.specs.List.list_any, std.specs.List.range_with_len}
 use Rattle.thorin_inputs.specs.InnerStrings.{begins_inside, has_word, word_count}
+use Rattle.thorin_inputs.{proofs.Counted.Left, specs.InnerPlaces.is_counted}
+use Rattle.std.proofs.Common.{drop, eqb, length, ◌&&◌, ◌*◌, ◌-◌, ◌||◌}
 use Rattle.thorin_inputs.proofs.overlaps.InnerStrings.count_by.Given as goal
 
 -- those that are counted and those that words name which are left are all

@@ -1,11 +1,10 @@
+use Rattle.dwp_base.specs.declared.section.SectionKind.TheVariants.{CuIndex, Str, TuIndex}
+use Rattle.thorin_inputs.proofs.overlaps.UsedSections.of.Goals.{in-Some, in_default}
+use Rattle.std.{proofs.Common.arith, proofs.Common.sym, specs.Option.option_copied}
+use Rattle.{dwp_base.proofs.Finds.slice_get_none, dwp_elf_read.specs.View.elf}
+use Rattle.thorin_inputs.proofs.Counted.{between_next, met_next}
 use Rattle.dwp_elf_read.specs.View as view
 use Rattle.thorin_inputs.proofs.overlaps.UsedSections.of.Goals as goal
-use Rattle.thorin_inputs.proofs.UsedSections.{between_next, met_next}
-use Rattle.std.{proofs.Common.arith, proofs.Common.sym, specs.Option.option_copied}
-use Rattle.dwp_base.proofs.Finds.{slice_get_none}
-use Rattle.dwp_base.specs.declared.section.SectionKind.TheVariants.{CuIndex, Str, TuIndex}
-use Rattle.dwp_elf_read.specs.View.{elf}
-use Rattle.thorin_inputs.proofs.overlaps.UsedSections.of.Goals.{in-Some, in_default}
 
 pub loop-i-preserved : goal.loop-i-preserved
 loop-i-preserved c =

@@ -1,8 +1,7 @@
-use Rattle.std.proofs.Common.{◌≡◌, drop}
-use Rattle.std.specs.{Option.option_copied, Option.option_or}
+use Rattle.{dwp_elf_read.specs.View.elf, std.specs.Option.option_copied, std.specs.Option.option_or}
 use Rattle.dwp_base.specs.declared.section.SectionKind.TheVariants.{CuIndex, Str, TuIndex}
-use Rattle.dwp_elf_read.specs.View.{elf}
 use Rattle.thorin_inputs.specs.{InnerStrings.first_content, UsedSections.AreBetween}
+use Rattle.std.proofs.Common.{drop, ◌≡◌}
 use Rattle.thorin_inputs.proofs.overlaps.UsedSections.of.Given as goal
 
 -- what was met, with what is left

@@ -1,7 +1,6 @@
-use Rattle.std.proofs.Common.{arith, refl, Some, ◌-◌, ◌≡◌}
-use Rattle.std.specs.Prelude.{slice_get}
-use Rattle.std.proofs.lemmas.{Grind.common_steps, Option.gets, Option.get_or_from_slice_get}
-use Rattle.thorin_inputs.proofs.{Best.last, Best.none, Fronts.behind-prefix, Fronts.begun}
+use Rattle.std.proofs.lemmas.{Grind.common_steps, Option.get_or_from_slice_get, Option.gets}
+use Rattle.thorin_inputs.proofs.Fronts.{begun, behind-prefix, last, none}
+use Rattle.std.proofs.Common.{arith, refl, slice_get, Some, ◌-◌, ◌≡◌}
 use Rattle.thorin_inputs.proofs.prefixes.Prefixes.longest.Goals as goal
 
 pub past_last-place-requires-clause-nested : goal.past_last-place-requires-clause-nested

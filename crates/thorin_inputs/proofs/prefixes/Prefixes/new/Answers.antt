@@ -1,9 +1,8 @@
-use Rattle.std.proofs.Common.{add-one, arith, length, List, refl, rules, take-suc, [], ℕ, ◌≡◌}
-use Rattle.std.proofs.lemmas.List.{get_or_default, length_push}
-use Rattle.std.specs.Borrow.{Bor}
-use Rattle.thorin_inputs.proofs.{Best.passed, Best.put, Nested.nested-more, Nested.rising}
-use Rattle.thorin_inputs.proofs.prefixes.Prefixes.new.Goals as goal
+use Rattle.std.{proofs.lemmas.List.get_or_default, proofs.lemmas.List.length_push, specs.Borrow.Bor}
+use Rattle.std.proofs.Common.{[], add-one, arith, length, List, refl, rules, take-suc, ℕ, ◌≡◌}
 use Rattle.thorin_inputs.proofs.prefixes.Prefixes.new.Goals.{in-Some+in_ok-insert, in_default}
+use Rattle.thorin_inputs.proofs.Fronts.{nested-more, passed, put, rising}
+use Rattle.thorin_inputs.proofs.prefixes.Prefixes.new.Goals as goal
 
 abbrev none : Bor (List ℕ)
 none = record { ref_ptr = (0, 0); now = [] }

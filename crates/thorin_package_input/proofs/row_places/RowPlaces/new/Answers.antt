@@ -1,9 +1,9 @@
-use Rattle.std.proofs.Common.{◌≡◌, ap, arith, sym, refl, ◌∙◌, option_copied}
-use Rattle.thorin_package_input.specs.RowPlaces.{row_by_place}
-use Rattle.thorin_package_input.proofs.RowSteps.{from_end, from_absent, from_range}
-use Rattle.thorin_package_input.proofs.row_places.RowPlaces.new.Goals as goal
 use Rattle.thorin_package_input.proofs.row_places.RowPlaces.new.Goals.{in-Some+else-loop-number-test}
 use Rattle.thorin_package_input.proofs.row_places.RowPlaces.new.Goals.{in_default}
+use Rattle.thorin_package_input.proofs.Rows.{from_absent, from_end, from_range}
+use Rattle.std.proofs.Common.{ap, arith, option_copied, refl, sym, ◌∙◌, ◌≡◌}
+use Rattle.thorin_package_input.specs.RowPlaces.{row_by_place}
+use Rattle.thorin_package_input.proofs.row_places.RowPlaces.new.Goals as goal
 
 pub loop-number-init : goal.loop-number-init
 loop-number-init c = from_end _ _ _ _ c.new-rows.ensures.empty

@@ -1,4 +1,5 @@
-use Rattle.thorin_strings.proofs.Terms.{arith, err_from_is_err_and, fitting_read, offset_read}
+use Rattle.std.proofs.{Common.arith, lemmas.Result.err_from_is_err_and}
+use Rattle.thorin_strings.specs.Known.{fitting_read, offset_read}
 use Rattle.thorin_strings.proofs.table.PackageStringTable.fitting_offset.Goals as goal
 
 pub returns-in_err-offset-clause-meaning : goal.returns-in_err-offset-clause-meaning

@@ -1,5 +1,5 @@
-use Rattle.thorin_strings.proofs.Terms.{arith, refl}
-use Rattle.thorin_strings.proofs.RemapLemmas.{read_front, read_used}
+use Rattle.thorin_strings.proofs.Remapping.{read_front, read_used}
+use Rattle.std.proofs.Common.{arith, refl}
 use Rattle.thorin_strings.proofs.table.PackageStringTable.guessed_offset.Goals as goal
 
 pub returns-clause-meaning : goal.returns-clause-meaning

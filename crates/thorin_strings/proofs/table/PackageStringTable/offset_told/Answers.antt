@@ -1,4 +1,4 @@
-use Rattle.thorin_strings.proofs.RemapLemmas.{are_known_later, known_used, was_read}
+use Rattle.thorin_strings.proofs.Remapping.{are_known_later, known_used, was_read}
 use Rattle.thorin_strings.proofs.table.PackageStringTable.offset_told.Goals as goal
 
 pub returns-clause-known : goal.returns-clause-known

@@ -1,4 +1,4 @@
-use Rattle.thorin_strings.proofs.{RemapLemmas.are_known_later, Terms.rules}
+use Rattle.{std.proofs.Common.rules, thorin_strings.proofs.Remapping.are_known_later}
 use Rattle.thorin_strings.proofs.table.PackageStringTable.other_offset.Goals as goal
 
 pub returns-in-Some-placed-clause-known : goal.returns-in-Some-placed-clause-known

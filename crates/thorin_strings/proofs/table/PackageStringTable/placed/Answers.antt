@@ -1,5 +1,5 @@
-use Rattle.thorin_strings.proofs.Terms.{arith, offset_within, refl}
-use Rattle.thorin_strings.proofs.RemapLemmas.{ended_read, read_used}
+use Rattle.{dwp_strings.proofs.Named.offset_within, std.proofs.Common.arith, std.proofs.Common.refl}
+use Rattle.thorin_strings.proofs.Remapping.{ended_read, read_used}
 use Rattle.thorin_strings.proofs.table.PackageStringTable.placed.Goals as goal
 
 pub place-requires : goal.place-requires

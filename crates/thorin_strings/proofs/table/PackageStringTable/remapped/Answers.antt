@@ -1,8 +1,9 @@
-use Rattle.thorin_strings.proofs.Terms
-use Terms.{AreKnown, Ok, [], append-nil, arith, err_from_is_err_and, length, refl, remapped_entries}
-use Terms.{remapped_entry, sym, take, take_all, ◌∙◌, ◌≡◌}
-use Rattle.thorin_strings.proofs.RemapLemmas.{entry_absent, entry_is, entry_was, kept_more}
-use Rattle.thorin_strings.proofs.RemapLemmas.{read_fitting, remapped_refuses, rewritten_more}
+use Rattle.std.proofs.Common.{append-nil, arith, length, Ok, refl, sym, take, [], ◌∙◌, ◌≡◌}
+use Rattle.thorin_strings.proofs.Remapping.{read_fitting, remapped_refuses, rewritten_more}
+use Rattle.thorin_strings.proofs.Remapping.{entry_absent, entry_is, entry_was, kept_more}
+use Rattle.thorin_strings.specs.StringOffsets.{remapped_entries, remapped_entry}
+use Rattle.std.proofs.{Common.take_all, lemmas.Result.err_from_is_err_and}
+use Rattle.thorin_strings.specs.Known.{AreKnown}
 use Rattle.thorin_strings.proofs.table.PackageStringTable.remapped.Goals as goal
 
 pub loop-index-init : goal.loop-index-init

@@ -1,5 +1,5 @@
-use Rattle.thorin_strings.proofs.Terms.{AreKnown, length, take, ◌≡◌}
-use Rattle.thorin_strings.proofs.RemapLemmas.{AreRewritten}
+use Rattle.thorin_strings.{proofs.Remapping.AreRewritten, specs.Known.AreKnown}
+use Rattle.std.proofs.Common.{length, take, ◌≡◌}
 use Rattle.thorin_strings.proofs.table.PackageStringTable.remapped.Given as goal
 
 abbrev pub invariant-loop-index : goal.invariant-loop-index

@@ -1,13 +1,14 @@
-use Rattle.thorin_strings.proofs.Terms
-use Terms.{AreKnown, AreWritten, Little, Ok, [], ap, append-nil, arith, err_from_is_err_and}
-use Terms.{header_size, length, length-append, length-drop, length-take, offset_size, refl}
-use Terms.{remapped_entries, remapped_entry, rules, sym, take, take_all, with_items, with_items_is}
-use Terms.{◌*◌, ◌+◌, ◌<◌, ◌∙◌, ◌≡◌, ◌≤◌}
-use Rattle.thorin_strings.proofs.NamedEntries.{header_long}
-use Rattle.thorin_strings.proofs.RemapLemmas.{are_known_later, entry_is, kept_more, one_written}
-use Rattle.thorin_strings.proofs.RemapLemmas.{read_fitting, remapped_refuses}
-use Rattle.thorin_strings.proofs.table.PackageStringTable.remapped_words.Goals.{After-len-first}
 use Rattle.thorin_strings.proofs.table.PackageStringTable.remapped_words.Goals.{After-write_told-index}
+use Rattle.std.proofs.{Common.length, lemmas.List.with_items_is, lemmas.Result.err_from_is_err_and}
+use Rattle.{dwp_base.specs.declared.endian.Endianness.TheVariants.Little, std.specs.Vec.with_items}
+use Rattle.std.proofs.Common.{ap, append-nil, length-append, length-drop, length-take, rules, sym}
+use Rattle.std.proofs.Common.{arith, Ok, refl, take, take_all, [], ◌*◌, ◌+◌, ◌<◌, ◌∙◌, ◌≡◌, ◌≤◌}
+use Rattle.thorin_strings.proofs.table.PackageStringTable.remapped_words.Goals.{After-len-first}
+use Rattle.thorin_strings.proofs.Remapping.{are_known_later, read_fitting, remapped_refuses}
+use Rattle.thorin_strings.proofs.Remapping.{entry_is, header_long, kept_more, one_written}
+use Rattle.thorin_strings.specs.StringOffsets.{remapped_entries, remapped_entry}
+use Rattle.dwp_bytes.specs.{Encoding.offset_size, StringOffsets.header_size}
+use Rattle.thorin_strings.specs.{Known.AreKnown, Written.AreWritten}
 use Rattle.thorin_strings.proofs.table.PackageStringTable.remapped_words.Goals as goal
 
 is_first : (c : goal.After-len-first) → c.len-first.result ≡ header_size c.args.range.now.encoding

@@ -1,5 +1,6 @@
-use Rattle.thorin_strings.proofs.Terms.{AreKnown, AreWritten, header_size, length, take, ◌*◌, ◌+◌}
-use Rattle.thorin_strings.proofs.Terms.{◌-◌, ◌≡◌, ◌≤◌}
+use Rattle.std.proofs.Common.{length, take, ◌*◌, ◌+◌, ◌-◌, ◌≡◌, ◌≤◌}
+use Rattle.thorin_strings.specs.{Known.AreKnown, Written.AreWritten}
+use Rattle.dwp_bytes.specs.StringOffsets.{header_size}
 use Rattle.thorin_strings.proofs.table.PackageStringTable.remapped_words.Given as goal
 
 abbrev pub invariant-loop-index : goal.invariant-loop-index

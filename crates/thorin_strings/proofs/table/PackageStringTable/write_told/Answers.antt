@@ -1,5 +1,6 @@
-use Rattle.thorin_strings.proofs.Terms.{Little, arith, ◌∙◌}
-use Rattle.thorin_strings.proofs.RemapLemmas.{entry_is, kept_more, one_written, read_fitting}
+use Rattle.thorin_strings.proofs.Remapping.{entry_is, kept_more, one_written, read_fitting}
+use Rattle.dwp_base.specs.declared.endian.Endianness.TheVariants.{Little}
+use Rattle.std.proofs.Common.{arith, ◌∙◌}
 use Rattle.thorin_strings.proofs.table.PackageStringTable.write_told.Goals as goal
 
 pub loop-index-preserved : goal.loop-index-preserved

@@ -1,5 +1,6 @@
-use Rattle.thorin_strings.proofs.Terms.{AreWritten, List, Little, Ok, entry_at, length, take, ℕ}
-use Rattle.thorin_strings.proofs.Terms.{◌-◌, ◌≡◌, ◌≤◌}
+use Rattle.thorin_strings.specs.{StringOffsets.entry_at, Written.AreWritten}
+use Rattle.dwp_base.specs.declared.endian.Endianness.TheVariants.{Little}
+use Rattle.std.proofs.Common.{length, List, Ok, take, ℕ, ◌-◌, ◌≡◌, ◌≤◌}
 use Rattle.thorin_strings.proofs.table.PackageStringTable.write_told.Given as goal
 
 abbrev pub invariant-loop-index : goal.invariant-loop-index

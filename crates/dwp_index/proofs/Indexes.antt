@@ -1,0 +1,418 @@
+-- The numbers, columns and rows of an index: numbers one after the other; reading one column after
+-- the other, and where columns stand, by the numbers that say it; what the fields of an index hold,
+-- and where a look-up ends; and the used slots of an index of distinct identifiers.
+use Rattle.std.proofs.Common.{add-zero, ap, append_assoc, false, is_some, map-id, ne_eqb, refl, sym}
+use Rattle.std.proofs.Common.{List, Ok, [], add-one, cond, find, le-ltb, ltb, not, take, zero, ◌++◌}
+use Rattle.std.proofs.Common.{eq-eqb, filter, inr, length-drop, map, subst, zero-add, ◌+◌, ◌∷◌, ◌≡◌}
+use Rattle.std.proofs.Common.{None, Some, get_or-set_other, inl, length, unwrap_or, ◌*◌, ◌<◌, ◌∙◌}
+use Rattle.std.proofs.Common.{Err, Option, Result, drop, drop-drop, eqb, get_or, set, true, ◌-◌}
+use Rattle.std.proofs.Common.{Bool, arith, is_none, length-append, length-set, suc, ℕ, ◌≤◌, ◌⊎◌}
+use Rattle.dwp_index.specs.{Naming.IsIndexOfIds, Naming.entries_of, Used.slot_at, Used.used_in}
+use Rattle.std.proofs.lemmas.List.{get_or-map, get_or_past, length-map, set-get_or, set_split}
+use Rattle.dwp_bytes.specs.declared.error.ReadError.TheVariants.{UnexpectedEof, UnknownColumn}
+use Rattle.dwp_index.specs.{Fields.index_in, Index.Index, Index.column_place, Used.used_from}
+use Rattle.dwp_table.specs.Probing.{first_end, found_row, is_end, look_count, place, row_of}
+use Rattle.dwp_index.specs.{Naming.numbered, declared.unit_index.UnitIndex.TheInside.Inside}
+use Rattle.dwp_table.specs.Columns.{gnu_column, kind_of_column, kind_with, standard_column}
+use Rattle.std.{proofs.Common.lt-ltb, specs.Option.option_and_then, specs.Option.option_or}
+use Rattle.dwp_bytes.specs.declared.error.ReadError.{ReadError, TheVariants.RepeatedColumn}
+use Rattle.dwp_base.{proofs.Bools.by-bool, specs.declared.section.SectionKind.SectionKind}
+use Rattle.std.specs.List.{Sorted.IsPermutation, list_any, position_from, range_with_len}
+use Rattle.dwp_base.specs.declared.{by_kind.ByKind.ByKind, endian.Endianness.Endianness}
+use Rattle.std.proofs.lemmas.Bool.{Decides.nat_tests, cases_eq, false≢true, or_right}
+use Rattle.std.proofs.lemmas.List.Sorted.{IsPermutation-push_more, IsPermutation-sym}
+use Rattle.dwp_index.specs.IndexBytes.{columns_at, new_column, number_rows, numbers}
+use Rattle.std.proofs.lemmas.List.Sorted.{IsPermutation-append, IsPermutation-refl}
+use Rattle.std.proofs.lemmas.List.Sorted.{IsPermutation-map, IsPermutation-middle}
+use Rattle.dwp_base.specs.{Numbers.number, Sections.all_kinds, Sections.same_kind}
+use Rattle.dwp_index.specs.Entries.{compilation_entry, entries_from, type_entry}
+use Rattle.std.proofs.lemmas.List.FromFn.{fill_by_all, map-range_with_len_more}
+use Rattle.std.proofs.{Math.Seq.get_or-append_seam, lemmas.Grind.get_or-set_at}
+use Rattle.dwp_table.specs.Columns.{column_of, contribution_kinds, is_number}
+use Rattle.dwp_index.specs.Places.{ArePlaces, IsPlace, NO_COLUMN, place_held}
+use Rattle.std.proofs.lemmas.{List.Elements.filter-append, Option.same_Some}
+use Rattle.dwp_table.specs.Table.{IsHashTable, IsIndex, signature_of}
+use Rattle.dwp_base.proofs.EveryKind.{is-same, same-each, same-self}
+
+pub length-numbers : (order : Endianness) (width n : ℕ) (bytes : List ℕ)
+    → length (numbers order width n bytes) ≡ n
+length-numbers order width zero bytes = refl
+length-numbers order width (suc n) bytes = ap suc (length-numbers order width n (drop width bytes))
+
+pub length-number_rows : (order : Endianness) (columns n : ℕ) (bytes : List ℕ)
+    → length (number_rows order columns n bytes) ≡ n
+length-number_rows order columns zero bytes = refl
+length-number_rows order columns (suc n) bytes =
+    ap suc (length-number_rows order columns n (drop (4 * columns) bytes))
+
+-- the number at a place
+pub get_or-numbers : (order : Endianness) (width n : ℕ) (bytes : List ℕ) (k d : ℕ) → k < n
+    → get_or (numbers order width n bytes) k d ≡ number order width (drop (width * k) bytes)
+get_or-numbers order width zero bytes k d h = absurd (omega arith)
+get_or-numbers order width (suc n) bytes zero d h =
+    let none : width * 0 ≡ 0 = omega arith in rw none refl
+get_or-numbers order width (suc n) bytes (suc k) d h =
+    let next : width * suc k ≡ width + width * k = omega arith in
+    rw (next, ← drop-drop (width * k) width bytes)
+    (get_or-numbers order width n (drop width bytes) k d (omega arith))
+
+-- the row at a place
+pub get_or-number_rows : (order : Endianness) (columns n : ℕ) (bytes : List ℕ) (r : ℕ) (d : List ℕ)
+    → r < n → get_or (number_rows order columns n bytes) r d ≡ numbers order 4 columns
+    (drop (4 * columns * r) bytes)
+get_or-number_rows order columns zero bytes r d h = absurd (omega arith)
+get_or-number_rows order columns (suc n) bytes zero d h =
+    let none : 4 * columns * 0 ≡ 0 = omega arith in rw none refl
+get_or-number_rows order columns (suc n) bytes (suc r) d h =
+    let next : 4 * columns * suc r ≡ 4 * columns + 4 * columns * r = omega arith in
+    rw (next, ← drop-drop (4 * columns * r) (4 * columns) bytes)
+    (get_or-number_rows order columns n (drop (4 * columns) bytes) r d (omega arith))
+
+-- what is known of the numbers of an index's fields
+pub ruleset read_numbers = (length-numbers, length-number_rows, get_or-numbers, length-drop)
+
+-- one more number
+pub numbers_more : (order : Endianness) (width n : ℕ) (bytes : List ℕ) → numbers order width (n + 1)
+    bytes ≡ numbers order width n bytes ++ number order width (drop (width * n) bytes) ∷ []
+numbers_more order width n bytes = rw (add-one n) (last n bytes)
+  where
+    last : (n : ℕ) (bytes : List ℕ) → numbers order width (suc n) bytes ≡ numbers order width n
+        bytes ++ number order width (drop (width * n) bytes) ∷ []
+    last zero bytes = let none : width * 0 ≡ 0 = omega arith in rw none refl
+    last (suc n) bytes =
+        let next : width * suc n ≡ width + width * n = omega arith in
+        rw (next, ← drop-drop (width * n) width bytes) (ap (λ xs. number order width bytes ∷ xs)
+        (last n (drop width bytes)))
+
+-- a number has a place just where it is among them
+pub is_some-position : (test : ℕ → Bool) (i : ℕ) (xs : List ℕ) → is_some (position_from test i xs) ≡
+    list_any test xs
+is_some-position test i [] = refl
+is_some-position test i (x ∷ xs) = grind (arith, is_some-position test (i + 1) xs)
+
+-- what reading the columns gives behind the first i of them
+abbrev pub Behind : Endianness → ℕ → List ℕ → ℕ → ℕ → Result (List ℕ × List ℕ) ReadError
+Behind order version bytes count i =
+    columns_at order version (numbers order 4 i bytes) (count - i) (drop (4 * i) bytes)
+
+module _ (order : Endianness) (version : ℕ) (bytes : List ℕ) (count i : ℕ) where
+  pub done : count ≤ i
+      → Behind order version bytes count i ≡ Ok (numbers order 4 i bytes, drop (4 * i) bytes)
+  unfolding columns_at
+  done h = let none : count - i ≡ 0 = omega arith in rw none refl
+
+  -- at a further column
+  module _ (h : i < count) where
+    more : count - i ≡ suc (count - (i + 1))
+    more = omega arith
+
+    pub ends : length bytes < 4 * i + 4 → Behind order version bytes count i ≡ Err UnexpectedEof
+    unfolding columns_at
+    ends short =
+        rw (more, lt-ltb (length (drop (4 * i) bytes)) 4 (omega (arith, length-drop (4 * i) bytes)))
+        refl
+
+    module _ (enough : 4 * i + 4 ≤ length bytes) where
+      there : ltb (length (drop (4 * i) bytes)) 4 ≡ false
+      there = le-ltb (length (drop (4 * i) bytes)) 4 (omega (arith, length-drop (4 * i) bytes))
+
+      -- it is refused where the version hasn't it, or where it stood before
+      pub further : (unknown repeated : Bool)
+          → is_none (kind_of_column version (number order 4 (drop (4 * i) bytes))) ≡ unknown
+          → list_any (λ c. eqb c (number order 4 (drop (4 * i) bytes))) (numbers order 4 i bytes)
+          ≡ repeated → Behind order version bytes count i ≡ cond unknown (Err UnknownColumn)
+          (cond repeated (Err RepeatedColumn) (Behind order version bytes count (i + 1)))
+      unfolding columns_at new_column
+      further true repeated e f = rw (more, there, e) refl
+      further false true e f = rw (more, there, e, f) refl
+      further false false e f =
+          let next : 4 * (i + 1) ≡ 4 * i + 4 = omega arith in
+          rw (more, there, e, f, numbers_more order 4 i bytes, next, drop-drop) refl
+
+-- ---- the numbers of columns: each is that of one section
+abbrev again : (SectionKind → Option ℕ) → SectionKind → Option SectionKind
+again column kind =
+    cond (is_some (column kind)) (kind_with column (unwrap_or (column kind) 0)) (Some kind)
+
+named_by : (column : SectionKind → Option ℕ) → map (again column) all_kinds ≡ map Some all_kinds
+    → (n : ℕ) (kind : SectionKind) → column kind ≡ Some n → kind_with column n ≡ Some kind
+named_by column all n kind e = rw e at (same-each (again column) Some all kind)
+
+-- each column's number is that of its section alone
+pub kind_of_number : (version n : ℕ) (kind : SectionKind) → column_of version kind ≡ Some n
+    → kind_of_column version n ≡ Some kind
+kind_of_number version n kind e = by-bool _ (eqb version 5)
+    (λ five. rw five (named_by standard_column refl n kind (rw five at e)))
+    (λ two. rw two (named_by gnu_column refl n kind (rw two at e)))
+
+-- the section of a number has that number
+with_number : (column : SectionKind → Option ℕ) (n : ℕ) (kinds : List SectionKind)
+    (kind : SectionKind) → find (λ k. is_number (column k) n) kinds ≡ Some kind
+    → column kind ≡ Some n
+with_number column n [] kind e = absurd cc
+with_number column n (k ∷ ks) kind e = grind (arith, nat_tests, with_number column n ks kind)
+
+number_of_kind : (version n : ℕ) (kind : SectionKind) → kind_of_column version n ≡ Some kind
+    → column_of version kind ≡ Some n
+number_of_kind version n kind e = by-bool (column_of version kind ≡ Some n) (eqb version 5)
+    (λ five. rw five (with_number standard_column n contribution_kinds kind (rw five at e)))
+    (λ two. rw two (with_number gnu_column n contribution_kinds kind (rw two at e)))
+
+-- ---- what the number of a place says
+pub says_none : (count held n : ℕ) (o : Option ℕ) → IsPlace count held o → n ≡ held
+    → n ≡ NO_COLUMN → o ≡ None
+says_none count held n None is e none = refl
+says_none count held n (Some i) is e none = absurd (omega (arith, is.0, is.2))
+
+pub says_some : (count held n : ℕ) (o : Option ℕ) → IsPlace count held o → n ≡ held
+    → (n ≡ NO_COLUMN → ⊥) → (o ≡ Some n) × (n < count)
+says_some count held n None is e other = absurd (other (e ∙ is))
+says_some count held n (Some i) is e other = (ap Some (sym (e ∙ is.0)), omega (arith, is.0, is.1))
+
+-- ---- one more column
+-- the place in a list with one number more
+position_push : (test : ℕ → Bool) (i : ℕ) (xs : List ℕ) (n : ℕ) → position_from test i
+    (xs ++ n ∷ []) ≡ option_or (position_from test i xs) (cond (test n) (Some (i + length xs)) None)
+position_push test i [] n = rw add-zero refl
+position_push test i (x ∷ xs) n = grind (arith, position_push test (i + 1) xs n)
+
+abbrev place_of : Option ℕ → List ℕ → Option ℕ
+place_of number columns = option_and_then (λ c. position_from (λ n. eqb n c) 0 columns) number
+
+-- the number of a section's column has no place just where the section has none
+number_place : (version n : ℕ) (columns : List ℕ) (kind : SectionKind) → kind_of_column version n
+    ≡ Some kind → column_place version columns kind ≡ position_from (λ x. eqb x n) 0 columns
+unfolding column_place
+number_place version n columns kind e = rw (number_of_kind version n kind e) refl
+
+wider : (count held : ℕ) (o : Option ℕ) → IsPlace count held o → IsPlace (count + 1) held o
+wider count held None is = is
+wider count held (Some i) is = (is.0, omega (arith, is.1), is.2)
+
+same_place : (version n : ℕ) (columns : List ℕ) (kind : SectionKind)
+    → (column_of version kind ≡ Some n → ⊥)
+    → column_place version (columns ++ n ∷ []) kind ≡ column_place version columns kind
+unfolding column_place
+same_place version n columns kind = go (column_of version kind)
+  where
+    go : (o : Option ℕ) → (o ≡ Some n → ⊥) → place_of o (columns ++ n ∷ []) ≡ place_of o columns
+    go None other = refl
+    go (Some c) other = position_push (λ x. eqb x c) 0 columns n
+        ∙ rw (ne_eqb n c (λ e. other (ap Some (sym e)))) (grind arith)
+
+-- where columns stand once there is one more, of a section that had none
+pub one_more : (old new : ByKind ℕ) (version count n : ℕ) (columns more : List ℕ)
+    (kind : SectionKind) → more ≡ columns ++ n ∷ [] → length columns ≡ count → count < NO_COLUMN
+    → ArePlaces old version count columns → kind_of_column version n ≡ Some kind
+    → place_held old kind ≡ NO_COLUMN → ((other : SectionKind) → place_held new other ≡ cond
+    (same_kind other kind) count (place_held old other)) → ArePlaces new version (count + 1) more
+one_more old new version count n columns more kind longer long small are named none put other =
+    let absent : position_from (λ x. eqb x n) 0 columns ≡ None =
+    sym (number_place version n columns kind named) ∙ says_none count (place_held old kind)
+    (place_held old kind) (column_place version columns kind) (are kind) refl none in
+    let found : column_place version (columns ++ n ∷ []) kind ≡ Some count = number_place version n
+    (columns ++ n ∷ []) kind named ∙ position_push (λ x. eqb x n) 0 columns n
+    ∙ rw (absent, eq-eqb n n refl, zero-add, long) refl in rw longer (by-bool
+    (IsPlace (count + 1) (place_held new other) (column_place version (columns ++ n ∷ []) other))
+    (same_kind other kind) (λ e. let same = is-same other kind e in
+    rw (put other, e, same, found) (refl, omega arith, small)) (λ e. let apart : (column_of
+    version other ≡ Some n → ⊥) = λ f. false≢true (sym e ∙ ap (λ k. same_kind k kind)
+    (same_Some other kind (sym (kind_of_number version n other f) ∙ named)) ∙ same-self kind) in
+    rw (put other, e, same_place version n columns other apart)
+    (wider count (place_held old other) (column_place version columns other) (are other))))
+
+no_place : (o : Option ℕ) → place_of o [] ≡ None
+no_place None = refl
+no_place (Some c) = refl
+
+-- there are no columns yet
+pub none_yet : (p : ByKind ℕ) (version : ℕ) → ((kind : SectionKind) → place_held p kind ≡ NO_COLUMN)
+    → ArePlaces p version 0 []
+unfolding column_place
+none_yet p version none kind = rw (no_place (column_of version kind)) (none kind)
+
+-- a number is among the columns just where its section's column has a place
+pub among : (version n : ℕ) (columns : List ℕ) (kind : SectionKind) → kind_of_column version n
+    ≡ Some kind → list_any (λ x. eqb x n) columns ≡ is_some (column_place version columns kind)
+among version n columns kind named = sym (is_some-position (λ x. eqb x n) 0 columns)
+    ∙ ap is_some (sym (number_place version n columns kind named))
+
+-- as many slots and rows as the fields say
+pub slots-length : (u : Inside) (v : Index) → index_in u ≡ v → length v.rows ≡ u.slot_count
+slots-length u v e = rw (← e) (length-numbers u.order 4 u.slot_count u.rows.now)
+
+pub units-length : (u : Inside) (v : Index) → index_in u ≡ v → length v.offsets ≡ u.unit_count
+units-length u v e = rw (← e) (length-number_rows u.order u.column_count u.unit_count u.offsets.now)
+
+-- ---- where a look-up ends
+
+module _ (signatures rows : List ℕ) (x : ℕ) where
+  -- from the i-th place on it ends at the first that ends it
+  abbrev pub end_from : ℕ → Option ℕ
+  end_from i = find (λ j. is_end signatures rows x (place (length rows) x j))
+      (range_with_len i (length rows - i))
+
+  pub end-start : first_end signatures rows x ≡ end_from 0
+  unfolding first_end
+  end-start = let all : length rows - 0 ≡ length rows = omega arith in rw all refl
+
+  -- the row found and the count, where the look-up ends nowhere
+  pub unended : (i : ℕ) → length rows ≤ i → first_end signatures rows x ≡ end_from i
+      → (found_row signatures rows x ≡ None) × (look_count signatures rows x ≡ length rows)
+  unfolding found_row look_count
+  unended i past rest =
+      let none : length rows - i ≡ 0 = omega arith in
+      let end : first_end signatures rows x ≡ None = rest ∙ rw none refl in
+      (rw end refl, rw end refl)
+
+  -- it went on to the i-th place
+  pub record IsLooking (i at : ℕ) : Type 0 where
+    pub at_place : at ≡ place (length rows) x i
+    pub within : at < length rows
+    pub rest : first_end signatures rows x ≡ end_from i
+
+  module _ {i at : ℕ} (looking : IsLooking i at) (within : i < length rows) where
+    end-by : (b : Bool) → is_end signatures rows x at ≡ b
+        → first_end signatures rows x ≡ cond b (Some i) (end_from (i + 1))
+    end-by b e =
+        let more : length rows - i ≡ suc (length rows - (i + 1)) = omega arith in
+        looking.rest ∙ rw (more, ← looking.at_place, e) refl
+
+    -- a slot with a row ends the look-up of its signature alone, one without it each
+    pub end-on : (get_or rows at 0 ≡ 0 → ⊥) → (get_or signatures at 0 ≡ x → ⊥)
+        → first_end signatures rows x ≡ end_from (i + 1)
+    end-on used other = end-by false
+        (rw (ne_eqb (get_or rows at 0) 0 used, ne_eqb (get_or signatures at 0) x other) refl)
+
+    pub ended : (get_or rows at 0 ≡ 0) ⊎ (get_or signatures at 0 ≡ x) → (found_row signatures rows x
+        ≡ row_of (get_or rows at 0)) × (look_count signatures rows x ≡ i + 1)
+    unfolding found_row look_count
+    ended ends =
+        let end = end-by true
+        (elim ends [ inl e ↦ rw e refl | inr e ↦ or_right _ _ (eq-eqb _ _ e) ]) in
+        (rw (end, ← looking.at_place) refl, rw end (omega arith))
+
+pub row_of-used : (r : ℕ) → (r ≡ 0 → ⊥) → row_of r ≡ Some r
+row_of-used r ne = grind (arith, ne)
+
+abbrev used : ℕ → Bool
+used r = not (eqb r 0)
+
+-- ---- the numbers up to n, each once
+record HasEach (n : ℕ) (xs : List ℕ) : Type 0 where
+  each : (r : ℕ) → r < n → (k : ℕ) × (k < length xs) × (get_or xs k 0 ≡ suc r)
+  most : (k : ℕ) → get_or xs k 0 ≤ n
+  once : (k l : ℕ) → 0 < get_or xs k 0 → get_or xs k 0 ≡ get_or xs l 0 → k ≡ l
+
+none_used : (xs : List ℕ) → ((k : ℕ) → get_or xs k 0 ≤ 0) → filter used xs ≡ []
+none_used [] h = refl
+none_used (x ∷ xs) h =
+    let first : x ≡ 0 = omega (arith, h 0) in rw (first, none_used xs (λ k. h (suc k))) refl
+
+-- one of them taken out
+one_out : (xs : List ℕ) (k r : ℕ) → k < length xs → get_or xs k 0 ≡ suc r
+    → IsPermutation (suc r ∷ filter used (set xs k 0)) (filter used xs)
+one_out xs k r h e =
+    let whole : take k xs ++ suc r ∷ drop (suc k) xs ≡ xs =
+    sym (set_split xs k (suc r) h) ∙ ap (set xs k) (sym e) ∙ set-get_or xs k 0 in
+    let some = ne_eqb (suc r) 0 (λ z. omega arith) in
+    subst (λ l. IsPermutation (suc r ∷ filter used (set xs k 0)) (filter used l)) whole
+    (rw (set_split xs k 0 h) (simp (filter-append, some)
+    (IsPermutation-sym _ _ (IsPermutation-middle (filter used (take k xs)) (suc r) _))))
+
+one_fewer : (n : ℕ) (xs : List ℕ) (has : HasEach (suc n) xs)
+    → HasEach n (set xs (has.each n (omega arith)).0 0)
+one_fewer n xs has =
+    let last = has.each n (omega arith) in
+    let at = last.0 in
+    let xs' = set xs at 0 in
+    let read : (k : ℕ) → ((k ≡ at) × (get_or xs' k 0 ≡ 0))
+    ⊎ ((k ≡ at → ⊥) × (get_or xs' k 0 ≡ get_or xs k 0)) =
+    λ k. grind (arith, cases_eq k at, last.1, get_or-set_at, get_or-set_other) in
+    record {
+      each = λ r h.
+          let k = has.each r (omega arith) in
+          (k.0, omega (arith, length-set xs at 0, k.1), grind (arith, read k.0));
+      most = λ k. grind (arith, read k, has.most k, has.once k at);
+      once = λ k l some same. grind (arith, read k, read l, has.once k l);
+    }
+
+each_once : (n : ℕ) (xs : List ℕ) → HasEach n xs
+    → IsPermutation (range_with_len 1 n) (filter used xs)
+each_once zero xs has = rw (none_used xs has.most) (IsPermutation-refl [])
+each_once (suc n) xs has =
+    let last = has.each n (omega arith) in
+    let fewer = set xs last.0 0 in
+    let more : range_with_len 1 (suc n) ≡ range_with_len 1 n ++ suc n ∷ [] =
+    rw add-one at (simp map-id at (map-range_with_len_more (λ k. k) 1 n (suc n) (omega arith))) in
+    rw more (IsPermutation-push_more (range_with_len 1 n) (filter used fewer) (filter used xs)
+    (suc n) (each_once n fewer (one_fewer n xs has)) (one_out xs last.0 n last.1 last.2))
+
+-- ---- the slots
+abbrev named : List ℕ → ℕ → ℕ × ℕ
+named ids r = (signature_of ids r, r)
+
+-- a slot with a row is one of the slots
+slot-within : (rows : List ℕ) (k : ℕ) → 0 < get_or rows k 0 → k < length rows
+slot-within rows k some = grind (arith, get_or_past rows k 0)
+
+rows_have_each : (ids rows : List ℕ) → IsHashTable ids rows → HasEach (length ids) rows
+rows_have_each ids rows table = record {
+  each = λ r h. let at = table.placed r h in
+      let slot = place (length rows) (get_or ids r 0) at.0 in let row : get_or rows slot 0
+      ≡ suc r = omega (arith, at.1.here) in (slot, slot-within rows slot (omega (arith, row)), row);
+  most = table.only;
+  once = λ k l some same. table.once k l
+      (slot-within rows k some) (slot-within rows l (omega (arith, some, same))) some same;
+}
+
+used-map : (ids rows : List ℕ)
+    → filter (λ s. used s.1) (map (named ids) rows) ≡ map (named ids) (filter used rows)
+used-map ids [] = refl
+used-map ids (r ∷ rows) = grind (arith, used-map ids rows)
+
+-- the used slots are the used rows with their names
+used-named : (ids : List ℕ) (index : Index) → IsIndex ids index.signatures index.rows
+    → used_in index 0 ≡ map (named ids) (filter used index.rows)
+unfolding used_in
+used-named ids index is =
+    let all : length index.rows - 0 ≡ length index.rows = omega arith in
+    let slots = fill_by_all (slot_at index) (map (named ids) index.rows) (length index.rows) (0, 0)
+    (length-map index.rows (named ids)) (λ k h. get_or-map (named ids) index.rows k 0 (0, 0) h
+    ∙ ap (λ (s : ℕ). (s, get_or index.rows k 0)) (sym (is.beside k h))) in
+    rw (all, ← slots) (used-map ids index.rows)
+
+-- ---- the identifiers
+named-at : (before ids : List ℕ) (x r : ℕ) → r ≡ suc (length before)
+    → named (before ++ x ∷ ids) r ≡ (x, r)
+named-at before ids x r e =
+    rw e (ap (λ s. (s, suc (length before))) (get_or-append_seam before x ids 0))
+
+numbered-from : (before ids : List ℕ) (r : ℕ) → r ≡ suc (length before) → numbered r ids ≡ map
+    (named (before ++ ids)) (range_with_len r (length ids))
+numbered-from before [] r e = refl
+numbered-from before (x ∷ ids) r e =
+    let longer : r + 1 ≡ suc (length (before ++ x ∷ [])) =
+    omega (arith, length-append before (x ∷ [])) in rw (
+      numbered-from (before ++ x ∷ []) ids (r + 1) longer,
+      append_assoc,
+      ← named-at before ids x r e,
+    ) refl
+
+pub slots_once : (ids : List ℕ) (index : Index) → IsIndex ids index.signatures index.rows
+    → IsPermutation (numbered 1 ids) (used_in index 0)
+slots_once ids index is = rw
+    (numbered-from [] ids 1 (omega arith), used-named ids index is) (IsPermutation-map
+    (named ids) _ _ (each_once (length ids) index.rows (rows_have_each ids index.rows is.table)))
+
+used_once : (index : Option Index) (ids : List ℕ) → IsIndexOfIds index ids
+    → IsPermutation (numbered 1 ids) (used_from index 0)
+used_once None ids none = rw none (IsPermutation-refl [])
+used_once (Some index) ids is = slots_once ids index is
+
+pub entries_once : (compilations types : Option Index) (ids signatures : List ℕ)
+    → IsIndexOfIds compilations ids → IsIndexOfIds types signatures
+    → IsPermutation (entries_of ids signatures) (entries_from compilations types 0 0)
+entries_once compilations types ids signatures c t = IsPermutation-append _ _ _ _
+    (IsPermutation-map compilation_entry _ _ (used_once compilations ids c))
+    (IsPermutation-map type_entry _ _ (used_once types signatures t))

@@ -1,0 +1,300 @@
+-- What is counted of inputs: sizes of sections that are added up; places of strings, one after
+-- another, and what their strings have together; the sections that strings are named by, met one
+-- after another; and files, looked up among those that were read.
+use Rattle.std.proofs.Common.{drop, Err, leb, List, min, refl, true, zero, ◌-◌, ◌<◌, ◌^◌, ◌||◌, ◌≤◌}
+use Rattle.std.proofs.Common.{length-drop, length-take, nat_lt, Option, option_map, slice_get, ◌&&◌}
+use Rattle.std.specs.{List.position_or_len, List.range_with_len, Option.option_or, Ordering.nat_cmp}
+use Rattle.{dwp_decompress.proofs.Sections.drop_step, thorin_inputs.specs.RepetitionFields.file_cmp}
+use Rattle.thorin_inputs.specs.InnerStrings.{has_word, names, plain_content, sizes_at, string_size}
+use Rattle.thorin_inputs.specs.{InnerStrings.most_inner, UsedSections.AreBetween, UsedSections.met}
+use Rattle.std.proofs.Common.{arith, Bool, cond, false, length, None, Result, Some, subst, sum_by}
+use Rattle.thorin_inputs.specs.{InnerStrings.first_content, Repetitions.File, Repetitions.is_file}
+use Rattle.thorin_inputs.specs.{declared.overlaps.InnerStrings.InnerStrings, Overlaps.each_size}
+use Rattle.dwp_base.specs.declared.section.SectionKind.{SectionKind, TheVariants.StrOffsets}
+use Rattle.{dwp_base.proofs.Bools.by-bool, std.specs.List.list_any, std.specs.Map.lookup}
+use Rattle.dwp_bytes.specs.{declared.error.ReadError.ReadError, StringOffsets.string_at}
+use Rattle.dwp_base.{proofs.Finds.find_at, specs.declared.endian.Endianness.Endianness}
+use Rattle.std.proofs.lemmas.List.{drop_all, Sums.sum_by-cons, Sums.sum_by-le-sum_by}
+use Rattle.std.proofs.Common.{[], ap, eqb, ltb, Ok, suc, sym, ℕ, ◌+◌, ◌∙◌, ◌∷◌, ◌≡◌}
+use Rattle.thorin_inputs.specs.InnerPlaces.{Counts, is_counted, IsSummed, IsWithin}
+use Rattle.std.proofs.lemmas.Bool.{Decides.nat_tests, eqb-true, ltb-false}
+use Rattle.std.specs.BTreeMap.{BTreeMap, is_at, Updates as MapUpdates}
+use Rattle.dwp_elf_read.specs.Elf.{Elf, holds, SectionMeaning}
+use Rattle.std.specs.BTreeSet.{BTreeSet, contains, Updates}
+
+abbrev left : List SectionMeaning → ℕ → ℕ
+left sections i = sum_by each_size (drop i sections)
+
+pub each_step : (sections : List SectionMeaning) (i size here more : ℕ) (section : SectionMeaning)
+    → slice_get sections i ≡ Some section → here ≡ each_size section
+    → more ≡ min (size + here) (2 ^ 64 - 1)
+    → min (more + left sections (i + 1)) (2 ^ 64 - 1) ≡ min (size + left sections i) (2 ^ 64 - 1)
+each_step sections i size here more section at h m =
+    let all = ap (sum_by each_size) (drop_step sections i section at)
+    ∙ sum_by-cons each_size section (drop (i + 1) sections) in
+    omega (arith, all, h, m)
+
+pub each_end : (sections : List SectionMeaning) (i : ℕ) → length sections ≤ i → left sections i ≡ 0
+each_end sections i h = ap (sum_by each_size) (drop_all i sections h)
+
+-- ---- sizes
+
+-- what a place counts
+abbrev pub counts : (ℕ → ℕ) → (ℕ → Bool) → ℕ → ℕ
+counts size is_taken at = cond (is_taken at) (size at) 0
+
+-- one place more
+one_more : (size : ℕ → ℕ) (p q : ℕ → Bool) (new : ℕ) → p new ≡ false
+    → ((at : ℕ) → q at ≡ (p at || eqb new at)) → (a n : ℕ)
+    → sum_by (counts size q) (range_with_len a n)
+    ≡ sum_by (counts size p) (range_with_len a n) + cond (leb a new && ltb new (a + n)) (size new) 0
+one_more size p q new fresh h a zero = grind (arith, nat_tests)
+one_more size p q new fresh h a (suc n) =
+    let left = sum_by-cons (counts size q) a (range_with_len (a + 1) n) in
+    let right = sum_by-cons (counts size p) a (range_with_len (a + 1) n) in
+    let rest = one_more size p q new fresh h (a + 1) n in
+    grind (arith, nat_tests, left, right, rest, h a, fresh)
+
+nothing : (size : ℕ → ℕ) (a n : ℕ) → sum_by (counts size (λ at. false)) (range_with_len a n) ≡ 0
+nothing size a zero = refl
+nothing size a (suc n) = nothing size (a + 1) n
+
+-- without a place there are none
+pub sizes_none : (strings : List ℕ) (p : ℕ → Bool) → ((at : ℕ) → p at ≡ false)
+    → 0 ≡ sizes_at strings p
+sizes_none strings p h =
+    sym (ap (sizes_at strings) (λ i at. h at i) ∙ nothing (string_size strings) 0 (length strings))
+
+-- more places have more bytes
+sizes_grow : (strings : List ℕ) (p q : ℕ → Bool) → ((at : ℕ) → p at ≡ true → q at ≡ true)
+    → sizes_at strings p ≤ sizes_at strings q
+sizes_grow strings p q h =
+    let size = string_size strings in
+    sum_by-le-sum_by (counts size p) (counts size q) (range_with_len 0 (length strings))
+    (λ at. grind (arith, h at))
+
+-- ---- places
+
+-- the numbers from one on
+range_step : (n k : ℕ) → k < n
+    → range_with_len k (n - k) ≡ k ∷ range_with_len (k + 1) (n - (k + 1))
+range_step n k h =
+    let more : n - k ≡ suc (n - (k + 1)) = omega arith in
+    rw more refl
+
+module _ (strings : List ℕ) (old new : BTreeSet ℕ) (place size : ℕ)
+    (summed : size ≡ sizes_at strings (contains nat_cmp old))
+    (updates : Updates nat_cmp old new place true) where
+  -- a set with one key more
+  with_key : (at : ℕ) → contains nat_cmp new at ≡ (contains nat_cmp old at || eqb place at)
+  with_key at = grind (arith, nat_tests, updates.0 at)
+
+  -- the size with one place more
+  pub summed_more : (here : ℕ) → here ≡ string_size strings place
+      → contains nat_cmp old place ≡ false → size + here ≡ sizes_at strings (contains nat_cmp new)
+  summed_more here is fresh =
+      let all = one_more (string_size strings) (contains nat_cmp old) (contains nat_cmp new) place
+      fresh with_key 0 (length strings) in
+      grind (arith, nat_tests, all, is, summed)
+
+  -- with one that was there
+  pub summed_same : contains nat_cmp old place ≡ true
+      → size ≡ sizes_at strings (contains nat_cmp new)
+  summed_same there =
+      let same : (at : ℕ) → contains nat_cmp old at ≡ contains nat_cmp new at =
+      λ at. grind (arith, nat_tests, with_key at, there) in
+      summed ∙ ap (sizes_at strings) (λ i at. same at i)
+
+-- ---- what is counted, and what is left
+
+-- both are all, and what is counted is no more than it may be
+pub record Left (it : InnerStrings) (strings : List ℕ) (size : ℕ) (rest all : ℕ → Bool) : Type 0
+  where
+    pub within : IsWithin it
+    pub same : it.strings.now ≡ strings
+    pub file : it.file_size ≡ size
+    pub both : (at : ℕ) → (is_counted it at || rest at) ≡ all at
+
+module _ (it : InnerStrings) (strings : List ℕ) (size : ℕ) (rest all : ℕ → Bool)
+    (left : Left it strings size rest all) where
+  -- the same is left
+  pub left_same : (rest' : ℕ → Bool) → ((at : ℕ) → rest at ≡ rest' at)
+      → Left it strings size rest' all
+  left_same rest' same = subst (λ r. Left it strings size r all) (λ i at. same at i) left
+
+  -- once nothing is left
+  pub not_too_large : ((at : ℕ) → rest at ≡ false)
+      → false ≡ nat_lt (most_inner size) (sizes_at strings all)
+  not_too_large none =
+      let each : (at : ℕ) → is_counted it at ≡ all at =
+      λ at. grind (arith, left.both at, none at) in
+      let same = ap (sizes_at strings) (λ i at. each at i) in
+      grind (arith, nat_tests, rw left.same at left.within.summed, same, left.within.few, left.file)
+
+  -- once some of these are counted
+  module _ (new : InnerStrings) (named rest' : ℕ → Bool) (is_past : Bool)
+      (more : Counts it new named is_past) (split : (at : ℕ) → rest at ≡ (named at || rest' at))
+    where
+      pub left_more : is_past ≡ false → Left new strings size rest' all
+      left_more none = record {
+        within = record {
+          summed = more.summed;
+          few = omega (arith, ltb-false _ _ (sym more.past ∙ none), more.file);
+        };
+        same = more.strings ∙ left.same;
+        file = more.file ∙ left.file;
+        both = λ at. grind (arith, more.all none at, split at, left.both at);
+      }
+
+      pub among : (at : ℕ) → is_counted new at ≡ true → all at ≡ true
+      among at is = grind (arith, more.only at is, split at, left.both at)
+
+      pub too_large : is_past ≡ true → true ≡ nat_lt (most_inner size) (sizes_at strings all)
+      too_large past =
+          let grown = sizes_grow strings (is_counted new) all among in
+          let summed = rw (more.strings ∙ left.same) at more.summed in
+          grind (arith, nat_tests, grown, summed, past, more.past, left.file)
+
+-- one place is counted
+pub counted_one : (it new : InnerStrings) (place : ℕ) (is_past : Bool)
+    → new.strings.now ≡ it.strings.now → new.file_size ≡ it.file_size → IsSummed new
+    → is_past ≡ nat_lt (most_inner it.file_size) new.size
+    → ((at : ℕ) → is_counted new at ≡ (is_counted it at || eqb place at))
+    → Counts it new (eqb place) is_past
+counted_one it new place is_past same file summed past all = record {
+  strings = same;
+  file = file;
+  summed = summed;
+  past = past;
+  only = λ at is. sym (all at) ∙ is;
+  all = λ none. all;
+}
+
+-- ---- words, one after another
+
+module _ (word : ℕ → ℕ) (inside : ℕ → Bool) (n k place at : ℕ) (below : k < n)
+    (is : place ≡ word k) where
+  abbrev Rest : Bool
+  Rest = list_any (λ i. eqb (word i) at) (range_with_len (k + 1) (n - (k + 1)))
+
+  abbrev From : Bool
+  From = list_any (λ i. eqb (word i) at) (range_with_len k (n - k)) && inside at
+
+  -- one that names a place inside a string
+  pub word_counted : inside place ≡ true → From ≡ (eqb place at || (Rest && inside at))
+  word_counted begins = rw (range_step n k below, ← is) (grind (arith, nat_tests, begins))
+
+  -- another
+  pub word_passed : inside place ≡ false → From ≡ (Rest && inside at)
+  word_passed begins = rw (range_step n k below, ← is) (grind (arith, nat_tests, begins))
+
+-- ---- rows, one after another
+
+-- one that isn't it
+pub row_passed : (p : ℕ → Bool) (n k : ℕ) (all : Bool) → k < n → p k ≡ false
+    → list_any p (range_with_len k (n - k)) ≡ all
+    → list_any p (range_with_len (k + 1) (n - (k + 1))) ≡ all
+row_passed p n k all below other h = rw other at (rw (range_step n k below) at h)
+
+-- ---- sections, one after another
+
+module _ (order : Endianness) (step at : ℕ) (sections : List SectionMeaning) (i : ℕ)
+    (section : SectionMeaning) (is : slice_get sections i ≡ Some section) where
+  -- one whose words are counted
+  pub section_counted : (content : List ℕ) → holds StrOffsets section ≡ true
+      → content ≡ plain_content section → (inside : Bool)
+      → (list_any (names order step at) (drop i sections) && inside)
+      ≡ ((has_word order step content at && inside)
+      || (list_any (names order step at) (drop (i + 1) sections) && inside))
+  section_counted content filled same inside = rw (drop_step sections i section is, filled, same)
+      (grind arith)
+
+  -- another
+  pub section_passed : holds StrOffsets section ≡ false
+      → list_any (names order step at) (drop i sections)
+      ≡ list_any (names order step at) (drop (i + 1) sections)
+  section_passed other = rw (drop_step sections i section is, other) refl
+
+-- ---- strings
+
+-- where a string ends, if a zero ends it
+first_zero : (xs : List ℕ) → (list_any (λ b. eqb b 0) xs
+    ≡ ltb (position_or_len (λ b. eqb b 0) xs) (length xs))
+    × (position_or_len (λ b. eqb b 0) xs ≤ length xs)
+first_zero [] = (refl, omega arith)
+first_zero (x ∷ xs) =
+    let rest = first_zero xs in
+    grind (arith, nat_tests, rest)
+
+-- the size of what is read at a place, or of the rest where no string is
+abbrev pub read_size : Result (List ℕ) ReadError → (rest : ℕ) → ℕ
+read_size (Ok string) rest = length string + 1
+read_size (Err e) rest = rest
+
+pub sized : (strings : List ℕ) (at : ℕ)
+    → read_size (string_at strings at) (length strings - at) ≡ string_size strings at
+unfolding string_at
+sized strings at =
+    let bytes = drop at strings in
+    let first = first_zero bytes in
+    let long = length-take (position_or_len (λ b. eqb b 0) bytes) bytes in
+    let rest = length-drop at strings in
+    grind (arith, nat_tests, first, long, rest)
+
+-- ---- sections that strings are named by
+
+-- what was met, with what is left, is the first of all
+pub met_next : (kind : SectionKind) (xs : List SectionMeaning) (i : ℕ) (s : SectionMeaning)
+    (before : Option (List ℕ)) → slice_get xs i ≡ Some s
+    → option_or before (first_content kind (drop i xs)) ≡ first_content kind xs
+    → option_or (met kind before s) (first_content kind (drop (i + 1) xs)) ≡ first_content kind xs
+met_next kind xs i s (Some x) at h = h
+met_next kind xs i s None at h =
+    let here = ap (option_map plain_content) (find_at (holds kind) xs i s at) in
+    by-bool _ (holds kind s) (λ its. rw its (sym (rw its at here) ∙ h))
+    (λ none. rw none (sym (rw none at here) ∙ h))
+
+-- the first section of string offsets, and the last, once one more section is met
+pub between_next : (file : Elf) (i : ℕ) (s : SectionMeaning) (first behind : ℕ)
+    → slice_get file.sections i ≡ Some s → AreBetween file first behind i
+    → AreBetween file (cond (holds StrOffsets s && eqb behind 0) i first)
+    (cond (holds StrOffsets s) (i + 1) behind) (i + 1)
+between_next file i s first behind is was =
+    by-bool _ (holds StrOffsets s)
+    (λ yes. by-bool _ (eqb behind 0)
+    (λ none_behind. rw (yes, none_behind) (record {
+      low = omega arith;
+      high = omega arith;
+      before = λ step at. sym (rw (eqb-true behind 0 none_behind) at (was.left step at));
+      left = λ step at. refl;
+    }))
+    (λ some. rw (yes, some) (record {
+      low = omega (arith, was.low, was.high);
+      high = omega arith;
+      before = was.before;
+      left = λ step at. refl;
+    })))
+    (λ other. rw other (record {
+      low = was.low;
+      high = omega (arith, was.high);
+      before = was.before;
+      left = λ step at. was.left step at
+          ∙ section_passed file.order step at file.sections i s is other;
+    }))
+
+-- ---- files that were read
+
+file_test : (x y : File) → is_at (file_cmp x) y ≡ is_file x y
+file_test x y = grind (arith, nat_tests)
+
+pub file_tests : (λ (x : File). is_at (file_cmp x)) ≡ is_file
+file_tests = λ i x y. file_test x y i
+
+-- one more
+pub noted_at : (old new : BTreeMap File ℕ) (key : File) (input : ℕ)
+    → MapUpdates file_cmp old new key (Some input) → (file : File)
+    → lookup (is_file file) new.entries
+    ≡ cond (is_file key file) (Some input) (lookup (is_file file) old.entries)
+noted_at old new key input updates =
+    subst (λ (is : File → File → Bool). (file : File) → lookup (is file) new.entries
+    ≡ cond (is key file) (Some input) (lookup (is file) old.entries)) file_tests updates.0
