@@ -298,12 +298,12 @@ end_is section table chains left code first place declared here some there all i
 pub place_end : {section i : Input} {nodes : List Node} {left : ℕ} {place : Place} → from_end
     left section ≡ Ok i → ((code : ℕ) → declaration code i ≡ absent_by place.error) → ((x : Next)
     → next_at i ≡ Ok (Some x) → ⊥) → place.version ≡ 0 → RemembersPlace section nodes left place
-place_end {i = i} {nodes = nodes} is absent never zero = record {
+place_end {i = i} {nodes = nodes} is absent never none = record {
   table = i;
   is = is;
-  fits = omega (arith, zero);
-  same = λ code. rw (zero, none_below 65 nodes 0 code refl) (absent code);
-  ends = λ code. rw (zero, none_below 65 nodes 0 code refl) tt;
+  fits = omega (arith, none);
+  same = λ code. rw (none, none_below 65 nodes 0 code refl) (absent code);
+  ends = λ code. rw (none, none_below 65 nodes 0 code refl) tt;
   behind = λ x h. absurd (never x h);
 }
 

@@ -20,7 +20,7 @@ use Rattle.thorin_input.specs.Format.{is_in_format}
 use Rattle.thorin_again.specs.{Again.input_encoding, OwnInput.written_object, OwnInput.written_used}
 use Rattle.thorin_again.specs.{OwnRefusals.UnlessStringOffset, Plain.HasTiledOffsets, Plain.IsPlain}
 use Rattle.thorin_package_input.specs.{PackagedOffsets.rewritten_from, PackagedReading.range_bytes}
-use Rattle.thorin_index.{proofs.Rows.have_passed, proofs.Rows.used_known, specs.IndexText.is_used}
+use Rattle.thorin_index.{proofs.Held.have_passed, proofs.Held.used_known, specs.IndexText.is_used}
 use Rattle.thorin_again.proofs.Offsets.{all-rewritten, any-chosen, are-named, at-row, has-range}
 use Rattle.thorin_again.specs.OwnInput.{CanTake, IsOwn, own_source, TakesParts, TakesUpToParts}
 use Rattle.thorin_join.proofs.Files.{finished-content, finished-strings, HasRows, members, nothing}

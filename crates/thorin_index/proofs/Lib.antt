@@ -1,2 +1,2 @@
-pub mod Rows
+pub mod Held
 pub mod ReadAgain

@@ -6,7 +6,7 @@ use Rattle.std.proofs.lemmas.List.{Elements.filter_passes, get_or-map, get_or_de
 use Rattle.std.proofs.Common.{All, Bool, ap, append_assoc, eqb, flat_map, le-ltb, lt-ltb, ℕ, ◌++◌}
 use Rattle.dwp_index.specs.IndexBytes.{columns_at, counts_of, new_column, number_rows, version_of}
 use Rattle.std.proofs.Common.{List, Ok, Option, append-nil, eq-eqb, eqb-true, is_some, suc, true}
-use Rattle.thorin_index.proofs.Rows.{HavePassed, has_number, have_passed, number_of, used_known}
+use Rattle.thorin_index.proofs.Held.{HavePassed, has_number, have_passed, number_of, used_known}
 use Rattle.thorin_index.specs.IndexText.{IsIndexText, numbers_bytes, row_numbers, version_bytes}
 use Rattle.thorin_index.specs.{EntryTests.tests_under, ReadRows.HasEntries, ReadRows.non_empty}
 use Rattle.std.proofs.Common.{filter, get_or, length, length-append, mul-suc, subst, ◌-◌, ◌≤◌}
@@ -21,7 +21,7 @@ use Rattle.std.proofs.lemmas.{Bool.false_from_ne_true, Iterator.Adapters.positio
 use Rattle.std.proofs.lemmas.Nat.{from_be_bytes-to_be_bytes_4, from_be_bytes-to_be_bytes_8}
 use Rattle.dwp_bytes.specs.{Encoding.index_version_of, declared.encoding.Encoding.Encoding}
 use Rattle.thorin_index.specs.{ReadBack.index_with, declared.entry.IndexEntry.IndexEntry}
-use Rattle.{dwp_table.specs.Table.IsHashTable, thorin_index.proofs.Rows.by_contribution}
+use Rattle.{dwp_table.specs.Table.IsHashTable, thorin_index.proofs.Held.by_contribution}
 use Rattle.dwp_base.specs.declared.section.SectionKind.{SectionKind, TheVariants.Info}
 use Rattle.std.proofs.lemmas.List.Folds.{flat_map-map, list_any-append, list_any_at}
 use Rattle.dwp_base.specs.{Numbers.number, Numbers.number_bytes, Sections.rank_of}

@@ -1,6 +1,6 @@
 //! Writing an index (DWARF 5, 7.3.5.3; the GNU page DebugFissionDWP): what is tested of its
 //! entries, its hash table, its bytes.
-#![tactic(auto, using(crate::proofs::Rows::pieces))]
+#![tactic(auto, using(crate::proofs::Held::pieces))]
 
 ghost use Rattle.std.specs.Prelude.{◌≡◌, ◌<◌, ◌≤◌, ◌^◌, ◌++◌, length, map, filter, All, IfOk, OnOk};
 ghost use Rattle.std.specs.Prelude.{Ok, vec_len};

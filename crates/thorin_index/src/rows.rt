@@ -1,5 +1,5 @@
 //! The rows of an index, each held in few bytes: what neighbouring rows share is held once.
-#![tactic(auto, using(crate::proofs::Rows::rows_held))]
+#![tactic(auto, using(crate::proofs::Held::rows_held))]
 
 ghost use Rattle.std.specs.Prelude.{get_or, length, Some, take, [], ◌++◌, ◌+◌, ◌<◌, ◌∷◌, ◌≡◌, ◌≤◌};
 ghost use Rattle.std.specs.Prelude.{IfOk, IsTrue, OnErr, OnOk, slice_get};

@@ -6,7 +6,7 @@ use Rattle.std.proofs.lemmas.Option.{get_or_from_slice_get, slice_get_within}
 use Rattle.std.specs.{Map.lookup, Result.OnErr, Result.OnOk}
 use Rattle.dwp_table.specs.declared.object.DwarfObject.{DwarfObject}
 use Rattle.thorin_index.specs.{declared.entry.IndexEntry.IndexEntry, Rows.blank}
-use Rattle.thorin_index.proofs.Rows.{at_least}
+use Rattle.thorin_index.proofs.Held.{at_least}
 use Rattle.thorin_input.specs.{Names.same_name, UnitView.new_unit}
 use Rattle.thorin_input.specs.NewUnits.{kept_bytes, NewUnit, or_held}
 use Rattle.thorin_input.specs.declared.held.NewUnit.{NewUnit as CodeUnit}

@@ -1,7 +1,7 @@
 use Rattle.std.proofs.Common.{[], arith, drop, map, refl, rules, take, ◌++◌, ◌+◌, ◌∙◌, ◌∷◌, ◌≡◌}
 use Rattle.std.proofs.Common.{length, length-take-le, replicate, take_all, take_at}
 use Rattle.std.proofs.lemmas.{Grind.common_steps, List.length-map, List.map_more}
-use Rattle.thorin_index.proofs.Rows.{looked_more, none_looked}
+use Rattle.thorin_index.proofs.Held.{looked_more, none_looked}
 use Rattle.dwp_table.proofs.Placing.{empty_table}
 use Rattle.thorin_index.proofs.index_writer.bucket.Goals as goal
 

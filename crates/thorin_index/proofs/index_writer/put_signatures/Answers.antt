@@ -2,7 +2,7 @@ use Rattle.std.proofs.Common.{List, ap, arith, get_or, length, refl, suc, â„•, â
 use Rattle.thorin_index.specs.{IndexText.entry_ids, declared.entry.IndexEntry.IndexEntry}
 use Rattle.{dwp_base.specs.Numbers.number_bytes, std.proofs.lemmas.List.get_or-map}
 use Rattle.dwp_table.specs.{Objects.identifier_of, Table.signature_of}
-use Rattle.thorin_index.{proofs.Rows.one_piece, specs.Rows.blank}
+use Rattle.thorin_index.{proofs.Held.one_piece, specs.Rows.blank}
 use Rattle.thorin_index.proofs.index_writer.put_signatures.Goals.{else-row-eq0, then-row-eq0}
 use Rattle.thorin_index.proofs.index_writer.put_signatures.Goals as goal
 

@@ -1,4 +1,4 @@
-use Rattle.thorin_index.{proofs.Rows.rows_fit, specs.Entries.offset_or_0, specs.Entries.size_or_0}
+use Rattle.thorin_index.{proofs.Held.rows_fit, specs.Entries.offset_or_0, specs.Entries.size_or_0}
 use Rattle.std.proofs.{Common.codes, Common.refl, lemmas.Result.on_ok_weaker}
 use Rattle.thorin_index.proofs.index_writer.test_entries.Goals as goal
 

@@ -1,4 +1,4 @@
-use Rattle.thorin_index.proofs.Rows.{index_is, rows_within}
+use Rattle.thorin_index.proofs.Held.{index_is, rows_within}
 use Rattle.std.proofs.Common.{arith}
 use Rattle.thorin_index.proofs.index_writer.write_rows.Goals as goal
 

@@ -1,4 +1,4 @@
-use Rattle.{std.proofs.Common.arith, std.proofs.Common.◌≡◌, thorin_index.proofs.Rows.same_entries}
+use Rattle.{std.proofs.Common.arith, std.proofs.Common.◌≡◌, thorin_index.proofs.Held.same_entries}
 use Rattle.thorin_index.proofs.rows.same_entry.Goals as goal
 
 pub returns-then-eq : goal.returns-then-eq

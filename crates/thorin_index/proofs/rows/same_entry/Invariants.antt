@@ -1,4 +1,4 @@
-use Rattle.thorin_index.proofs.Rows.{SameUpTo}
+use Rattle.thorin_index.proofs.Held.{SameUpTo}
 use Rattle.thorin_index.proofs.rows.same_entry.Given as goal
 
 -- the contributions so far are the same

@@ -1,4 +1,4 @@
-use Rattle.{thorin_index.proofs.Rows.at_least, thorin_join.proofs.Terms.take-append-le}
+use Rattle.{thorin_index.proofs.Held.at_least, thorin_join.proofs.Terms.take-append-le}
 use Rattle.std.proofs.Math.Seq.{take-append_seam}
 use Rattle.std.proofs.Common.{◌∙◌}
 use Rattle.thorin_builder.proofs.in_progress.InProgressDwarfPackage.append_unit.Goals as goal

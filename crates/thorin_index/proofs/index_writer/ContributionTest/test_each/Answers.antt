@@ -1,6 +1,6 @@
 use Rattle.{dwp_table.specs.Columns.contribution_kinds, thorin_index.specs.Entries.contribution_to}
 use Rattle.thorin_index.specs.{EntryTests.contributions_test, EntryTests.test_of, Rows.blank}
-use Rattle.thorin_index.proofs.Rows.{each_passed, next_fails, next_passes}
+use Rattle.thorin_index.proofs.Held.{each_passed, next_fails, next_passes}
 use Rattle.std.proofs.lemmas.{List.drop_all, Result.err_from_is_err_and}
 use Rattle.std.proofs.Common.{[], arith, drop, get_or, sym, ◌∙◌, ◌≡◌}
 use Rattle.thorin_index.proofs.index_writer.ContributionTest.test_each.Goals as goal
