@@ -1,12 +1,12 @@
 -- How the contents of sections change: what is appended, cut, and taken back. No two contents are
 -- of one kind, whatever is appended or cut, so there are no more than kinds.
 use Rattle.{dwp_base.specs.declared.section.SectionKind.SectionKind, std.specs.List.position_or_len}
-use Rattle.{dwp_elf.specs.Contents.truncated, dwp_elf.specs.FileText.Object, std.specs.Global.Vec}
-use Rattle.std.proofs.Common.{get_or, length, List, ltb, ltb-false, ltb-true, map, None, one-add}
-use Rattle.std.proofs.Common.{position, refl, set, Some, suc, sym, take, take_all, true, zero, ℕ}
-use Rattle.std.proofs.Common.{append-nil, append_assoc, arith, Bool, cond, drop, eqb, eqb-true}
-use Rattle.std.proofs.Common.{add-one, ap, [], ◌++◌, ◌+◌, ◌<◌, ◌==◌, ◌∙◌, ◌∷◌, ◌≡◌, ◌≤◌, ◌⊎◌}
-use Rattle.dwp_elf.specs.Contents.{appended, content_of, contents_of, count_of, KindsDiffer}
+use Rattle.std.proofs.Common.{Bool, cond, drop, List, ltb, map, refl, take, true, zero, ◌++◌, ◌==◌}
+use Rattle.std.proofs.Common.{append-nil, append_assoc, ltb-false, ltb-true, MatchOption, position}
+use Rattle.std.proofs.Common.{add-one, arith, eqb-true, get_or, length, one-add, Option, take_all}
+use Rattle.{dwp_elf.specs.Contents.count_of, dwp_elf.specs.FileText.Object, std.specs.Global.Vec}
+use Rattle.std.proofs.Common.{[], ap, eqb, set, suc, sym, ℕ, ◌+◌, ◌<◌, ◌∙◌, ◌∷◌, ◌≡◌, ◌≤◌, ◌⊎◌}
+use Rattle.dwp_elf.specs.Contents.{appended, content_of, contents_of, KindsDiffer, truncated}
 use Rattle.dwp_elf.specs.Growing.{Begins, Contents, HasFront, IsGrown, lengths, with_bytes}
 use Rattle.std.proofs.Math.{ListN.get_or-map, Seq.map-set_same, Seq.take-append_seam}
 use Rattle.dwp_base.proofs.{Bools.by-bool, EveryKind.every, EveryKind.is-same}
@@ -38,44 +38,43 @@ pub record AtFirst (kind : SectionKind) (xs : Sections) (i : ℕ) : Type 0 where
 abbrev is_of : SectionKind → SectionKind × Vec ℕ → Bool
 is_of kind s = same_kind s.0 kind
 
-first_of_kind : (kind : SectionKind) (xs : Sections) → position_or_len (is_of kind) xs < length xs
-    → AtFirst kind xs (position_or_len (is_of kind) xs)
-first_of_kind kind [] h = absurd (omega arith)
-first_of_kind kind (z ∷ zs) h = by-bool _ (same_kind z.0 kind)
-    (λ here. rw here (record {
-      content = λ x e. rw here (ap (λ p. p.1.items) (sym e));
-      added = λ bytes x y e k v. rw here (ap (λ p. p ∷ contents_of zs)
-          (pair_of _ _ _ _ (k ∙ ap (λ p. p.0) e) (v ∙ ap (λ p. p.1.items ++ bytes) e)));
-    }))
+-- the first place at which a section of a kind may stand, within the sections and past them
+by_first : (kind : SectionKind) (xs : Sections)
+    → (position_or_len (is_of kind) xs < length xs
+    → AtFirst kind xs (position_or_len (is_of kind) xs))
+    × (length xs ≤ position_or_len (is_of kind) xs → Absent kind xs)
+by_first kind [] = (
+  λ h. absurd (omega (arith, h)),
+  λ h. record { content = refl; added = λ bytes y k v. rw (k, v) refl },
+)
+by_first kind (z ∷ zs) = by-bool _ (same_kind z.0 kind)
+    (λ here. rw here (
+      λ h. record {
+        content = λ x e. rw here (ap (λ p. p.1.items) (sym e));
+        added = λ bytes x y e k v. rw here (ap (λ p. p ∷ contents_of zs)
+            (pair_of _ _ _ _ (k ∙ ap (λ p. p.0) e) (v ∙ ap (λ p. p.1.items ++ bytes) e)));
+      },
+      λ h. absurd (omega (arith, h)),
+    ))
     (λ other.
-    let later = first_of_kind kind zs (omega (arith, rw other at h)) in
-    rw (other, one-add) (record {
-      content = λ x e. rw other (later.content x e);
-      added = λ bytes x y e k v. rw (other, later.added bytes x y e k v) refl;
-    }))
+    let later = by_first kind zs in
+    rw (other, one-add) (
+      λ h. let first = later.0 (omega (arith, h)) in record {
+        content = λ x e. rw other (first.content x e);
+        added = λ bytes x y e k v. rw (other, first.added bytes x y e k v) refl;
+      },
+      λ h. let none = later.1 (omega (arith, h)) in record {
+        content = rw other none.content;
+        added = λ bytes y k v. rw (other, none.added bytes y k v) refl;
+      },
+    ))
 
-none_of_kind : (kind : SectionKind) (xs : Sections) → length xs ≤ position_or_len (is_of kind) xs
-    → Absent kind xs
-none_of_kind kind [] h = record { content = refl; added = λ bytes y k v. rw (k, v) refl }
-none_of_kind kind (z ∷ zs) h = by-bool _ (same_kind z.0 kind)
-    (λ here. absurd (omega (arith, rw here at h)))
-    (λ other. let later = none_of_kind kind zs (omega (arith, rw other at h)) in record {
-      content = rw other later.content;
-      added = λ bytes y k v. rw (other, later.added bytes y k v) refl;
-    })
-
-pub at_first : (kind : SectionKind) (xs : Sections) (i : ℕ)
-    → Some i ≡ position (λ s. same_kind s.0 kind) xs → AtFirst kind xs i
-at_first kind xs i e = by-bool _ (ltb (position_or_len (is_of kind) xs) (length xs))
-    (λ inside. let at : i ≡ position_or_len (is_of kind) xs = cc (rw inside at e) in
-    rw at (first_of_kind kind xs (ltb-true _ _ inside)))
-    (λ past. absurd (cc (rw past at e)))
-
-pub absent : (kind : SectionKind) (xs : Sections) → None ≡ position (λ s. same_kind s.0 kind) xs
-    → Absent kind xs
-absent kind xs e = by-bool _ (ltb (position_or_len (is_of kind) xs) (length xs))
-    (λ inside. absurd (cc (rw inside at e)))
-    (λ past. none_of_kind kind xs (ltb-false _ _ past))
+pub of_kind : (kind : SectionKind) (xs : Sections) (place : Option ℕ)
+    → place ≡ position (λ s. same_kind s.0 kind) xs
+    → MatchOption place (Absent kind xs) (AtFirst kind xs)
+of_kind kind xs place e = by-bool _ (ltb (position_or_len (is_of kind) xs) (length xs))
+    (λ inside. rw (e, inside) ((by_first kind xs).0 (ltb-true _ _ inside)))
+    (λ past. rw (e, past) ((by_first kind xs).1 (ltb-false _ _ past)))
 
 -- a write that leaves the content as it was
 pub contents_of-set_same : (xs : Sections) (i : ℕ) (x y : SectionKind × Vec ℕ)
@@ -153,11 +152,6 @@ begins-appended kind x (c ∷ cs) (d ∷ ds) h = by-bool _ (same_kind d.0 kind)
     rw e (h.0, front, h.2))
     (λ e. rw e (h.0, h.1, begins-appended kind x cs ds h.2))
 
-pub begins-with_bytes : (kind : SectionKind) (x : List ℕ) (a b : Contents) → Begins a b
-    → Begins a (with_bytes kind x b)
-begins-with_bytes kind x a b h = by-bool _ (length x == 0)
-    (λ e. rw e h) (λ e. rw e (begins-appended kind x a b h))
-
 -- cut to their lengths, the contents are those from before
 pub truncated-begins : (a b : Contents) → Begins a b → truncated b (lengths a) ≡ a
 truncated-begins [] [] h = refl
@@ -171,7 +165,9 @@ pub is_grown-with_bytes : (before o new : Object) (kind : SectionKind) (x : List
     → new ≡ record o { contents = with_bytes kind x o.contents } → IsGrown before o
     → IsGrown before new
 is_grown-with_bytes before o new kind x is h =
-    let contents = begins-with_bytes kind x before.contents o.contents h.contents in
+    let contents : Begins before.contents (with_bytes kind x o.contents) = by-bool _ (length x == 0)
+    (λ e. rw e h.contents)
+    (λ e. rw e (begins-appended kind x before.contents o.contents h.contents)) in
     rw is assumption
 
 -- an append changes no count, or its kind is new and stands once
@@ -185,15 +181,11 @@ pub KindsDiffer-appended : (kind : SectionKind) (bytes : List ℕ) (cs : List (S
     → KindsDiffer cs → KindsDiffer (appended kind bytes cs)
 KindsDiffer-appended kind bytes cs h k = omega (arith, count_of-appended kind k bytes cs, h k)
 
-count_of-truncated : (k : SectionKind) (cs : List (SectionKind × List ℕ)) (ns : List ℕ)
+pub count_of-truncated : (k : SectionKind) (cs : List (SectionKind × List ℕ)) (ns : List ℕ)
     → count_of k (truncated cs ns) ≤ count_of k cs
 count_of-truncated k [] ns = omega arith
 count_of-truncated k (c ∷ cs) [] = omega arith
 count_of-truncated k (c ∷ cs) (n ∷ ns) = omega (arith, count_of-truncated k cs ns)
-
-pub KindsDiffer-truncated : (cs : List (SectionKind × List ℕ)) (ns : List ℕ) → KindsDiffer cs
-    → KindsDiffer (truncated cs ns)
-KindsDiffer-truncated cs ns h k = omega (arith, count_of-truncated k cs ns, h k)
 
 -- ---- no more contents than kinds
 
@@ -201,14 +193,13 @@ abbrev total : (SectionKind → ℕ) → List SectionKind → ℕ
 total f [] = 0
 total f (k ∷ ks) = f k + total f ks
 
-total-one : (kind : SectionKind) → total (λ k. cond (same_kind kind k) 1 0) all_kinds ≡ 1
-total-one kind = eqb-true _ 1 (every (λ c. eqb (total (λ k. cond (same_kind c k) 1 0) all_kinds) 1)
-    refl kind)
-
 total-count_of : (cs : List (SectionKind × List ℕ)) → total (λ k. count_of k cs) all_kinds
     ≡ length cs
 total-count_of [] = refl
-total-count_of (c ∷ cs) = omega (arith, total-one c.0, total-count_of cs)
+total-count_of (c ∷ cs) =
+    let one = eqb-true _ 1
+    (every (λ c. eqb (total (λ k. cond (same_kind c k) 1 0) all_kinds) 1) refl c.0) in
+    omega (arith, one, total-count_of cs)
 
 pub length-KindsDiffer : (cs : List (SectionKind × List ℕ)) → KindsDiffer cs
     → length cs ≤ kind_count

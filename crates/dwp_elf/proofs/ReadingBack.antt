@@ -1,38 +1,38 @@
 -- A written file means the contents that it was written from. The greatest of its numbers decides
 -- whether all of them fit its class; its parts stand section by section, and one after the other.
-use Rattle.dwp_elf.specs.FileText.{content_bytes, file_header, file_text, headers_from, zeros_after}
 use Rattle.dwp_elf_read.specs.Elf.{named_count, section_content, section_of, sections_from, text_at}
 use Rattle.dwp_elf_read.specs.{Identification.identity_of, Identification.kind_of, Layout.word_size}
-use Rattle.std.proofs.Common.{All, Bool, drop, List, lit<, map, refl, Some, subst, take, true, zero}
-use Rattle.std.proofs.Common.{ap, [], ◌&&◌, ◌*◌, ◌++◌, ◌+◌, ◌-◌, ◌<◌, ◌==◌, ◌^◌, ◌∙◌, ◌∷◌, ◌≡◌, ◌≤◌}
-use Rattle.std.proofs.Common.{append-nil, append_assoc, drop-drop, length-append, replicate, suc, ℕ}
-use Rattle.dwp_elf.specs.FileText.{names_place, null_header, Object, section_count, section_header}
-use Rattle.std.proofs.Common.{add-one, eq-eqb, get_or, IsAscii, leb-true, ltb-true, not, slice_get}
-use Rattle.dwp_base.specs.declared.{endian.Endianness.Endianness, section.SectionKind.SectionKind}
+use Rattle.std.proofs.Common.{Bool, codes, drop, false, le-leb, length, List, lt-ltb, nat_le, subst}
+use Rattle.std.proofs.Common.{add-one, arith, eq-eqb, get_or, leb-true, ltb-true, ne_eqb, slice_get}
+use Rattle.std.proofs.Common.{append-nil, append_assoc, drop-drop, length-append, nat_lt, replicate}
+use Rattle.dwp_elf.specs.FileText.{content_bytes, file_header, headers_from, Object, section_count}
+use Rattle.std.proofs.Common.{[], ap, not, Ok, suc, sym, ℕ, ◌+◌, ◌-◌, ◌<◌, ◌^◌, ◌∙◌, ◌∷◌, ◌≡◌, ◌≤◌}
+use Rattle.{dwp_base.specs.declared.section.SectionKind.SectionKind, dwp_elf_read.specs.Elf.elf_of}
 use Rattle.dwp_elf.proofs.Changes.{few_sections, length-contents_of, length-KindsDiffer, Sections}
-use Rattle.dwp_elf.specs.FileText.{headers_place, identification, name_table, names_end, names_of}
-use Rattle.dwp_elf_read.specs.Elf.{name_table as read_table, section_count as read_count, text_of}
-use Rattle.std.proofs.Common.{arith, codes, false, le-leb, length, lt-ltb, nat_le, nat_lt, ne_eqb}
+use Rattle.dwp_elf.specs.FileText.{headers_place, identification, section_header, section_headers}
+use Rattle.std.proofs.Common.{All, lit<, map, refl, Some, take, true, zero, ◌&&◌, ◌*◌, ◌++◌, ◌==◌}
+use Rattle.dwp_elf.specs.Numbers.{file_length, Fits, offsets_and_sizes, PassesLimit, places_from}
 use Rattle.dwp_elf_read.specs.Layout.{entry_size, file_header_of, header_size, section_header_of}
-use Rattle.std.proofs.lemmas.{Grind.common_steps, Str.is_utf8-from_IsUtf8, Str.IsUtf8-from_ascii}
-use Rattle.dwp_elf.specs.declared.{object.WritableObject.TheInside.Inside, output.Layout.Layout}
+use Rattle.std.proofs.lemmas.Str.{Ascii.IsAscii-from_all, is_utf8-from_IsUtf8, IsUtf8-from_ascii}
+use Rattle.dwp_elf.specs.FileText.{file_text, name_table, names_place, null_header, zeros_after}
 use Rattle.std.proofs.lemmas.List.{length-replicate, replicate-append-replicate, take-replicate}
-use Rattle.dwp_elf.specs.{Contents.contents_of, Contents.KindsDiffer, FileText.section_headers}
+use Rattle.std.proofs.lemmas.{Grind.common_steps, List.Elements.All-cons, List.Elements.All-nil}
+use Rattle.dwp_elf.specs.{declared.output.Layout.Layout, FileText.names_end, FileText.names_of}
 use Rattle.std.proofs.Math.Seq.{drop-append-add, drop-append_seam, drop-cons, take-append_seam}
-use Rattle.std.proofs.{Common.sym, lemmas.Str.Ascii.IsAscii-cons, lemmas.Str.Ascii.IsAscii-nil}
-use Rattle.{dwp_elf_read.specs.Elf.elf_of, std.proofs.Common.Ok, std.proofs.Math.Nat.mul_comm}
-use Rattle.dwp_elf.specs.Numbers.{file_length, Fits, IsLayout, limited_by, offsets_and_sizes}
+use Rattle.dwp_base.{proofs.EveryKind.every, specs.Numbers.number, specs.Numbers.number_bytes}
 use Rattle.dwp_elf_read.specs.Elf.{name_table_number, name_table_numbered, section_header_at}
 use Rattle.dwp_base.specs.declared.class.Class.{Class, TheVariants.Elf32, TheVariants.Elf64}
+use Rattle.dwp_elf.specs.{declared.object.WritableObject.TheInside.Inside, Numbers.IsLayout}
 use Rattle.std.specs.{Global.Vec, List.list_all, List.position_or_len, List.range_with_len}
-use Rattle.dwp_elf.specs.{Numbers.PassesLimit, Numbers.places_from, Object.object_of}
-use Rattle.byteorder.specs.Numbers.{big_number-reads_back, little_number-reads_back}
-use Rattle.byteorder.specs.Numbers.{length-bytes_high_first, length-bytes_low_first}
-use Rattle.std.proofs.lemmas.List.{at_drop_all, Elements.All-cons, Elements.All-nil}
-use Rattle.dwp_base.specs.{Numbers.number, Numbers.number_bytes, Sections.name_of}
+use Rattle.{dwp_base.proofs.Bools.both, std.proofs.lemmas.List.Sums.AllPass-from_list_all}
+use Rattle.byteorder.specs.Numbers.{length-bytes_high_first, little_number-reads_back}
+use Rattle.dwp_elf.specs.{Contents.contents_of, Numbers.limited_by, Object.object_of}
+use Rattle.dwp_base.specs.{declared.endian.Endianness.Endianness, Sections.name_of}
+use Rattle.byteorder.specs.Numbers.{big_number-reads_back, length-bytes_low_first}
 use Rattle.dwp_elf.specs.Written.{plain_section, written_elf, written_sections}
 use Rattle.dwp_base.specs.declared.endian.Endianness.TheVariants.{Big, Little}
-use Rattle.dwp_base.proofs.{Bools.both, EveryKind.every}
+use Rattle.std.proofs.{lemmas.List.Folds.prefix_len-append, Math.Nat.mul_comm}
+use Rattle.dwp_elf_read.specs.Elf.{name_table as read_table, section_count as read_count, text_of}
 
 pub length-number_bytes : (order : Endianness) (n x : ℕ) → length (number_bytes order n x) ≡ n
 length-number_bytes Little n x = length-bytes_low_first 0 n x
@@ -61,9 +61,6 @@ length-headers_from class order size name place (c ∷ cs) =
     (place + length c.1) cs in
     simp (length-append, length-section_header, rest) (omega arith)
 
-pub length-null_header : (class : Class) → length (null_header class) ≡ entry_size class
-length-null_header class = length-replicate (entry_size class) 0
-
 pub length-file_text : (o : Object) → length (file_text o) ≡ file_length o.class o.contents
 unfolding file_text
 length-file_text o =
@@ -71,8 +68,7 @@ length-file_text o =
     let header = length-file_header o.class o.order o.machine headers (section_count o.contents) in
     let table = length-headers_from o.class o.order (length (name_table o.contents)) 1
     (header_size o.class) o.contents in
-    let zeros = length-replicate {A = ℕ} (zeros_after (names_end o.class o.contents)) 0 in
-    omega (arith, length-append {A = ℕ}, header, length-null_header o.class, table, zeros)
+    omega (arith, length-append {A = ℕ}, length-replicate {A = ℕ}, header, table)
 
 -- each offset and size is below a limit that where the section headers begin is below
 places_from-lt : (size place limit : ℕ) (cs : List (SectionKind × List ℕ))
@@ -155,17 +151,6 @@ module _ (xs : Sections) (i : ℕ) (x : SectionKind × Vec ℕ) (h : i < length 
       omega arith in
       rw (drop-item, made, named, next, l) refl
 
--- past the last section
-pub content_bytes-end : (xs : Sections) (i : ℕ) → length xs ≤ i
-    → content_bytes (contents_of (drop i xs)) ≡ []
-unfolding content_bytes
-content_bytes-end = at_drop_all (λ xs. content_bytes (contents_of xs))
-
-pub names_of-end : (xs : Sections) (i : ℕ) → length xs ≤ i
-    → names_of (contents_of (drop i xs)) ≡ []
-unfolding names_of
-names_of-end = at_drop_all (λ xs. names_of (contents_of xs))
-
 -- no name has more than 24 bytes
 pub length-name_of : (kind : SectionKind) → length (name_of kind) ≤ 24
 length-name_of kind = leb-true _ 24 (every (λ k. nat_le (length (name_of k)) 24) refl kind)
@@ -186,13 +171,13 @@ unfolding file_text
 file_text-split o = simp append_assoc
 
 -- the same, where the header was made from the layout, and for each number what wrote it out; the
--- zeros before the section headers and those of the first header stand together
+-- zeros before the section headers and those of the first header stand together, the first of 72
 pub text_parts : (w : Inside) (o : Object) (p : Layout) (header : List ℕ) (count entry : ℕ)
     → object_of w ≡ o → IsLayout o.class o.contents p → count ≡ w.sections.len
     → header ≡ file_header w.class w.endianness w.machine p.headers (count + 2)
     → entry ≡ entry_size w.class → file_text o ≡ header ++ (content_bytes
-    (contents_of w.sections.items) ++ (name_table (contents_of w.sections.items) ++ (replicate
-    (p.zeros + entry) 0 ++ headers_from w.class w.endianness p.names_size 1
+    (contents_of w.sections.items) ++ (name_table (contents_of w.sections.items) ++ (take (p.zeros
+    + entry) (replicate 72 0) ++ headers_from w.class w.endianness p.names_size 1
     (header_size w.class) (contents_of w.sections.items))))
 text_parts w o p header count entry is placed counted made sized =
     let are = subst (λ (x : Object). IsLayout x.class x.contents p) (sym is) placed in
@@ -203,16 +188,9 @@ text_parts w o p header count entry is placed counted made sized =
     ≡ replicate p.zeros 0 ++ (replicate entry 0 ++ rest) =
     rw (← replicate-append-replicate {A = ℕ} p.zeros entry 0)
     (append_assoc (replicate p.zeros 0) (replicate entry 0) rest) in
-    rw (together, ← is, file_text-split, made, sized)
+    let zeros = take-replicate {X = ℕ} (p.zeros + entry) 72 0 (grind (arith, are.zeros, sized)) in
+    rw (zeros, together, ← is, file_text-split, made, sized)
     (rw (are.headers, are.zeros, are.names_size, count) refl)
-
--- these zeros are the first of 72
-pub zeros_of : (w : Inside) (o : Object) (p : Layout) (entry : ℕ) → object_of w ≡ o
-    → IsLayout o.class o.contents p → entry ≡ entry_size w.class
-    → take (p.zeros + entry) (replicate {A = ℕ} 72 0) ≡ replicate (p.zeros + entry) 0
-zeros_of w o p entry is placed sized =
-    let are = subst (λ (x : Object). IsLayout x.class x.contents p) (sym is) placed in
-    take-replicate {X = ℕ} (p.zeros + entry) 72 0 (grind (arith, are.zeros, sized))
 
 -- ---- the numbers of a header
 
@@ -246,9 +224,6 @@ field-back front order (f ∷ fs) rest (suc i) n x k at place h =
     ap (λ l. number order n (drop k l)) (sym (append_assoc front here (spelled order fs rest)))
     ∙ field-back (front ++ here) order fs rest i n x k at (omega arith) h
 
-positive : (class : Class) → 0 < 256 ^ word_size class
-positive class = grind arith
-
 -- the section header that the bytes begin with
 section_header-back : (class : Class) (order : Endianness)
     (name type place size : ℕ) (rest : List ℕ)
@@ -268,7 +243,7 @@ section_header-back : (class : Class) (order : Endianness)
 unfolding section_header section_header_of
 section_header-back class order name type place size rest a b c d =
     let w = word_size class in
-    let zero_fits = positive class in
+    let zero_fits : 0 < 256 ^ w = grind arith in
     let back = field-back [] order ((4, name) ∷ (4, type) ∷ (w, 0) ∷ (w, 0) ∷ (w, place) ∷ (w, size)
     ∷ (4, 0) ∷ (4, 0) ∷ (w, 1) ∷ (w, 0) ∷ []) rest in
     simp append_assoc (cc (
@@ -313,47 +288,27 @@ file_header-back class order machine headers count rest a b c =
       back 12 2 (count - 1) (38 + 3 * w) refl (omega arith) (omega arith),
     ))
 
--- it begins with the identification
-file_header-begins : (class : Class) (order : Endianness)
-    (machine headers count : ℕ) (rest : List ℕ)
-    → (fields : List ℕ)
-    × (file_header class order machine headers count ++ rest ≡ identification class order ++ fields)
-unfolding file_header
-file_header-begins class order machine headers count rest =
-    let fields = file_fields (word_size class) machine headers (header_size class)
-    (entry_size class) count in
-    (spelled order fields rest, simp append_assoc)
-
 -- ---- reading one written section: its content and its name
 
--- a byte other than zero, below 128
-abbrev in_name : ℕ → Bool
-in_name x = not (x == 0) && nat_lt x 128
-
--- a zero byte ends a text of such bytes, and it is ASCII
-name-facts : (text : List ℕ) → list_all in_name text ≡ true
-    → ((more : List ℕ) → position_or_len (λ b. b == 0) (text ++ 0 ∷ more) ≡ length text)
-    × IsAscii text
-name-facts [] h = (λ more. refl, IsAscii-nil)
-name-facts (x ∷ xs) h =
-    let all = both (in_name x) (list_all in_name xs) h in
-    let first = both (not (x == 0)) (nat_lt x 128) all.0 in
-    let later = name-facts xs all.1 in (
-      λ more. rw first.0 (omega (arith, later.0 more)),
-      IsAscii-cons x xs (ltb-true x 128 first.1) later.1,
-    )
+-- ASCII, before whose end no zero byte stands
+abbrev is_name : List ℕ → Bool
+is_name text = (position_or_len (λ b. b == 0) text == length text)
+    && list_all (λ b. nat_lt b 128) text
 
 -- a name is read from its place in the name table
 text_at-name : (table text more : List ℕ) (place : ℕ) → drop place table ≡ text ++ 0 ∷ more
-    → list_all in_name text ≡ true → text_at table place ≡ Some text
+    → is_name text ≡ true → text_at table place ≡ Some text
 unfolding text_at text_of
 text_at-name table text more place e h =
     let within : length text < length (text ++ 0 ∷ more) =
     omega (arith, length-append text (0 ∷ more)) in
-    let known = name-facts text h in
-    let is_text = is_utf8-from_IsUtf8 text (IsUtf8-from_ascii text known.1) in
-    let taken = take-append_seam text (0 ∷ more) in
-    rw (e, known.0 more, lt-ltb _ _ within, taken, is_text) refl
+    let known = both (position_or_len (λ b. b == 0) text == length text) _ h in
+    let ascii = IsAscii-from_all text (λ i d inside. ltb-true (get_or text i d) 128
+    (AllPass-from_list_all (λ b. nat_lt b 128) text known.1 i d inside)) in
+    let is_text = is_utf8-from_IsUtf8 text (IsUtf8-from_ascii text ascii) in
+    let end : position_or_len (λ b. b == 0) (text ++ 0 ∷ more) ≡ length text =
+    prefix_len-append (λ b. not (b == 0)) text (0 ∷ more) ∙ rw known.0 (omega arith) in
+    rw (e, end, lt-ltb _ _ within, take-append_seam text (0 ∷ more), is_text) refl
 
 -- ---- all section headers of a written file are read back
 
@@ -367,10 +322,7 @@ null-header : (class : Class) (order : Endianness) (rest : List ℕ)
     → section_header_of (word_size class) order (null_header class ++ rest)
     ≡ section_header_of (word_size class) order (section_header class order 0 0 0 0 ++ rest)
 unfolding section_header_of section_header
-null-header Elf32 Little rest = refl
-null-header Elf32 Big rest = refl
-null-header Elf64 Little rest = refl
-null-header Elf64 Big rest = refl
+null-header class order rest = grind arith
 
 module _ (class : Class) (order : Endianness) (bytes table after : List ℕ) (headers : ℕ) where
   -- a section is read that has its header, its content and its name at their places
@@ -381,7 +333,7 @@ module _ (class : Class) (order : Endianness) (bytes table after : List ℕ) (he
       → drop place bytes ≡ content ++ after → place + length content ≤ length bytes
       → place + length content < 256 ^ word_size class
       → drop name table ≡ text ++ 0 ∷ more → name < 256 ^ 4
-      → list_all in_name text ≡ true
+      → is_name text ≡ true
       → section_of bytes table i (section_header_at class order bytes headers i) ≡
       plain_section i type text content
   unfolding section_of section_content
@@ -427,7 +379,7 @@ module _ (class : Class) (order : Endianness) (bytes table after : List ℕ) (he
       (names_of cs ++ last) others i name 1 place refl (lit< tt)
       (ap (section_header_of (word_size class) order) e) content (omega arith) (omega arith)
       (named ∙ append_assoc (name_of c.0) (0 ∷ []) (names_of cs ++ last)) (omega arith)
-      (every (λ k. list_all in_name (name_of k)) refl c.0) in
+      (every (λ k. is_name (name_of k)) refl c.0) in
       let later = sections-back cs (i + 1) (name + length (name_of c.0) + 1) (place + length c.1)
       (past bytes (section_header class order name 1 place (length c.1)) others _ (entry_size class)
       _ e (length-section_header class order name 1 place (length c.1)) (omega arith))
@@ -439,11 +391,11 @@ module _ (class : Class) (order : Endianness) (bytes table after : List ℕ) (he
 
 -- ---- the class and the byte order of a written file are read back
 
-identity-back : (class : Class) (order : Endianness) (rest : List ℕ)
-    → header_size class ≤ length (identification class order ++ rest)
-    → identity_of (identification class order ++ rest) ≡ Ok (class, order)
-unfolding kind_of identity_of
-identity-back class order rest long = grind arith
+identity-back : (class : Class) (order : Endianness) (machine headers count : ℕ) (rest : List ℕ)
+    → header_size class ≤ length (file_header class order machine headers count ++ rest)
+    → identity_of (file_header class order machine headers count ++ rest) ≡ Ok (class, order)
+unfolding file_header kind_of identity_of
+identity-back class order machine headers count rest long = grind arith
 
 -- ---- a written file means the contents that it was written from
 
@@ -494,11 +446,11 @@ module _ (o : Object) where
       let null = one-back o.class o.order text names (from_zeros o) headers [] text [] (names_of
       o.contents ++ (codes ".shstrtab" ++ 0 ∷ [])) first 0 0 0 0 refl (lit< tt)
       (ap (section_header_of (word_size o.class) o.order) (rw start headers-behind)
-      ∙ null-header o.class o.order first) refl (omega arith) (positive o.class) refl (lit< tt) refl
+      ∙ null-header o.class o.order first) refl (omega arith) (grind arith) refl (lit< tt) refl
       in
       let rest = sections-back o.class o.order text names (from_zeros o) headers o.contents 1 1
       (header_size o.class) (past text (null_header o.class) first headers (entry_size o.class) _
-      headers-behind (length-null_header o.class) (omega arith)) contents-behind refl
+      headers-behind (length-replicate _ 0) (omega arith)) contents-behind refl
       (omega (arith, length-file_text o)) (omega arith)
       (omega (arith, length-names_of o.contents)) in
       (rw two (cc (null, rest.0)), rest.1)
@@ -509,15 +461,14 @@ module _ (o : Object) where
   unfolding named_count read_count name_table_number name_table_numbered read_table elf_of
   elf_of-file_text small fits few =
       let count = section_count o.contents in
-      let header = file_header-begins o.class o.order o.machine headers count (from_contents o) in
-      let shape = file_text-split o ∙ header.1 in
+      let shape = file_text-split o in
       let size = length-file_text o in
       let last : 1 + length o.contents ≡ count - 1 = omega arith in
       let sections = all-sections fits few in
       let positive : 0 < header_size o.class = grind arith in
-      let identified = ap identity_of shape ∙ identity-back o.class o.order header.0
-      (omega (arith, size, ap length shape)) in
-      let read = ap (file_header_of (word_size o.class) o.order) (file_text-split o)
+      let identified = ap identity_of shape ∙ identity-back o.class o.order o.machine headers count
+      (from_contents o) (omega (arith, size, ap length shape)) in
+      let read = ap (file_header_of (word_size o.class) o.order) shape
       ∙ file_header-back o.class o.order o.machine headers count (from_contents o) small fits
       (omega arith) in
       let inside = le-leb (headers + count * entry_size o.class) (length text)
@@ -532,15 +483,12 @@ module _ (o : Object) where
       rw (identified, read, placed, sized, counted, inside, known, other, found, got, sections.0)
       refl
 
--- ---- a file that can be written is read back
-
--- a file whose places fit its class is read back
-pub written-back : (o : Object) → o.machine < 2 ^ 16 → KindsDiffer o.contents
-    → headers_place o.class o.contents < 2 ^ (8 * word_size o.class)
-    → file_length o.class o.contents < 2 ^ 64 → elf_of (file_text o) ≡ Ok (written_elf o)
-written-back o small differ fits length_fits =
-    elf_of-file_text o small (grind arith)
-    (omega (arith, length-KindsDiffer o.contents differ))
-
 -- what is found of a file by its layout
-pub ruleset layouts = (few_sections, Fits-from, refused_of, written-back, common_steps)
+pub ruleset layouts = (
+  few_sections,
+  length-KindsDiffer,
+  Fits-from,
+  refused_of,
+  elf_of-file_text,
+  common_steps,
+)

@@ -1,6 +1,7 @@
-use Rattle.dwp_elf.proofs.ReadingBack.{content_bytes-end, length-content_bytes-drop, length-name_of}
-use Rattle.std.proofs.{Common.ap, Common.arith, Common.length, lemmas.Grind.common_steps}
-use Rattle.dwp_elf.proofs.ReadingBack.{length-names_of-drop, names_of-end}
+use Rattle.dwp_elf.proofs.ReadingBack.{length-content_bytes-drop, length-name_of}
+use Rattle.{dwp_elf.proofs.ReadingBack.length-names_of-drop, std.proofs.lemmas.List.drop_all}
+use Rattle.std.proofs.{Common.arith, lemmas.Grind.common_steps}
+use Rattle.dwp_elf.specs.FileText.{content_bytes, names_of}
 use Rattle.dwp_elf.proofs.output.sizes_of.Goals as goal
 
 pub returns-in_err-contents-clause-contents : goal.returns-in_err-contents-clause-contents
@@ -17,8 +18,19 @@ loop-section-preserved c =
     }
 
 pub returns-clause-contents : goal.returns-clause-contents
+unfolding content_bytes
 returns-clause-contents c =
-    omega (arith, ap length (content_bytes-end _ _ c.loop-section-test.false))
+    omega (
+      arith,
+      rw (drop_all _ _ c.loop-section-test.false) at
+          c.loop-section.invariant.contents_left,
+    )
 
 pub returns-clause-names : goal.returns-clause-names
-returns-clause-names c = omega (arith, ap length (names_of-end _ _ c.loop-section-test.false))
+unfolding names_of
+returns-clause-names c =
+    omega (
+      arith,
+      rw (drop_all _ _ c.loop-section-test.false) at
+          c.loop-section.invariant.names_left,
+    )

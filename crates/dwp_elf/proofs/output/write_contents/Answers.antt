@@ -1,6 +1,6 @@
-use Rattle.dwp_elf.proofs.ReadingBack.{content_bytes-drop, content_bytes-end}
+use Rattle.{dwp_elf.proofs.ReadingBack.content_bytes-drop, std.proofs.lemmas.List.drop_all}
 use Rattle.dwp_elf.proofs.SoFar.{failed, so_far_more, so_far_part}
-use Rattle.std.proofs.KnownBytes.{Appends-nil}
+use Rattle.{dwp_elf.specs.FileText.content_bytes, std.proofs.KnownBytes.Appends-nil}
 use Rattle.dwp_elf.proofs.output.write_contents.Goals as goal
 
 pub returns-in_err-write_whole-clause-text : goal.returns-in_err-write_whole-clause-text
@@ -21,5 +21,6 @@ loop-section-preserved g c =
     }
 
 pub returns-clause-text : goal.returns-clause-text
+unfolding content_bytes
 returns-clause-text g c = c.loop-section.invariant.text.whole _
-    (rw (content_bytes-end _ _ c.loop-section-test.false) (Appends-nil _))
+    (rw (drop_all _ _ c.loop-section-test.false) (Appends-nil _))

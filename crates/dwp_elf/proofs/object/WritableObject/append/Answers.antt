@@ -1,7 +1,6 @@
+use Rattle.std.proofs.{Common.arith, Common.refl, Common.sym, Common.◌≡◌, lemmas.Grind.common_steps}
 use Rattle.dwp_elf.proofs.Changes.{is_grown-with_bytes, KindsDiffer-appended}
 use Rattle.dwp_elf.specs.{Contents.contents_of, Growing.with_bytes}
-use Rattle.std.proofs.Common.{arith, refl, sym, ◌≡◌}
-use Rattle.std.proofs.lemmas.Grind.{common_steps}
 use Rattle.dwp_elf.proofs.object.WritableObject.append.Goals as goal
 
 pub invariant_of-self-2 : goal.invariant_of-self-2

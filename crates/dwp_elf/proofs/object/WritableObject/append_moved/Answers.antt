@@ -1,12 +1,12 @@
 use Rattle.dwp_elf.specs.{Contents.appended, Contents.contents_of, Growing.with_bytes}
-use Rattle.dwp_elf.proofs.Changes.{absent, is_grown-with_bytes, KindsDiffer-appended}
-use Rattle.std.proofs.Common.{arith, refl, rules, sym, ◌≡◌}
+use Rattle.dwp_elf.proofs.Changes.{is_grown-with_bytes, KindsDiffer-appended, of_kind}
+use Rattle.std.proofs.Common.{arith, None, refl, rules, sym, ◌≡◌}
 use Rattle.std.proofs.lemmas.Grind.{common_steps}
 use Rattle.dwp_elf.proofs.object.WritableObject.append_moved.Goals as goal
 
 pub invariant_of-self-in-None : goal.invariant_of-self-in-None
 invariant_of-self-in-None c =
-    let none = absent c.args.kind c.self.inside.sections.items
+    let none = of_kind c.args.kind c.self.inside.sections.items None
     (rw c.deref.ensures.value at c.in-None.ensures) in
     let added : contents_of c.push.new.self.items ≡ appended c.args.kind
     c.args.bytes.items (contents_of c.self.inside.sections.items) =
@@ -15,7 +15,7 @@ invariant_of-self-in-None c =
 
 pub returns-in_ok-map_err-in-None : goal.returns-in_ok-map_err-in-None
 returns-in_ok-map_err-in-None c =
-    let none = absent c.args.kind c.self.inside.sections.items
+    let none = of_kind c.args.kind c.self.inside.sections.items None
     (rw c.deref.ensures.value at c.in-None.ensures) in
     let added : contents_of c.push.new.self.items ≡ with_bytes c.args.kind
     c.args.bytes.items (contents_of c.self.inside.sections.items) =

@@ -1,4 +1,4 @@
-use Rattle.dwp_elf.proofs.Changes.{KindsDiffer-truncated, length-contents_of, truncated-contents_of}
+use Rattle.dwp_elf.proofs.Changes.{count_of-truncated, length-contents_of, truncated-contents_of}
 use Rattle.dwp_elf.specs.{Contents.contents_of, Contents.truncated, Object.object_of}
 use Rattle.dwp_elf.specs.declared.object.WritableObject.TheInside.{Inside}
 use Rattle.dwp_elf.proofs.Changes.{cut_all, cut_more, truncated-begins}
@@ -22,7 +22,11 @@ invariant_of-self c =
     let is : contents_of c.loop-number.self-inside.sections.items ≡ truncated
     (contents_of c.self.inside.sections.items) c.args.sizes.now =
     grind (arith, common_steps, length-contents_of, cut_all, truncated-contents_of) in
-    rw is (KindsDiffer-truncated _ _ c.self.invariant)
+    rw is (λ k. omega (
+      arith,
+      c.self.invariant k,
+      count_of-truncated k (contents_of c.self.inside.sections.items) c.args.sizes.now,
+    ))
 
 pub returns : goal.returns
 returns c =

@@ -1,6 +1,5 @@
+use Rattle.{dwp_elf.proofs.ReadingBack.text_parts, std.proofs.Common.refl, std.proofs.Common.◌∙◌}
 use Rattle.dwp_elf.proofs.SoFar.{failed, part_after, part_before, Writes-after}
-use Rattle.dwp_elf.proofs.ReadingBack.{text_parts, zeros_of}
-use Rattle.std.proofs.Common.{refl, ◌∙◌}
 use Rattle.dwp_elf.proofs.object.WritableObject.write_parts.Goals as goal
 
 pub returns-in_err-write_whole-clause-text : goal.returns-in_err-write_whole-clause-text
@@ -28,24 +27,20 @@ returns-in_err-write_name_table-clause-text g c =
 
 pub returns-in_err-write_whole-2-clause-text : goal.returns-in_err-write_whole-2-clause-text
 returns-in_err-write_whole-2-clause-text g c =
-    let sized = c.from.ensures ∙ c.entry_size.ensures in
-    let zeros = zeros_of c.self.inside _ _ _ c.self.view_is c.requires sized in
     rw (text_parts c.self.inside _ _ _ _ _ c.self.view_is c.requires c.len.ensures
-    (c.as_slice.ensures ∙ c.file_header-header.ensures) sized)
+    (c.as_slice.ensures ∙ c.file_header-header.ensures) (c.from.ensures ∙ c.entry_size.ensures))
     (failed _ _ c.from_residual-in_err-write_whole-2.ensures.1
     (part_after _ c.in_ok-write_whole.ensures.text (part_after _
     (rw c.deref.ensures.value at c.in_ok-write_contents.ensures.text) (part_after _
     (rw c.deref-2.ensures.value at c.in_ok-write_name_table.ensures.text)
-    (part_before _ (rw zeros at c.in_err-write_whole-2.ensures.text))))))
+    (part_before _ c.in_err-write_whole-2.ensures.text)))))
 
 pub returns-clause-text : goal.returns-clause-text
 returns-clause-text g c =
-    let sized = c.from.ensures ∙ c.entry_size.ensures in
-    let zeros = zeros_of c.self.inside _ _ _ c.self.view_is c.requires sized in
     rw (text_parts c.self.inside _ _ _ _ _ c.self.view_is c.requires c.len.ensures
-    (c.as_slice.ensures ∙ c.file_header-header.ensures) sized)
+    (c.as_slice.ensures ∙ c.file_header-header.ensures) (c.from.ensures ∙ c.entry_size.ensures))
     (Writes-after _ _ _ _ _ _ c.in_ok-write_whole.ensures.text (Writes-after _ _ _ _ _ _
     (rw c.deref.ensures.value at c.in_ok-write_contents.ensures.text) (Writes-after _ _ _ _ _ _
     (rw c.deref-2.ensures.value at c.in_ok-write_name_table.ensures.text)
-    (Writes-after _ _ _ _ _ _ (rw zeros at c.in_ok-write_whole-2.ensures.text)
+    (Writes-after _ _ _ _ _ _ c.in_ok-write_whole-2.ensures.text
     (rw c.deref-3.ensures.value at c.write_section_headers.ensures.text)))))
