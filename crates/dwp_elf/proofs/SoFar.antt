@@ -50,12 +50,6 @@ module _ {old now : Option (List ℕ)} {all rest : List ℕ} (s : SoFar old now 
   Writes-so_far (Ok u) new q = s.whole new q
   Writes-so_far (Err e) new q = s.part new q
 
--- the last piece behind another
-pub Writes-after : {E : Type 0} (r : Result (Unit {0}) E) (a b c : Option (List ℕ)) (x y : List ℕ)
-    → Appends a b x → Writes r b c y → Writes r a c (x ++ y)
-Writes-after (Ok u) a b c x y p q = Appends-trans a b c x y p q
-Writes-after (Err e) a b c x y p q = part_after x p q
-
 -- what a step that failed has written, as the function returns its error
 pub failed : {E : Type 0} (F : E → Type 0) {a b : Option (List ℕ)} {bs : List ℕ}
     (r : Result (Unit {0}) E) → IsErrAnd r F → AppendsPart a b bs → Writes r a b bs

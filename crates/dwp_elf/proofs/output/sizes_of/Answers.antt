@@ -20,17 +20,11 @@ loop-section-preserved c =
 pub returns-clause-contents : goal.returns-clause-contents
 unfolding content_bytes
 returns-clause-contents c =
-    omega (
-      arith,
-      rw (drop_all _ _ c.loop-section-test.false) at
-          c.loop-section.invariant.contents_left,
-    )
+    let none = drop_all _ _ c.loop-section-test.false in
+    omega (arith, rw none at c.loop-section.invariant.contents_left)
 
 pub returns-clause-names : goal.returns-clause-names
 unfolding names_of
 returns-clause-names c =
-    omega (
-      arith,
-      rw (drop_all _ _ c.loop-section-test.false) at
-          c.loop-section.invariant.names_left,
-    )
+    let none = drop_all _ _ c.loop-section-test.false in
+    omega (arith, rw none at c.loop-section.invariant.names_left)

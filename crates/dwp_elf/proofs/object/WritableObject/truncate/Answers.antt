@@ -1,18 +1,9 @@
 use Rattle.dwp_elf.proofs.Changes.{count_of-truncated, length-contents_of, truncated-contents_of}
 use Rattle.dwp_elf.specs.{Contents.contents_of, Contents.truncated, Object.object_of}
-use Rattle.dwp_elf.specs.declared.object.WritableObject.TheInside.{Inside}
 use Rattle.dwp_elf.proofs.Changes.{cut_all, cut_more, truncated-begins}
-use Rattle.std.proofs.Common.{ap, arith, List, refl, sym, ℕ, ◌∙◌, ◌≡◌}
+use Rattle.std.proofs.Common.{ap, arith, refl, sym, ◌∙◌, ◌≡◌}
 use Rattle.std.proofs.lemmas.Grind.{common_steps}
 use Rattle.dwp_elf.proofs.object.WritableObject.truncate.Goals as goal
-
--- all but the contents is as it was
-cut_object : (old new : Inside) (sizes : List ℕ) → new ≡ record old { sections = new.sections }
-    → contents_of new.sections.items ≡ truncated (contents_of old.sections.items) sizes
-    → object_of new ≡ record (object_of old) {
-      contents = truncated (contents_of old.sections.items) sizes;
-    }
-cut_object old new sizes others is = ap object_of others ∙ rw is refl
 
 pub loop-number-preserved : goal.loop-number-preserved
 loop-number-preserved c = grind (arith, common_steps, cut_more, length-contents_of)
@@ -33,8 +24,9 @@ returns c =
     let is : contents_of c.loop-number.self-inside.sections.items ≡ truncated
     (contents_of c.self.inside.sections.items) c.args.sizes.now =
     grind (arith, common_steps, length-contents_of, cut_all, truncated-contents_of) in
-    let whole = cut_object c.self.inside c.loop-number.self-inside _
-    c.loop-number.invariant.others is in
+    let whole : object_of c.loop-number.self-inside ≡ record (object_of c.self.inside) {
+      contents = truncated (contents_of c.self.inside.sections.items) c.args.sizes.now;
+    } = ap object_of c.loop-number.invariant.others ∙ rw is refl in
     record {
       cut = rw (sym c.self.view_is) whole;
       taken_back = λ before grown same.

@@ -1,5 +1,6 @@
-use Rattle.{dwp_elf.proofs.ReadingBack.text_parts, std.proofs.Common.refl, std.proofs.Common.◌∙◌}
-use Rattle.dwp_elf.proofs.SoFar.{failed, part_after, part_before, Writes-after}
+use Rattle.dwp_elf.proofs.SoFar.{part_after, part_before, so_far_more, so_far_none, Writes-so_far}
+use Rattle.{dwp_elf.proofs.SoFar.failed, std.proofs.Common.refl, std.proofs.Common.◌∙◌}
+use Rattle.dwp_elf.proofs.ReadingBack.{text_parts}
 use Rattle.dwp_elf.proofs.object.WritableObject.write_parts.Goals as goal
 
 pub returns-in_err-write_whole-clause-text : goal.returns-in_err-write_whole-clause-text
@@ -39,8 +40,8 @@ pub returns-clause-text : goal.returns-clause-text
 returns-clause-text g c =
     rw (text_parts c.self.inside _ _ _ _ _ c.self.view_is c.requires c.len.ensures
     (c.as_slice.ensures ∙ c.file_header-header.ensures) (c.from.ensures ∙ c.entry_size.ensures))
-    (Writes-after _ _ _ _ _ _ c.in_ok-write_whole.ensures.text (Writes-after _ _ _ _ _ _
-    (rw c.deref.ensures.value at c.in_ok-write_contents.ensures.text) (Writes-after _ _ _ _ _ _
-    (rw c.deref-2.ensures.value at c.in_ok-write_name_table.ensures.text)
-    (Writes-after _ _ _ _ _ _ c.in_ok-write_whole-2.ensures.text
-    (rw c.deref-3.ensures.value at c.write_section_headers.ensures.text)))))
+    (Writes-so_far (so_far_more (so_far_more (so_far_more (so_far_more (so_far_none _ _) _ _ _ refl
+    c.in_ok-write_whole.ensures.text) _ _ _ refl (rw c.deref.ensures.value at
+    c.in_ok-write_contents.ensures.text)) _ _ _ refl (rw c.deref-2.ensures.value at
+    c.in_ok-write_name_table.ensures.text)) _ _ _ refl c.in_ok-write_whole-2.ensures.text) _ _
+    (rw c.deref-3.ensures.value at c.write_section_headers.ensures.text))
