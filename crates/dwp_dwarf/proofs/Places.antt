@@ -1,28 +1,21 @@
 -- What is remembered of a place of a section of abbreviations, from what is remembered of the next.
 -- A new version has what the older one has but for one key, and older versions stay. What a map
 -- from numbers has for each of them.
-use Rattle.dwp_dwarf.proofs.Terms.{Declaration, Goes, Option, RemembersPlaces, cond, declaration, ℕ}
-use Rattle.dwp_dwarf.proofs.Terms.{Input, List, None, [], front, nat_cmp, true, zero, ◌-◌, ◌<◌, ◌≤◌}
-use Rattle.dwp_dwarf.proofs.Terms.{BTreeMap, Node, eqb, length-take, lt-ltb, subst, sym, ◌++◌, ◌∙◌}
-use Rattle.dwp_dwarf.proofs.Terms.{IfSome, append_assoc, by-bool, drop-take, eqb-true, length, ◌≢◌}
-use Rattle.dwp_dwarf.proofs.{Tables.look_up-other, Tables.next_takes, Terms.get, Terms.length-drop}
-use Rattle.dwp_dwarf.proofs.Terms.{Ok, Some, ap, arith, eqb-false, length-append, refl, ◌+◌, ◌∷◌}
-use Rattle.dwp_dwarf.specs.Chains.{DeclaredAt, RemembersPlace, StaysBefore, absent_by, from_end}
-use Rattle.dwp_dwarf.specs.Versions.{copy_of, half, held, node_of, older, value_by, with_side}
-use Rattle.dwp_dwarf.proofs.Terms.{Bool, false, from_at, ne_eqb, next_at, slice_get, suc, ◌≡◌}
-use Rattle.dwp_dwarf.proofs.Tables.{Next, from_is, from_within, look_up-here, next_shorter}
-use Rattle.dwp_dwarf.specs.Chains.{EndsBefore, FirstAt, RemembersChains, StaysBehind}
+use Rattle.dwp_dwarf.proofs.Terms
+use Rattle.dwp_dwarf.proofs.Tables.{from_is, from_within, look_up-here, look_up-other, next_shorter}
+use Rattle.dwp_dwarf.specs.Versions.{copy_of, Grows, half, held, older, side_of, value_by, value_in}
+use Terms.{Declaration, declaration, Goes, length-append, length-drop, length-take, RemembersPlaces}
+use Terms.{arith, cond, false, front, IfSome, Input, length, List, lt-ltb, ne_eqb, Option, subst, ℕ}
+use Terms.{BTreeMap, by-bool, drop-take, eqb-false, eqb-true, from_at, nat_cmp, next_at, slice_get}
+use Terms.{Bool, eqb, get, Node, None, refl, Some, sym, true, zero, ◌++◌, ◌-◌, ◌<◌, ◌∙◌, ◌≢◌, ◌≤◌}
+use Rattle.dwp_dwarf.specs.{declared.chains.Chains.Chains, Versions.node_of, Versions.with_side}
+use Rattle.dwp_dwarf.{proofs.Tables.Next, proofs.Tables.next_takes, specs.Versions.value_below}
+use Rattle.dwp_dwarf.specs.Chains.{RemembersChains, RemembersPlace, StaysBefore, StaysBehind}
+use Rattle.dwp_dwarf.specs.Chains.{absent_by, DeclaredAt, EndsBefore, FirstAt, from_end}
+use Rattle.{dwp_bytes.specs.Input.after, dwp_dwarf.specs.declared.chains.Place.Place}
 use Rattle.dwp_units.proofs.Readings.{goes_then, one_answer, size, takes_front}
-use Rattle.dwp_dwarf.specs.Versions.{Grows, side_of, value_below, value_in}
-use Rattle.dwp_dwarf.specs.declared.chains.{Chains.Chains, Place.Place}
 use Rattle.std.proofs.lemmas.Option.{IfSome_then, slice_get_within}
-use Rattle.dwp_bytes.specs.Input.{after}
-
-pub grows_then : {a b c : List Node} → Grows a b → Grows b c → Grows a c
-grows_then {a} p q = record {
-  more = p.more ++ q.more;
-  is = q.is ∙ ap (λ (l : List Node). l ++ q.more) p.is ∙ append_assoc a p.more q.more;
-}
+use Terms.{[], ap, Ok, suc, ◌+◌, ◌∷◌, ◌≡◌}
 
 -- what was added makes the nodes more
 pub grows_length : {old new : List Node} → Grows old new → length old ≤ length new
@@ -143,8 +136,9 @@ module _ {old mid new : List Node} (levels version added low key : ℕ) (copy : 
       let by =
       others_by levels old new version added other (with_side copy key low) copy some copied now in
       let up = value_stays (levels - 1) (half other) behind fits in
-      let stays = value_stays (levels - 1) (half other) (grows_then before behind) fits_copy in
       let long = grows_length before in
+      let stays = value_stays (levels - 1) (half other) behind (omega (arith, fits_copy, long))
+      ∙ value_stays (levels - 1) (half other) before fits_copy in
       grind (arith, long, fits_copy, by, up, stays, same (half other))
 
 -- by whether it is the key

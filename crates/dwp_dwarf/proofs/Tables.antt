@@ -1,23 +1,23 @@
 -- A table of abbreviations: its readings go forward, and its lists and look-ups go by what stands
 -- first. What stands at an offset of a section.
-use Rattle.dwp_dwarf.proofs.Terms.{by-bool, byte_at, eq-eqb, le-ltb, leb_at, length, lt-ltb, ne_eqb}
-use Rattle.dwp_units.proofs.Readings.{error_gives, error_reads, then_gives, then_reads, told_there}
-use Rattle.dwp_units.proofs.Readings.{Answer, Gives, Reads, Steps, Takes, by_step, goes, size, was}
-use Rattle.dwp_dwarf.proofs.Terms.{IfSome, Input, Option, Result, arith, false, subst, ◌++◌, ◌>>=◌}
-use Rattle.dwp_dwarf.proofs.Terms.{Err, Ok, [], ap, eqb, ltb, suc, sym, ℕ, ◌<◌, ◌↔◌, ◌∙◌, ◌∷◌, ◌≡◌}
-use Rattle.dwp_dwarf.proofs.Terms.{OffsetOutOfRange, Specification, UnexpectedEof, declaration_at}
-use Rattle.dwp_dwarf.proofs.Terms.{Bool, Goes, List, None, Some, cond, refl, take, zero, ◌≢◌, ◌≤◌}
-use Rattle.dwp_units.proofs.Readings.{reads_uleb, some_reads, takes_then, test_gives, test_reads}
-use Rattle.dwp_units.proofs.Readings.{bind_alike, goes_some, more_gives, reads_byte, reads_sleb}
-use Rattle.dwp_dwarf.specs.Abbreviations.{children_at, constant_at, is_last, pairs_from, tag_at}
-use Rattle.dwp_dwarf.proofs.Terms.{Declaration, ReadError, declaration, eqb-false, ltb-false}
-use Rattle.dwp_dwarf.specs.Abbreviations.{pairs_within, specification_at, specifications_at}
-use Rattle.dwp_units.proofs.Readings.{bind-bind, bind-cond, by-result, goes_none, shorter}
-use Rattle.dwp_dwarf.proofs.Terms.{eqb-true, from_at, next_at, pairs_in, skip_at, uleb_at}
-use Rattle.{dwp_units.specs.AbbreviationCodes.code_at, std.specs.List.AllByRecursion}
-use Rattle.{dwp_bytes.specs.Input.after, dwp_dwarf.proofs.Terms.past_specifications}
-use Rattle.dwp_dwarf.specs.Abbreviations.{declaration_within, specifications_within}
-use Rattle.dwp_units.proofs.Readings.{goes_length, value_gives, value_reads}
+use Rattle.dwp_dwarf.proofs.Terms
+use Rattle.dwp_dwarf.specs.Abbreviations.{children_at, is_last, specification_at, specifications_at}
+use Rattle.dwp_units.proofs.Readings.{bind-bind, error_gives, error_reads, goes_length, value_gives}
+use Rattle.dwp_units.proofs.Readings.{bind-cond, by-result, more_gives, reads_byte, reads_sleb, was}
+use Terms.{[], ap, cond, Ok, refl, Some, suc, sym, take, zero, ℕ, ◌<◌, ◌↔◌, ◌∙◌, ◌∷◌, ◌≡◌, ◌≢◌, ◌≤◌}
+use Terms.{Goes}
+use Rattle.dwp_units.proofs.Readings.{goes_none, goes_some}
+use Terms.{arith, false, IfSome, Input, List, ltb, ne_eqb, None, Option, Result, subst, ◌++◌, ◌>>=◌}
+use Terms.{byte_at, eq-eqb, eqb, from_at, le-ltb, leb_at, length, lt-ltb, next_at, skip_at, uleb_at}
+use Terms.{declaration_at, Err, OffsetOutOfRange, past_specifications, Specification, UnexpectedEof}
+use Rattle.dwp_dwarf.specs.Abbreviations.{declaration_within, pairs_within, specifications_within}
+use Rattle.dwp_units.proofs.Readings.{reads_uleb, then_gives, then_reads, told_there, value_reads}
+use Terms.{by-bool, Declaration, declaration, eqb-false, eqb-true, ltb-false, pairs_in, ReadError}
+use Rattle.dwp_units.proofs.Readings.{Answer, by_step, Gives, goes, Reads, shorter, Steps, Takes}
+use Rattle.dwp_units.proofs.Readings.{bind_alike, some_reads, takes_then, test_gives, test_reads}
+use Rattle.{dwp_bytes.specs.Input.after, dwp_units.specs.AbbreviationCodes.code_at}
+use Rattle.dwp_dwarf.specs.Abbreviations.{constant_at, pairs_from, tag_at}
+use Rattle.{dwp_units.proofs.Readings.size, std.specs.List.AllByRecursion}
 use Rattle.dwp_dwarf.specs.Grammar.{DeclarationsLie, IsBehindOthers}
 
 -- past the end nothing stands
@@ -39,24 +39,11 @@ from_is offset section i e = (test_gives {P = λ j. (offset ≤ length section.b
     × (j ≡ after offset section)} (ltb (length section.bytes) offset) (λ _. error_gives)
     (λ fits. rw fits (value_gives (ltb-false _ _ fits, refl)))).gives i e
 
-reads_constant : (form : ℕ) → Reads 0 (Unit {0}) (constant_at form)
-unfolding constant_at
-reads_constant form = test_reads (eqb form 0x21) (some_reads (then_reads _ reads_sleb (λ x.
-    value_reads))) value_reads
-
 pub reads_specification : Reads 1 Specification specification_at
-unfolding specification_at
+unfolding specification_at constant_at
 reads_specification = then_reads _ reads_uleb (λ name. then_reads _ reads_uleb (λ form. then_reads
-    _ (reads_constant form) (λ c. value_reads)))
-
-reads_tag : Reads 1 ℕ tag_at
-unfolding tag_at
-reads_tag = then_reads _ reads_uleb (λ tag. test_reads (eqb tag 0) error_reads value_reads)
-
-reads_children : Reads 1 Bool children_at
-unfolding children_at
-reads_children = then_reads _ reads_byte (λ byte. test_reads (eqb byte 0) value_reads (test_reads
-    (eqb byte 1) value_reads error_reads))
+    _ (test_reads (eqb form 0x21) (some_reads (then_reads _ reads_sleb (λ x. value_reads)))
+    value_reads) (λ c. value_reads)))
 
 -- ---- a list of pairs
 
@@ -74,38 +61,35 @@ abbrev after_first : (Input → Answer (List Specification)) → Specification �
 after_first others first = cond (is_last first.0) (Ok ([], first.1))
     (others first.1 >>= before_others first.0)
 
-list_steps : Steps size specifications_within (λ others i. specification_at i >>=
-    after_first others)
-unfolding specifications_within
-list_steps = record {
-  none = λ others i e. rw (no_specification i e) refl;
-  next = λ n i. refl;
-  alike = λ f g i same. bind_alike (specification_at i) (after_first f) (after_first g)
-      (λ x e. rw (same x.1 (shorter reads_specification i x e)) refl);
-}
-
 pub specifications_cases : (i : Input)
     → specifications_at i ≡ (specification_at i >>= after_first specifications_at)
-unfolding specifications_at
-specifications_cases i = by_step list_steps i
+unfolding specifications_at specifications_within
+specifications_cases i =
+    let steps : Steps size specifications_within (λ others i. specification_at i >>= after_first
+    others) = record {
+      none = λ others i e. rw (no_specification i e) refl;
+      next = λ n i. refl;
+      alike = λ f g i same. bind_alike (specification_at i) (after_first f) (after_first g)
+          (λ x e. rw (same x.1 (shorter reads_specification i x e)) refl);
+    } in
+    by_step steps i
 
 -- the end of a list that has one pair more
 pub past_other : (first : Specification) (r : Answer (List Specification))
     → ((r >>= before_others first) >>= λ list. Ok list.1) ≡ (r >>= λ list. Ok list.1)
 past_other first r = grind arith
 
-pair_steps : Steps size pairs_within (λ others i. pairs_from (specification_at i) others)
-unfolding pairs_within
-pair_steps = record {
-  none = λ others i e. rw (no_specification i e) refl;
-  next = λ n i. refl;
-  alike = λ f g i same. by-result _ (specification_at i)
-      (λ x e. rw (e, same x.1 (shorter reads_specification i x e)) refl) (λ e h. rw h refl);
-}
-
 pub pairs_cases : (i : Input) → pairs_in i ≡ pairs_from (specification_at i) pairs_in
-unfolding pairs_in
-pairs_cases i = by_step pair_steps i
+unfolding pairs_in pairs_within
+pairs_cases i =
+    let steps : Steps size pairs_within (λ others i. pairs_from (specification_at i) others) =
+    record {
+      none = λ others i e. rw (no_specification i e) refl;
+      next = λ n i. refl;
+      alike = λ f g i same. by-result _ (specification_at i)
+          (λ x e. rw (e, same x.1 (shorter reads_specification i x e)) refl) (λ e h. rw h refl);
+    } in
+    by_step steps i
 
 -- a list that was read whole has these pairs
 pairs_are : (n : ℕ) (i : Input)
@@ -150,9 +134,12 @@ reads_specifications = record {
 }
 
 pub reads_declaration : Reads 1 Declaration declaration_at
-unfolding declaration_at
-reads_declaration = then_reads _ reads_tag (λ tag. then_reads _ reads_children (λ children.
-    then_reads _ reads_specifications (λ list. value_reads)))
+unfolding declaration_at tag_at children_at
+reads_declaration = then_reads _
+    (then_reads _ reads_uleb (λ tag. test_reads (eqb tag 0) error_reads value_reads))
+    (λ tag. then_reads _ (then_reads _ reads_byte (λ byte. test_reads (eqb byte 0) value_reads
+    (test_reads (eqb byte 1) value_reads error_reads)))
+    (λ children. then_reads _ reads_specifications (λ list. value_reads)))
 
 pub code_goes : (i : Input) → Gives (ℕ × Input) (code_at i) (λ x. Goes 0 i x.1)
 unfolding code_at

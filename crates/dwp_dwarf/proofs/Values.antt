@@ -2,30 +2,29 @@
 -- before it. Attributes whose values have no bytes have no number and name no place, so the
 -- attributes that are needed tell what all tell.
 use Rattle.dwp_dwarf.proofs.Terms
-use Terms.{Declaration, UnknownCode, UnknownForm, attribute_at, attributes, declaration, past_value}
-use Terms.{Err, Goes, List, None, Ok, [], ap, eqb, map, met, suc, sym, ℕ, ◌-◌, ◌∙◌, ◌∷◌, ◌≡◌, ◌≢◌}
-use Terms.{DebugEntry, ReadError, has_bytes, is_needed, layout_of, split_at, split_in, value_at}
-use Terms.{Encoding, add-zero, eqb-true, is_none, is_unmet, neither, none_met, skip_at, uleb_at}
-use Terms.{Fixed, Input, Some, Unit, arith, cond, false, front, ok_or, refl, zero, ◌++◌, ◌>>=◌}
-use Terms.{Format, IfSome, Option, Result, by-bool, byte_at, le-ltb, leb_at, length, needed}
-use Terms.{DebugAttribute, Specification, SplitAttributes, first_number, named_form_at}
+use Rattle.dwp_units.proofs.Readings.{Answer, bind-bind, bind-cond, by-result, goes_none, goes_some}
+use Rattle.dwp_units.proofs.Readings.{after-zero, bind_alike, goes_after, goes_then, skip_goes, was}
 use Rattle.dwp_units.proofs.Readings.{error_gives, number_goes, then_gives, then_split, value_gives}
+use Rattle.{dwp_bytes.specs.Input.after, dwp_bytes.specs.Input.found_at, std.specs.Option.option_or}
+use Terms.{Encoding, Goes, has_bytes, is_needed, layout_of, ReadError, split_at, split_in, value_at}
+use Terms.{add-zero, by-bool, eqb-true, Err, is_none, is_unmet, neither, none_met, skip_at, uleb_at}
+use Terms.{attribute_at, DebugAttribute, Declaration, named_form_at, Specification, SplitAttributes}
+use Terms.{byte_at, Fixed, Format, IfSome, Input, le-ltb, leb_at, length, needed, Option, Result, ℕ}
+use Terms.{attributes, DebugEntry, declaration, first_number, past_value, UnknownCode, UnknownForm}
+use Terms.{arith, cond, eqb, false, front, List, None, ok_or, refl, Some, Unit, zero, ◌++◌, ◌>>=◌}
 use Rattle.dwp_units.proofs.Readings.{more_gives, reads_byte, reads_sleb, reads_uleb, test_gives}
+use Rattle.{dwp_dwarf.specs.declared.value.BlockLength.BlockLength, std.proofs.Math.Nat.sub_self}
 use Rattle.dwp_dwarf.specs.declared.value.FormLayout.TheVariants.{Block, Signed, Text, Unsigned}
 use Rattle.dwp_dwarf.specs.declared.{needed.UnmetNames.UnmetNames, value.FormLayout.FormLayout}
-use Rattle.dwp_units.proofs.Readings.{after-zero, bind_alike, goes_after, goes_then, skip_goes}
 use Rattle.{dwp_dwarf.proofs.Tables.code_goes, dwp_units.specs.AbbreviationCodes.root_code_at}
-use Rattle.dwp_units.proofs.Readings.{Answer, Gives, Steps, by_step, goes, shorter, size, was}
-use Rattle.dwp_units.proofs.Readings.{bind-bind, bind-cond, by-result, goes_none, goes_some}
 use Rattle.dwp_dwarf.specs.Split.{all_read, none_found, split_attributes, with_attribute}
 use Rattle.dwp_dwarf.specs.declared.value.BlockLength.TheVariants.{Four, Leb, One, Two}
 use Rattle.dwp_dwarf.specs.Values.{LiesFirst, LiesInUnit, RootValuesLie, ValuesLie}
+use Rattle.dwp_units.proofs.Readings.{by_step, Gives, goes, shorter, size, Steps}
 use Rattle.dwp_dwarf.specs.Entries.{entry_at, number_of, place_of, root_at}
 use Rattle.dwp_dwarf.specs.Forms.{block_length_at, named_within, text_at}
-use Rattle.dwp_dwarf.specs.declared.value.BlockLength.{BlockLength}
-use Rattle.dwp_units.proofs.Units.{Onward, listed_ok, unit_takes}
-use Rattle.std.{proofs.Math.Nat.sub_self, specs.Option.option_or}
-use Rattle.dwp_bytes.specs.Input.{after, found_at}
+use Terms.{[], ap, map, met, Ok, suc, sym, ◌-◌, ◌∙◌, ◌∷◌, ◌≡◌, ◌≢◌}
+use Rattle.dwp_units.proofs.Units.{listed_ok, Onward, unit_takes}
 
 -- ---- the names of forms
 
@@ -33,22 +32,20 @@ use Rattle.dwp_bytes.specs.Input.{after, found_at}
 abbrev after_name : (ℕ × Input → Answer ℕ) → ℕ × Input → Answer ℕ
 after_name others named = cond (eqb named.0 0x21) (Err UnknownForm) (others named)
 
-named_steps : Steps (λ (s : ℕ × Input). size s.1) (λ n s. named_within n s.0 s.1) (λ others s.
-    cond (eqb s.0 0x16) (uleb_at s.1 >>= after_name others) (Ok s))
-unfolding named_within uleb_at leb_at byte_at
-named_steps = record {
-  none = λ others s e. rw e refl;
-  next = λ n s. refl;
-  alike = λ f g s same. ap (λ r. cond (eqb s.0 0x16) r (Ok s))
-      (bind_alike (uleb_at s.1) (after_name f) (after_name g) (λ x e. ap
-      (cond (eqb x.0 0x21) (Err UnknownForm)) (same x (shorter reads_uleb s.1 x e))));
-}
-
 pub named_form_cases : (form : ℕ) (i : Input) → named_form_at form i ≡
     (cond (eqb form 0x16) (uleb_at i >>= λ x. cond (eqb x.0 0x21) (Err UnknownForm)
     (named_form_at x.0 x.1)) (Ok (form, i)))
-unfolding named_form_at
-named_form_cases form i = by_step named_steps (form, i)
+unfolding named_form_at named_within uleb_at leb_at byte_at
+named_form_cases form i =
+    let steps : Steps (λ (s : ℕ × Input). size s.1) (λ n s. named_within n s.0 s.1) (λ others s.
+    cond (eqb s.0 0x16) (uleb_at s.1 >>= after_name others) (Ok s)) = record {
+      none = λ others s e. rw e refl;
+      next = λ n s. refl;
+      alike = λ f g s same. ap (λ r. cond (eqb s.0 0x16) r (Ok s))
+          (bind_alike (uleb_at s.1) (after_name f) (after_name g) (λ x e. ap
+          (cond (eqb x.0 0x21) (Err UnknownForm)) (same x (shorter reads_uleb s.1 x e))));
+    } in
+    by_step steps (form, i)
 
 -- a form that isn't the form indirect has no name before it
 abbrev NamesForm : ℕ → Input → ℕ × Input → Type 0
