@@ -1,38 +1,40 @@
 -- The numbers, columns and rows of an index: numbers one after the other; reading one column after
 -- the other, and where columns stand, by the numbers that say it; what the fields of an index hold,
 -- and where a look-up ends; and the used slots of an index of distinct identifiers.
-use Rattle.std.proofs.Common.{add-zero, ap, append_assoc, false, is_some, map-id, ne_eqb, refl, sym}
-use Rattle.std.proofs.Common.{List, Ok, [], add-one, cond, find, le-ltb, ltb, not, take, zero, ◌++◌}
-use Rattle.std.proofs.Common.{eq-eqb, filter, inr, length-drop, map, subst, zero-add, ◌+◌, ◌∷◌, ◌≡◌}
-use Rattle.std.proofs.Common.{None, Some, get_or-set_other, inl, length, unwrap_or, ◌*◌, ◌<◌, ◌∙◌}
-use Rattle.std.proofs.Common.{Err, Option, Result, drop, drop-drop, eqb, get_or, set, true, ◌-◌}
-use Rattle.std.proofs.Common.{Bool, arith, is_none, length-append, length-set, suc, ℕ, ◌≤◌, ◌⊎◌}
-use Rattle.dwp_index.specs.{Naming.IsIndexOfIds, Naming.entries_of, Used.slot_at, Used.used_in}
-use Rattle.std.proofs.lemmas.List.{get_or-map, get_or_past, length-map, set-get_or, set_split}
-use Rattle.dwp_bytes.specs.declared.error.ReadError.TheVariants.{UnexpectedEof, UnknownColumn}
-use Rattle.dwp_index.specs.{Fields.index_in, Index.Index, Index.column_place, Used.used_from}
+use Rattle.std.proofs.Common.{add-zero, arith, below_more, drop-drop, is_none, length-set, zero-add}
+use Rattle.std.proofs.Common.{List, Option, Some, false, filter, lt-ltb, map-id, subst, zero, ◌++◌}
+use Rattle.std.proofs.Common.{inl, inr, ltb, map, not, suc, ◌*◌, ◌+◌, ◌-◌, ◌<◌, ◌∙◌, ◌∷◌, ◌≡◌, ◌⊎◌}
+use Rattle.std.proofs.lemmas.List.Sorted.{IsPermutation-map, IsPermutation-refl, IsPermutation-sym}
+use Rattle.std.proofs.lemmas.List.{FromFn.fill_by_all, FromFn.map-range_with_len_more, get_or_past}
+use Rattle.dwp_index.specs.{Index.Index, Naming.IsIndexOfIds, Naming.entries_of, Naming.numbered}
+use Rattle.std.proofs.lemmas.{Grind.get_or-set_at, List.Elements.filter-append, Option.same_Some}
+use Rattle.std.{proofs.Common.length-drop, specs.Option.option_and_then, specs.Option.option_or}
+use Rattle.dwp_bytes.specs.declared.error.ReadError.TheVariants.{RepeatedColumn, UnknownColumn}
+use Rattle.std.proofs.Common.{Bool, Err, None, Ok, cond, drop, eqb, refl, sym, take, true, ℕ}
+use Rattle.dwp_index.specs.{Fields.index_in, declared.unit_index.UnitIndex.TheInside.Inside}
 use Rattle.dwp_table.specs.Probing.{first_end, found_row, is_end, look_count, place, row_of}
-use Rattle.dwp_index.specs.{Naming.numbered, declared.unit_index.UnitIndex.TheInside.Inside}
-use Rattle.dwp_table.specs.Columns.{gnu_column, kind_of_column, kind_with, standard_column}
-use Rattle.std.{proofs.Common.lt-ltb, specs.Option.option_and_then, specs.Option.option_or}
-use Rattle.dwp_bytes.specs.declared.error.ReadError.{ReadError, TheVariants.RepeatedColumn}
+use Rattle.dwp_index.specs.{Index.column_place, Used.slot_at, Used.used_from, Used.used_in}
 use Rattle.dwp_base.{proofs.Bools.by-bool, specs.declared.section.SectionKind.SectionKind}
+use Rattle.dwp_bytes.specs.declared.error.ReadError.{ReadError, TheVariants.UnexpectedEof}
+use Rattle.std.proofs.Common.{add-one, append_assoc, get_or-set_other, length-append, set}
+use Rattle.std.proofs.Common.{Result, eq-eqb, find, get_or, is_some, le-ltb, length, ◌≤◌}
 use Rattle.std.specs.List.{Sorted.IsPermutation, list_any, position_from, range_with_len}
 use Rattle.dwp_base.specs.declared.{by_kind.ByKind.ByKind, endian.Endianness.Endianness}
+use Rattle.dwp_table.specs.Columns.{column_of, contribution_kinds, is_number, kind_with}
+use Rattle.std.proofs.lemmas.List.Sorted.{IsPermutation-middle, IsPermutation-push_more}
 use Rattle.std.proofs.lemmas.Bool.{Decides.nat_tests, cases_eq, false≢true, or_right}
-use Rattle.std.proofs.lemmas.List.Sorted.{IsPermutation-push_more, IsPermutation-sym}
+use Rattle.std.proofs.{Common.[], Common.ap, lemmas.List.Sorted.IsPermutation-append}
 use Rattle.dwp_index.specs.IndexBytes.{columns_at, new_column, number_rows, numbers}
-use Rattle.std.proofs.lemmas.List.Sorted.{IsPermutation-append, IsPermutation-refl}
-use Rattle.std.proofs.lemmas.List.Sorted.{IsPermutation-map, IsPermutation-middle}
+use Rattle.std.proofs.{Common.ne_eqb, Common.unwrap_or, Math.Seq.get_or-append_seam}
+use Rattle.dwp_table.specs.Table.{FindsExactly, IsHashTable, IsIndex, signature_of}
 use Rattle.dwp_base.specs.{Numbers.number, Sections.all_kinds, Sections.same_kind}
+use Rattle.std.proofs.lemmas.List.{get_or-map, length-map, set-get_or, set_split}
 use Rattle.dwp_index.specs.Entries.{compilation_entry, entries_from, type_entry}
-use Rattle.std.proofs.lemmas.List.FromFn.{fill_by_all, map-range_with_len_more}
-use Rattle.std.proofs.{Math.Seq.get_or-append_seam, lemmas.Grind.get_or-set_at}
-use Rattle.dwp_table.specs.Columns.{column_of, contribution_kinds, is_number}
+use Rattle.dwp_table.specs.Columns.{gnu_column, kind_of_column, standard_column}
 use Rattle.dwp_index.specs.Places.{ArePlaces, IsPlace, NO_COLUMN, place_held}
-use Rattle.std.proofs.lemmas.{List.Elements.filter-append, Option.same_Some}
-use Rattle.dwp_table.specs.Table.{IsHashTable, IsIndex, signature_of}
+use Rattle.dwp_table.proofs.Tables.{count_within, few_slots, finds_exactly}
 use Rattle.dwp_base.proofs.EveryKind.{is-same, same-each, same-self}
+use Rattle.dwp_table.proofs.Finding.{find_first, find_none}
 
 pub length-numbers : (order : Endianness) (width n : ℕ) (bytes : List ℕ)
     → length (numbers order width n bytes) ≡ n
@@ -244,56 +246,85 @@ slots-length u v e = rw (← e) (length-numbers u.order 4 u.slot_count u.rows.no
 pub units-length : (u : Inside) (v : Index) → index_in u ≡ v → length v.offsets ≡ u.unit_count
 units-length u v e = rw (← e) (length-number_rows u.order u.column_count u.unit_count u.offsets.now)
 
--- ---- where a look-up ends
-
+-- ---- where a look-up stops
 module _ (signatures rows : List ℕ) (x : ℕ) where
-  -- from the i-th place on it ends at the first that ends it
-  abbrev pub end_from : ℕ → Option ℕ
-  end_from i = find (λ j. is_end signatures rows x (place (length rows) x j))
-      (range_with_len i (length rows - i))
-
-  pub end-start : first_end signatures rows x ≡ end_from 0
-  unfolding first_end
-  end-start = let all : length rows - 0 ≡ length rows = omega arith in rw all refl
-
-  -- the row found and the count, where the look-up ends nowhere
-  pub unended : (i : ℕ) → length rows ≤ i → first_end signatures rows x ≡ end_from i
-      → (found_row signatures rows x ≡ None) × (look_count signatures rows x ≡ length rows)
-  unfolding found_row look_count
-  unended i past rest =
-      let none : length rows - i ≡ 0 = omega arith in
-      let end : first_end signatures rows x ≡ None = rest ∙ rw none refl in
-      (rw end refl, rw end refl)
+  abbrev stops : ℕ → Bool
+  stops i = is_end signatures rows x (place (length rows) x i)
 
   -- it went on to the i-th place
   pub record IsLooking (i at : ℕ) : Type 0 where
     pub at_place : at ≡ place (length rows) x i
     pub within : at < length rows
-    pub rest : first_end signatures rows x ≡ end_from i
+    pub earlier : (j : ℕ) → j < i → stops j ≡ false
 
-  module _ {i at : ℕ} (looking : IsLooking i at) (within : i < length rows) where
-    end-by : (b : Bool) → is_end signatures rows x at ≡ b
-        → first_end signatures rows x ≡ cond b (Some i) (end_from (i + 1))
-    end-by b e =
-        let more : length rows - i ≡ suc (length rows - (i + 1)) = omega arith in
-        looking.rest ∙ rw (more, ← looking.at_place, e) refl
+  -- it has this row and this count, in a table of distinct identifiers exactly
+  abbrev pub Tells : Option ℕ → ℕ → Type 0
+  Tells row count = (row ≡ found_row signatures rows x) × (count ≡ look_count signatures rows x)
+      × (count ≤ length rows)
+      × ((ids : List ℕ) → IsIndex ids signatures rows → FindsExactly ids x row count)
+      × ((ids : List ℕ) → IsIndex ids signatures rows → count ≤ length ids + 1)
 
-    -- a slot with a row ends the look-up of its signature alone, one without it each
-    pub end-on : (get_or rows at 0 ≡ 0 → ⊥) → (get_or signatures at 0 ≡ x → ⊥)
-        → first_end signatures rows x ≡ end_from (i + 1)
-    end-on used other = end-by false
-        (rw (ne_eqb (get_or rows at 0) 0 used, ne_eqb (get_or signatures at 0) x other) refl)
+  told : (row : Option ℕ) (count : ℕ) → found_row signatures rows x ≡ row
+      → look_count signatures rows x ≡ count → Tells row count
+  told row count e f = rw (← e, ← f) (
+    refl,
+    refl,
+    count_within signatures rows x,
+    λ ids index. finds_exactly ids signatures rows x index,
+    λ ids index. few_slots ids signatures rows x index,
+  )
 
-    pub ended : (get_or rows at 0 ≡ 0) ⊎ (get_or signatures at 0 ≡ x) → (found_row signatures rows x
-        ≡ row_of (get_or rows at 0)) × (look_count signatures rows x ≡ i + 1)
-    unfolding found_row look_count
-    ended ends =
-        let end = end-by true
-        (elim ends [ inl e ↦ rw e refl | inr e ↦ or_right _ _ (eq-eqb _ _ e) ]) in
-        (rw (end, ← looking.at_place) refl, rw end (omega arith))
+  pub unended : (n : ℕ) → length rows ≡ n → ((j : ℕ) → j < n → stops j ≡ false) → Tells None n
+  unfolding found_row look_count first_end
+  unended n size none =
+      let end = find_none stops 0 (length rows) (length rows) (omega arith)
+      (λ j h. none j (omega arith)) in told None n (rw end refl) (rw end size)
+
+module _ {signatures rows : List ℕ} {x i at : ℕ} (looking : IsLooking signatures rows x i at) where
+  -- a slot with a row ends the look-up of its signature alone, one without it each
+  pub ended : i < length rows → (get_or rows at 0 ≡ 0) ⊎ (get_or signatures at 0 ≡ x)
+      → Tells signatures rows x (row_of (get_or rows at 0)) (i + 1)
+  unfolding found_row look_count first_end
+  ended within here =
+      let end = find_first (stops signatures rows x) 0 (length rows) (length rows) i (omega arith)
+      (omega arith) (record {
+        within = within;
+        here = rw (← looking.at_place)
+            (elim here [ inl e ↦ rw e refl | inr e ↦ or_right _ _ (eq-eqb _ _ e) ]);
+        earlier = looking.earlier;
+      }) in
+      told signatures rows x _ _ (rw (end, ← looking.at_place) refl) (rw end (omega arith))
+
+  pub goes_on : (next : ℕ) → (get_or rows at 0 ≡ 0 → ⊥) → (get_or signatures at 0 ≡ x → ⊥)
+      → next ≡ place (length rows) x (i + 1) → next < length rows
+      → IsLooking signatures rows x (i + 1) next
+  goes_on next used other is within = record {
+    at_place = is;
+    within = within;
+    earlier = below_more (λ j. stops signatures rows x j ≡ false) i looking.earlier (rw (
+      ← looking.at_place,
+      ne_eqb (get_or rows at 0) 0 used,
+      ne_eqb (get_or signatures at 0) x other,
+    ) refl);
+  }
 
 pub row_of-used : (r : ℕ) → (r ≡ 0 → ⊥) → row_of r ≡ Some r
 row_of-used r ne = grind (arith, ne)
+
+-- ---- the used slots from a place on
+pub used-more : (index : Index) (k : ℕ) → k < length index.rows
+    → used_in index k ≡ cond (not (eqb (get_or index.rows k 0) 0))
+    (slot_at index k ∷ used_in index (k + 1)) (used_in index (k + 1))
+unfolding used_in
+used-more index k less =
+    let more : length index.rows - k ≡ suc (length index.rows - (k + 1)) = omega arith in
+    rw more refl
+
+pub used-none : (index : Index) (k : ℕ) → length index.rows ≤ k → used_in index k ≡ []
+unfolding used_in
+used-none index k past = let none : length index.rows - k ≡ 0 = omega arith in rw none refl
+
+pub ruleset used_slots = (used-more, used-none, nat_tests)
 
 abbrev used : ℕ → Bool
 used r = not (eqb r 0)

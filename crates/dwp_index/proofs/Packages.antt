@@ -1,33 +1,32 @@
 -- The first section of a kind, met in file order, and the contents of a file whose sections hold
 -- them as they stand. What looking a unit up in a package gives; it is found by its row.
-use Rattle.std.proofs.Common.{arith, cond, eqb, false, inl, inr, ne_eqb, refl, slice_get, sym, true}
-use Rattle.dwp_base.specs.{Reading.◌>>=◌, Sections.same_kind, declared.endian.Endianness.Endianness}
-use Rattle.dwp_index.specs.Finding.{GivesWithin, HasIndex, IsUnitOf, LiesInside, own_bytes, unit_of}
-use Rattle.std.proofs.Common.{Bool, List, Ok, drop, is_some, le-leb, length, option_map, ◌<◌, ◌≡◌}
+use Rattle.dwp_index.specs.Package.{FoundUnit, found, is_outside, package_of, row_bytes, row_inside}
+use Rattle.dwp_base.specs.Sections.{all_kinds, compressed_name_of, is_named, kind_named, same_kind}
+use Rattle.dwp_index.specs.{Holding.Holds, Index.Index, Index.Ranges, Index.range_in, Index.row_in}
+use Rattle.std.proofs.Common.{Bool, List, None, Some, cond, drop, find, inr, refl, true, ◌&&◌, ◌≡◌}
+use Rattle.std.proofs.Common.{is_some, ne_eqb, option_and_then, option_map, slice_get, slice_range}
+use Rattle.dwp_base.specs.declared.{endian.Endianness.Endianness, section.SectionKind.SectionKind}
+use Rattle.dwp_index.specs.Package.{all_inside, row_counted, unit_at_row, unit_found, unit_of_row}
+use Rattle.dwp_index.specs.Package.{first_outside, found_by_row, found_counted, index_in_section}
 use Rattle.dwp_table.{proofs.Tables.finds_exactly, specs.declared.object.DwarfObject.DwarfObject}
-use Rattle.dwp_base.specs.Sections.{all_kinds, compressed_name_of, is_named, kind_named, name_of}
-use Rattle.dwp_index.specs.Package.{first_outside, found, found_by_row, package_of, unit_of_row}
-use Rattle.dwp_index.specs.Package.{found_counted, row_inside, unit_at_row, unit_found, unit_in}
-use Rattle.dwp_index.specs.Package.{Package, found_by, index_in_section, row_counted, row_found}
-use Rattle.dwp_base.specs.declared.section.{Contribution.Contribution, SectionKind.SectionKind}
-use Rattle.dwp_index.specs.Contents.{Sections, content, content_among, contents_of, is_of_kind}
-use Rattle.std.proofs.Common.{IsTrue, None, Some, ap, not, subst, ℕ, ◌+◌, ◌||◌, ◌∙◌, ◌∷◌, ◌≤◌}
-use Rattle.dwp_base.proofs.EveryKind.{is-same, kind-named, named-itself, not-older, same-each}
-use Rattle.dwp_index.specs.Package.{FoundUnit, all_inside, encoding_in, index_for, is_outside}
+use Rattle.std.proofs.Common.{IfSome, Ok, [], ap, inl, le-leb, not, sym, ◌+◌, ◌<◌, ◌∙◌, ◌∷◌, ◌≤◌}
+use Rattle.dwp_base.proofs.EveryKind.{kind-named, named-itself, not-older, same-each, same-self}
+use Rattle.dwp_base.proofs.{EveryKind.is-same, Finds.find_hit, Finds.find_miss, Steps.each-read}
+use Rattle.dwp_elf_read.specs.Elf.{Elf, SHT_NOBITS, SectionMeaning, elf_of, has_name, is_empty}
+use Rattle.dwp_index.specs.Contents.{Sections, content, content_among, is_of_kind, used_bytes}
+use Rattle.dwp_index.specs.Package.{Package, found_by, index_for, row_by, row_found, unit_in}
+use Rattle.{dwp_units.proofs.Readings.by-result, std.proofs.lemmas.Slice.Eq.bytes_eq-Decides}
+use Rattle.dwp_base.{proofs.Bools.by-bool, specs.declared.section.Contribution.Contribution}
+use Rattle.dwp_base.{proofs.EveryKind.value-of, specs.Reading.◌>>=◌, specs.Sections.name_of}
+use Rattle.std.proofs.{Common.IsTrue, lemmas.Bool.Decides.nat_tests, lemmas.Bool.false≢true}
 use Rattle.{dwp_bytes.specs.declared.encoding.Encoding.Encoding, std.specs.Option.option_or}
-use Rattle.std.proofs.Common.{IfSome, Option, [], find, option_and_then, rules, slice_range}
-use Rattle.std.proofs.lemmas.{Bool.false≢true, Option.same_Some, Slice.Eq.bytes_eq-Decides}
-use Rattle.dwp_index.specs.{Index.Ranges, Index.range_in, Index.row_in, Package.row_bytes}
-use Rattle.dwp_index.specs.Holding.{HasContent, Holds, HoldsInOrder, held_of, sections_of}
+use Rattle.dwp_index.specs.Finding.{GivesWithin, HasIndex, IsNotNamed, IsUnitOf, unit_of}
+use Rattle.dwp_index.specs.{Contents.contents_of, Firsts.found_with, IndexBytes.index_of}
 use Rattle.dwp_table.specs.{Objects.identifier_of, Probing.found_row, Probing.look_count}
-use Rattle.dwp_base.proofs.{Bools.both, Bools.by-bool, Finds.find_miss, Steps.each-read}
-use Rattle.dwp_elf_read.specs.Elf.{Elf, SHT_NOBITS, SectionMeaning, elf_of, has_name}
 use Rattle.dwp_base.specs.declared.section.SectionKind.TheVariants.{CuIndex, TuIndex}
-use Rattle.{dwp_index.specs.IndexBytes.index_of, dwp_units.proofs.Readings.by-result}
-use Rattle.dwp_base.proofs.{EveryKind.same-self, EveryKind.value-of, Finds.find_hit}
-use Rattle.dwp_index.specs.{Contents.used_bytes, Firsts.found_with, Package.row_by}
-use Rattle.dwp_index.specs.{Finding.IsNotNamed, Finding.own_place, Index.Index}
+use Rattle.dwp_index.specs.Holding.{HasContent, HoldsInOrder, held_of, sections_of}
 use Rattle.dwp_elf_read.specs.{View.section, declared.section.Section.Section}
+use Rattle.std.proofs.Common.{Option, arith, false, length, rules, subst, ℕ}
 
 -- ---- the kind that a section's name belongs to
 
@@ -52,56 +51,44 @@ names : (kind : SectionKind) (name : Option (List ℕ))
 names kind None e = absurd cc
 names kind (Some name) e = found-passes (is_named name) all_kinds kind e
 
--- a section is of no kind but the one that its name belongs to
-pub of-other : (kind : SectionKind) (s : SectionMeaning)
-    → (option_and_then kind_named s.name ≡ Some kind → ⊥) → is_of_kind kind s ≡ false
+-- a name belongs to that kind
+abbrev pub belongs : SectionKind → Option SectionKind → Bool
+belongs kind None = false
+belongs kind (Some own) = same_kind kind own
+
+pub named_kind : (kind : SectionKind) (name : Option (List ℕ))
+    → has_name kind name ≡ belongs kind (option_and_then kind_named name)
+named_kind kind name =
+    grind (arith, named-of kind name, names kind name, is-same kind, same-self kind)
+
+-- a section is of the kind that its name belongs to, where it has bytes
+pub of_kind : (kind : SectionKind) (s : SectionMeaning) → is_of_kind kind s
+    ≡ (not (is_empty s) && belongs kind (option_and_then kind_named s.name))
 unfolding is_of_kind
-of-other kind s other = by-bool (is_of_kind kind s ≡ false) (is_of_kind kind s) (λ its. absurd
-    (other (named-of kind s.name (both _ (has_name kind s.name) its).1))) (λ not. not)
+of_kind kind s = rw (named_kind kind s.name) refl
 
--- ---- one more section is met
-passed : (kind : SectionKind) (met : Option (ℕ × Section)) (i : ℕ) (next : Section)
-    → is_of_kind kind (section next) ≡ false → found_with kind met i next ≡ met
-passed kind met i next other = grind (arith, other)
+pub ruleset kinds = (of_kind, is-same)
 
--- one that has no bytes
-pub passed-empty : (kind : SectionKind) (met : Option (ℕ × Section)) (i : ℕ) (next : Section)
-    → (eqb (section next).size 0 || eqb (section next).kind SHT_NOBITS) ≡ true
-    → found_with kind met i next ≡ met
-unfolding is_of_kind
-passed-empty kind met i next empty = passed kind met i next (rw empty refl)
-
--- one whose name isn't that of a kind
-pub passed-foreign : (kind : SectionKind) (met : Option (ℕ × Section)) (i : ℕ) (next : Section)
-    → option_and_then kind_named (section next).name ≡ None → found_with kind met i next ≡ met
-passed-foreign kind met i next foreign =
-    passed kind met i next (of-other kind (section next) (λ e. cc (sym foreign ∙ e)))
-
--- one whose name is that of a kind
+-- one more section, which has bytes and is of a kind
 module _ (met : SectionKind → Option (ℕ × Section)) (i : ℕ) (next : Section) (own : SectionKind)
-    (named : option_and_then kind_named (section next).name ≡ Some own) where
-  passed-by : (kind : SectionKind) → same_kind kind own ≡ false
-      → found_with kind (met kind) i next ≡ met kind
-  passed-by kind other = passed kind (met kind) i next (of-other kind (section next) (λ e.
-      let same : own ≡ kind = same_Some own kind (sym named ∙ e) in
-      false≢true (sym other ∙ ap (same_kind kind) same ∙ same-self kind)))
+    (named : option_and_then kind_named (section next).name ≡ Some own)
+    (full : is_empty (section next) ≡ false) where
+  of_next : (kind : SectionKind) → is_of_kind kind (section next) ≡ same_kind kind own
+  of_next kind = of_kind kind (section next) ∙ rw (full, named) refl
 
   -- the first of that kind
-  pub met-first : (eqb (section next).size 0 || eqb (section next).kind SHT_NOBITS) ≡ false
-      → is_some (met own) ≡ false → (kind : SectionKind) → found_with kind (met kind) i next
-      ≡ cond (same_kind kind own) (Some (i, next)) (met kind)
-  unfolding is_of_kind
-  met-first full none kind =
-      let its : is_of_kind own (section next) ≡ true =
-      rw (full, names own (section next).name named) refl in by-bool _
-      (same_kind kind own) (λ same. rw (same, is-same kind own same) (grind (arith, none, its)))
-      (λ other. rw other (passed-by kind other))
+  pub met-first : is_some (met own) ≡ false → (kind : SectionKind) → found_with kind (met kind) i
+      next ≡ cond (same_kind kind own) (Some (i, next)) (met kind)
+  met-first none kind = by-bool _ (same_kind kind own) (λ same. rw (same, is-same kind own same)
+      (grind (arith, none, of_next own ∙ same-self own)))
+      (λ other. rw other (grind (arith, of_next kind ∙ other)))
 
   -- one more of that kind
   pub met-later : is_some (met own) ≡ true → (kind : SectionKind)
       → found_with kind (met kind) i next ≡ met kind
   met-later some kind = by-bool _ (same_kind kind own)
-      (λ same. rw (is-same kind own same) (grind (arith, some))) (λ other. passed-by kind other)
+      (λ same. rw (is-same kind own same) (grind (arith, some)))
+      (λ other. grind (arith, of_next kind ∙ other))
 
 -- ---- the walk
 
@@ -132,13 +119,14 @@ met-next kind xs i next None at is = by-bool _ (is_of_kind kind (section next))
 -- ---- which sections are of a kind
 pub another_kind : (section : SectionMeaning) (kind other : SectionKind) → section.name ≡ Some
     (name_of other) → same_kind other kind ≡ false → is_of_kind kind section ≡ false
-another_kind section kind other e ne = of-other kind section (λ named.
-    let same = same_Some other kind (sym (kind-named other) ∙ rw e at named) in
-    false≢true (sym ne ∙ rw same (same-self kind)))
+another_kind section kind other e ne =
+    let apart : same_kind kind other ≡ false = by-bool _ (same_kind kind other) (λ same. absurd
+    (false≢true (sym ne ∙ rw (is-same kind other same) (same-self other)))) (λ not. not) in
+    of_kind kind section ∙ rw (e, kind-named other, apart) (grind arith)
 
 pub foreign : (section : SectionMeaning) (kind : SectionKind) (name : List ℕ) → section.name ≡ Some
     name → kind_named name ≡ None → is_of_kind kind section ≡ false
-foreign section kind name e none = of-other kind section (λ named. cc (sym none ∙ rw e at named))
+foreign section kind name e none = grind (arith, of_kind kind section)
 
 pub empty : (section : SectionMeaning) (kind : SectionKind) → section.size ≡ 0
     → is_of_kind kind section ≡ false
@@ -200,29 +188,7 @@ pub held_content : (held : SectionKind → List ℕ) (kind : SectionKind) → co
     kind ≡ held kind
 held_content held kind = value-of held [] kind
 
--- ---- the ranges
-not_outside : (bytes : List ℕ) (range : Option Contribution) → ((c : Contribution) → range ≡ Some c
-    → c.offset.0 + c.size ≤ length bytes) → is_outside bytes range ≡ false
-not_outside bytes None h = refl
-not_outside bytes (Some c) h = ap not (le-leb (c.offset.0 + c.size) (length bytes) (h c refl))
-
-none_outside : (contents : Sections) (row : Ranges) → LiesInside contents row
-    → first_outside contents row ≡ None
-unfolding first_outside
-none_outside contents row inside =
-    let no : (kind : SectionKind) → is_outside (content contents kind) (range_in row kind) ≡ false =
-    λ kind. not_outside (content contents kind) (range_in row kind) (inside kind) in simp no
-
 -- ---- the look-up
-at_row : (pack : Package) (object : DwarfObject) (index : Index) (number count : ℕ) (row : Ranges)
-    (encoding : Encoding) → row_in index number ≡ Ok row
-    → LiesInside pack.contents row → encoding_in pack.order (own_place object row)
-    (own_bytes pack.contents object row) ≡ Ok encoding → unit_at_row pack object index number count
-    ≡ Ok (Some (unit_of pack object number row encoding), count)
-unfolding unit_at_row unit_in
-at_row pack object index number count row encoding there inside read =
-    rw (there, none_outside pack.contents row inside, read) refl
-
 gives : (pack : Package) (object : DwarfObject) (unit : Option FoundUnit) (count most : ℕ) → count
     ≤ most → found_counted pack object ≡ Ok (unit, count) → GivesWithin pack object unit most
 unfolding found
@@ -233,12 +199,20 @@ pub present_unit : (pack : Package) (object : DwarfObject) (ids : List ℕ) (ind
     (row : Ranges) (encoding : Encoding) → HasIndex pack object ids index
     → IsUnitOf pack object ids index r row encoding
     → GivesWithin pack object (Some (unit_of pack object (r + 1) row encoding)) (r + 1)
-unfolding found_counted
+unfolding found_counted unit_at_row unit_in first_outside
 present_unit pack object ids index r row encoding has unit =
     let exact = finds_exactly ids index.signatures index.rows (identifier_of object) has.slots in
-    gives pack object _ _ (r + 1) (exact.present_count r unit.within unit.named)
-    (rw (has.index_is, exact.present_row r unit.within unit.named)
-    (at_row pack object index (r + 1) _ row encoding unit.row_is unit.inside unit.header))
+    let inside : (kind : SectionKind)
+    → is_outside (content pack.contents kind) (range_in row kind) ≡ false =
+    λ kind. grind (arith, nat_tests, unit.inside kind) in
+    let outside : first_outside pack.contents row ≡ None = simp inside in
+    gives pack object _ _ (r + 1) (exact.present_count r unit.within unit.named) (rw (
+      has.index_is,
+      exact.present_row r unit.within unit.named,
+      unit.row_is,
+      outside,
+      unit.header,
+    ) refl)
 
 pub absent_unit : (pack : Package) (object : DwarfObject) (ids : List ℕ) (index : Index) → HasIndex
     pack object ids index → IsNotNamed object ids → GivesWithin pack object None (length ids + 1)

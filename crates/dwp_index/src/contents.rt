@@ -1,12 +1,11 @@
 //! The contents of a package's sections (DWARF 5, 7.3.5).
 
 ghost use Rattle.std.specs.Prelude.{IfSome, IsTrue, slice_get, Some, ◌≡◌};
-ghost use Rattle.std.specs.List.{find};
 ghost use Rattle.dwp_base.specs.{declared.section.SectionKind.SectionKind, Reading.Answers};
 ghost use Rattle.dwp_elf_read.specs.View.{elf, section};
 ghost use Rattle.dwp_index.specs.Contents.{bytes_of, content, contents_of, is_of_kind};
 ghost use Rattle.dwp_index.specs.Firsts.{first_in, found_in, found_with};
-ghost use Rattle.dwp_index.specs.ContentFields.{contents_in};
+ghost use Rattle.{dwp_index.specs.ContentFields.contents_in, std.specs.List.find};
 
 use dwp_base::{ByKind, SectionKind};
 use dwp_elf_read::{ElfFile, ReadError, Section};
@@ -36,6 +35,7 @@ pub fn first_sections<'a>(file: &ElfFile<'a>) -> ByKind<Option<(usize, Section<'
 }
 
 /// Notes a section that was met, where it has bytes and is the first of its kind.
+#[tactic(auto, using(crate::proofs::Packages::kinds))]
 fn meet<'a>(firsts: &mut ByKind<Option<(usize, Section<'a>)>>, number: usize, next: &Section<'a>)
     ensures { (kind : SectionKind) → found_in firsts.new kind
         ≡ found_with kind (found_in firsts.old kind) number next.now }

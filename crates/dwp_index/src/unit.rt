@@ -1,8 +1,7 @@
 //! Units of a package, with all that belongs to each (DWARF 5, 7.3.5).
 
-ghost use Rattle.std.specs.Prelude.{◌≡◌};
 ghost use Rattle.dwp_index.specs.Package.{encoding_in, lies_inside, part_of, place_of, row_bytes};
-ghost use Rattle.std.specs.Option.{option_copied};
+ghost use Rattle.std.specs.{Option.option_copied, Prelude.◌≡◌};
 ghost use Rattle.dwp_base.specs.Reading.{Answers};
 ghost use Rattle.dwp_bytes.specs.StringOffsets.{string_in};
 ghost use Rattle.dwp_index.specs.{Contents.content, Index.range_in, Package.kind_of};

@@ -81,6 +81,7 @@ impl Iterator for Units<'_> {
 }
 
 /// The identifier and the row of the first used slot from a place on, and the place after it.
+#[tactic(auto, using(crate::proofs::Indexes::used_slots))]
 fn used_slot(index: &UnitIndex<'_>, start: u32) -> Option<(u64, u32, u32)>
     ensures { MatchOption result (used_in index.now start ≡ []) (λ s.
         used_in index.now start ≡ (s.0, s.1) ∷ used_in index.now s.2) }
