@@ -1,21 +1,20 @@
 -- A list cut into pieces: where each begins, what a rank finds, and how the whole changes with
 -- them. No piece is long: it is cut in its middle before it would be.
-use Rattle.std.proofs.Common.{Bool, ap₂, drop, filter, length-drop, map, refl, take, ◌++◌, ◌<◌, ◌∙◌}
-use Rattle.std.proofs.Common.{Vec, length, length-set, length-take, take-append-drop, take_all, ◌≤◌}
-use Rattle.std.proofs.lemmas.List.Edits.{get_or-insert_at, get_or-insert_below, insert-append_right}
-use Rattle.std.proofs.lemmas.List.{Folds.concat-append, Sums.count_by-le-length, Sums.length-filter}
-use Rattle.std.proofs.lemmas.List.{get_or-map, get_or_append_left, map_more, set-get_or, take_more}
 use Rattle.dwp_strings.specs.Chunks.{AreShort, IsChunked, IsHalved, IsPieceOf, pieces, starts_from}
-use Rattle.std.proofs.lemmas.List.Edits.{get_or-insert_above, insert-append_left, map_over_more}
-use Rattle.std.proofs.lemmas.List.{drop-map, drop_all, get_or-append_right, map-append, map-set}
-use Rattle.std.proofs.{Common.append_assoc, Math.Seq.split_at, lemmas.List.Edits.length-insert}
-use Rattle.std.proofs.Common.{[], add-one, insert, length-append, set, sym, zero, ℕ, ◌-◌, ◌∷◌}
-use Rattle.std.proofs.lemmas.List.{get_or_default, length-map, set_split, take-map, take_rest}
-use Rattle.std.proofs.Common.{List, ap, append-nil, arith, get_or, suc, ◌+◌, ◌/◌, ◌≡◌, ◌⊎◌}
-use Rattle.std.proofs.lemmas.{Grind.common_steps, Grind.get_or-set_at, List.take_more_set}
+use Rattle.std.proofs.Common.{[], ap, arith, zero, ℕ, ◌++◌, ◌-◌, ◌/◌, ◌<◌, ◌∙◌, ◌∷◌, ◌≡◌, ◌≤◌, ◌⊎◌}
+use Rattle.std.proofs.Common.{add-one, append_assoc, Bool, filter, get_or, insert, length, take_all}
+use Rattle.std.proofs.Common.{append-nil, length-append, length-drop, length-take, take-append-drop}
+use Rattle.std.proofs.Common.{ap₂, drop, length-set, List, map, refl, set, suc, sym, take, Vec, ◌+◌}
+use Rattle.std.proofs.lemmas.List.Edits.{get_or-insert_above, get_or-insert_at, get_or-insert_below}
+use Rattle.std.proofs.lemmas.List.Edits.{insert-append_left, insert-append_right, length-insert}
 use Rattle.std.proofs.lemmas.List.Elements.{All-cons, All-map, All-set, filter-append}
-use Rattle.std.proofs.lemmas.List.Sorted.{All-permutation, IsPermutation-insert}
-use Rattle.std.specs.List.{concat}
+use Rattle.std.proofs.lemmas.List.{Folds.concat-append, Sums.count_by-le-length, Sums.length-filter}
+use Rattle.std.proofs.lemmas.List.{drop-map, drop_all, get_or-append_right, map_more, take-map}
+use Rattle.std.proofs.lemmas.List.{get_or-map, get_or_default, length-map, set_split, take_more_set}
+use Rattle.std.proofs.lemmas.List.{get_or_append_left, map-append, set-get_or, take_more, take_rest}
+use Rattle.std.proofs.lemmas.List.{map-set, Sorted.All-permutation, Sorted.IsPermutation-insert}
+use Rattle.std.proofs.lemmas.{Grind.common_steps, Grind.get_or-set_at, List.Edits.map_over_more}
+use Rattle.std.{proofs.Math.Seq.split_at, specs.List.concat}
 
 pub length-starts_from : (n : ℕ) (ps : List (List ℕ)) → length (starts_from n ps) ≡ length ps
 length-starts_from n [] = refl

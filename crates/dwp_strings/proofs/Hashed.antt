@@ -5,7 +5,7 @@ use Rattle.std.proofs.Common
 use Common.{OnErr, Result, arith, false, filter, get_or, insert, length, lt-ltb, take_at, ⊎_elim}
 use Common.{Bool, List, None, OnOk, Some, drop, refl, take, zero, ◌++◌, ◌∙◌, ◌∷◌, ◌≡◌, ◌≢◌, ◌≤◌}
 use Common.{All, Err, Ok, [], ap, ltb, map, set, suc, sym, ℕ, ◌%◌, ◌*◌, ◌+◌, ◌-◌, ◌/◌, ◌<◌, ◌^◌}
-use Common.{AllPairs, Contains, get_or-drop, get_or-take, length-append, length-take, ltb-true}
+use Common.{AllPairs, Contains, get_or-take, length-append, length-take, ltb-true}
 use Common.{get_or-set_other, get_or-set_same, take-append-drop}
 use Rattle.dwp_strings.proofs.Named.{distinct_push, known_offset, offset_of-absent, there_once_used}
 use Rattle.std.proofs.lemmas.List.Edits.{get_or-insert_above, get_or-insert_at, get_or-insert_below}
@@ -14,57 +14,52 @@ use Rattle.std.proofs.lemmas.{Cmp.nat_eq_equiv, Cmp.tied_itself, Map.Made.length
 use Rattle.dwp_strings.specs.Places.{IsSlotOf, free, hash, home, place_in, place_of, shared, wide}
 use Rattle.dwp_strings.specs.Strings.{IsZeroFree, offset_of, strings_in, terminated, with_string}
 use Rattle.dwp_strings.specs.Strings.{BeginsAt, IsBefore, IsIndexed, IsPlaced, StandsAt, data_of}
+use Rattle.std.proofs.Common.{eqb-true}
 use Rattle.{dwp_bytes.specs.StringOffsets.string_from, std.proofs.lemmas.Cmp.nat_list_cmp_total}
 use Rattle.std.proofs.lemmas.List.Elements.{Contains-get_or, Contains-push_cases, filter_passes}
 use Rattle.std.proofs.lemmas.List.{Concat.flat_map-append, Elements.All-cons, Elements.All-push}
-use Rattle.std.proofs.lemmas.Bool.{Decides.Decides-eqb, cases_eq, cases_lt, cond-true, lt-leb}
-use Rattle.std.proofs.lemmas.List.Elements.{All-contains, All-filter, All-take, filter-append}
+use Rattle.std.proofs.lemmas.Bool.{Decides.Decides-eqb, cases_lt, cond-true, lt-leb}
+use Rattle.std.proofs.lemmas.List.Elements.{All-contains, All-filter, All-take}
 use Rattle.std.proofs.lemmas.List.{Edits.length-insert, Kept.AllPairs-filter, get_or_default}
 use Rattle.dwp_strings.specs.{Hashed.IsFound, Hashed.IsHashed, Hashed.held, Strings.IsTable}
-use Rattle.std.proofs.lemmas.List.{Elements.Contains-append_right, Sorted.All-permutation}
+use Rattle.std.proofs.lemmas.List.{Sorted.All-permutation}
 use Rattle.dwp_strings.proofs.Named.{begins_there, begun_later, has_Decides, there_later}
 use Rattle.dwp_strings.specs.Places.{IsOrdered, after_block, after_blocks, place_from}
 use Rattle.std.proofs.lemmas.List.{flat_map_more, get_or-map, get_or_past, length-map}
 use Rattle.std.proofs.lemmas.List.Sorted.{Contains-permutation, IsPermutation-insert}
-use Rattle.std.{proofs.Math.Seq.split_at, specs.declared.alloc.AllocError.AllocError}
+use Rattle.std.{specs.declared.alloc.AllocError.AllocError}
 use Rattle.std.proofs.lemmas.Map.Made.{IsDistinct-from_AllPairs, is_member-Decides}
+use Rattle.std.proofs.lemmas.Map.Made.{is_member-filter}
 use Rattle.dwp_strings.specs.declared.{entries.Entries.Entries, places.Slot.Slot}
-use Rattle.std.specs.Hash.FoldHasher.{initial, mix, read_u32}
+use Rattle.std.specs.Hash.FoldHasher.{initial, mix}
 
 -- the state after the blocks before a place
 unfoldable pub mixed_to : List ℕ → ℕ → ℕ
 mixed_to bytes at = after_blocks bytes ((0x243f_6a88_85a3_08d3 + length bytes) % 2 ^ 64) (at / 16)
 
 -- before any
-pub mixed_first : (bytes : List ℕ) (state : ℕ)
-    → state ≡ (0x243f_6a88_85a3_08d3 + length bytes) % 2 ^ 64 → state ≡ mixed_to bytes 0
+pub mixed_first : (bytes : List ℕ)
+    → mixed_to bytes 0 ≡ (0x243f_6a88_85a3_08d3 + length bytes) % 2 ^ 64
 unfolding mixed_to after_blocks
-mixed_first bytes state is = is
+mixed_first bytes = refl
 
 -- after one more
-pub mixed_more : (bytes : List ℕ) (state at to new : ℕ) → at % 16 ≡ 0 → to ≡ at + 16
-    → state ≡ mixed_to bytes at → new ≡ after_block bytes state at → new ≡ mixed_to bytes to
+pub mixed_more : (bytes : List ℕ) (at to : ℕ) → at % 16 ≡ 0 → to ≡ at + 16
+    → mixed_to bytes to ≡ after_block bytes (mixed_to bytes at) at
 unfolding mixed_to after_blocks
-mixed_more bytes state at to new whole is so_far mixed =
+mixed_more bytes at to whole is =
     let here : at ≡ 16 * (at / 16) = omega (arith, whole) in
     let more : to / 16 ≡ suc (at / 16) = omega (arith, whole, is) in
-    rw (mixed, more, so_far, ← here)
+    rw (more, ← here)
 
 -- after all
-pub mixed_all : (bytes : List ℕ) (state at last : ℕ) → 8 < length bytes → at % 16 ≡ 0
-    → at < length bytes → length bytes - at < 17 → last ≡ length bytes - 16
-    → state ≡ mixed_to bytes at
-    → mix bytes state last (length bytes - 8) ≡ wide bytes
+pub mixed_all : (bytes : List ℕ) (at : ℕ) → 8 < length bytes → at % 16 ≡ 0 → at < length bytes
+    → length bytes - at < 17
+    → mix bytes (mixed_to bytes at) (length bytes - 16) (length bytes - 8) ≡ wide bytes
 unfolding mixed_to wide initial
-mixed_all bytes state at last long whole within near is so_far =
+mixed_all bytes at long whole within near =
     let count : (length bytes - 1) / 16 ≡ at / 16 = omega (arith, whole, within, near) in
-    rw (lt-leb (length bytes) 8 long, count, so_far, is)
-
--- four bytes of those from a place on
-pub read_behind : (bytes rest : List ℕ) (at k to : ℕ) → rest ≡ drop at bytes → to ≡ at + k
-    → read_u32 rest k ≡ read_u32 bytes to
-unfolding read_u32
-read_behind bytes rest at k to is there = grind (arith, is, there, get_or-drop)
+    rw (lt-leb (length bytes) 8 long, count)
 
 -- past all slots each is free
 pub free_past : (slots : List Slot) (k : ℕ) → length slots ≤ k → (get_or slots k free).behind ≡ 0
@@ -88,28 +83,16 @@ module _ (slots : List Slot) (h k : ℕ) where
   passed_more at some other passed = λ j low less. grind arith
 
   -- a slot of the hash behind such ones tells its place
-  slot_from : (at n : ℕ) → at ≤ k → ArePassed slots at k h → k < at + n → slot.behind ≢ 0
+  pub slot_from : (at n : ℕ) → at ≤ k → ArePassed slots at k h → k < at + n → slot.behind ≢ 0
       → slot.hash ≡ h → place_from slots at n h ≡ Some (slot.behind - 1)
   slot_from at zero low passed high some same = absurd (omega arith)
   slot_from at (suc n) low passed high some same = grind (arith, slot_from (at + 1) n, passed at)
 
   -- a free one, or the end of those that are looked at, that there is none
-  none_from : (at n : ℕ) → at ≤ k → ArePassed slots at k h → (k < at + n → slot.behind ≡ 0)
+  pub none_from : (at n : ℕ) → at ≤ k → ArePassed slots at k h → (k < at + n → slot.behind ≡ 0)
       → place_from slots at n h ≡ None
   none_from at zero low passed none = refl
   none_from at (suc n) low passed none = grind (arith, none_from (at + 1) n, passed at)
-
-  -- the same where the hash begins
-  pub found_of : (size : ℕ) → IsSlotOf slots size h k → place_of slots size h
-      ≡ Some (slot.behind - 1)
-  unfolding place_of
-  found_of size is =
-      grind (arith, slot_from (home size h) 128 is.from is.passed is.within is.used is.same)
-
-  pub none_of : (size : ℕ) → home size h ≤ k → ArePassed slots (home size h) k h
-      → (k < home size h + 128 → slot.behind ≡ 0) → place_of slots size h ≡ None
-  unfolding place_of
-  none_of size low passed none = grind (arith, none_from (home size h) 128 low passed none)
 
 -- each slot has its place among others, and so has each hash
 pub each_from : (slots new : List Slot) (size at n h p : ℕ)
@@ -143,15 +126,13 @@ module _ (slots : List Slot) (s : Slot) (k : ℕ) where
     -- or where it has one, once that is another
     pub given_of : (size : ℕ) → IsSlotOf slots size s.hash k
         → place_of (set slots k s) size s.hash ≡ Some (s.behind - 1)
+    unfolding place_of
     given_of size is =
         let here = get_or-set_same slots k s free within in
-        rw here at (found_of (set slots k s) s.hash k size (record {
-          used = rw here some;
-          same = rw here refl;
-          from = is.from;
-          within = is.within;
-          passed = λ j l m. rw (get_or-set_other slots k j s free (omega arith)) (is.passed j l m);
-        }))
+        slot_from (set slots k s) s.hash k (home size s.hash) 128 is.from
+        (λ j l m. rw (get_or-set_other slots k j s free (omega arith)) (is.passed j l m))
+        is.within (rw here some) (ap (λ (t : Slot). t.hash) here)
+        ∙ ap (λ (t : Slot). Some (t.behind - 1)) here
 
     -- and other hashes have theirs
     pub others_from : (at n h : ℕ) → s.hash ≡ (get_or slots k free).hash
@@ -387,31 +368,6 @@ module _ (e : Entries) (table : IsHashed e) (s : List ℕ) (h : ℕ) (is_hash : 
 abbrev pub Carries : Entries → Entries → Type 0
 Carries e new = (g m : ℕ) → BeginsAt e.bytes m → IsFound e g m → IsFound new g m
 
--- where each place that a hash has is kept, and no more are full
-pub carried_kept : (e new : Entries) → e.places.is_full ≡ false
-    → ((h n : ℕ) → place_in e.places h ≡ Some n → place_in new.places h ≡ Some n)
-    → new.ordered ≡ e.ordered → Carries e new
-carried_kept e new gets kept same = λ g m _ found.
-    rw same (grind (arith, found, kept g m, kept g shared))
-
--- where more are among those in order
-pub carried_among : (e new : Entries) → new.places ≡ e.places
-    → ((p : ℕ) → Contains e.ordered p → Contains new.ordered p) → Carries e new
-carried_among e new same more = λ g m _ found. rw same (grind (arith, found, more m))
-
--- where the place of one hash alone is another
-module _ (e new : Entries) (h p : ℕ) (full : new.places.is_full ≡ e.places.is_full)
-    (ordered : new.ordered ≡ e.ordered) (has : place_in e.places h ≡ Some p)
-    (others : (g : ℕ) → g ≢ h → place_in new.places g ≡ place_in e.places g) where
-  -- that of strings which share it, and the one there is among those in order
-  pub carried_shared : place_in new.places h ≡ Some shared
-      → (BeginsAt e.bytes p → Contains e.ordered p) → Carries e new
-  carried_shared is there = λ g m begun found. grind (arith, others g, cases_eq g h)
-
-  -- the one there was forgotten
-  pub carried_over : p ≢ shared → (BeginsAt e.bytes p → ⊥) → Carries e new
-  carried_over own gone = λ g m begun found. grind (arith, others g, cases_eq g h)
-
 -- the strings stay, and are found in another way
 pub hashed_kept : (e new : Entries) → IsHashed e → new.bytes ≡ e.bytes
     → new.count ≡ e.count → IsIndexed e.bytes new.ordered → Carries e new → IsHashed new
@@ -475,11 +431,10 @@ inserted_or bytes ordered s r p new (Err e) table _ _ _ _ err = rw err (table, �
 kept_below : (xs : List ℕ) (m y : ℕ) → y < m → Contains xs y → Contains (filter (λ x. ltb x m) xs) y
 kept_below xs m y below there =
     let low : ℕ → Bool = λ x. ltb x m in
-    let front = take there.0 xs in
-    let back = drop (suc there.0) xs in
-    let parts : xs ≡ front ++ y ∷ back = rw there.2 at (split_at xs there.0 y there.1) in
-    rw (ap (filter low) parts, filter-append low front (y ∷ back), lt-ltb y m below)
-    (Contains-append_right (filter low front) _ y (0, omega arith, refl))
+    let kept = is_member-filter nat_eq_equiv low y (λ x same. ap low (eqb-true y x same)) xs in
+    let among = (is_member-Decides Decides-eqb xs y).1 there in
+    (is_member-Decides Decides-eqb (filter low xs) y).0
+    (grind (arith, kept, among, lt-ltb y m below))
 
 -- back to the first strings
 pub hashed_take : (e new : Entries) (n m : ℕ) → IsHashed e → n ≡ length (take n (held e))

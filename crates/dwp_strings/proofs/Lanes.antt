@@ -67,48 +67,31 @@ module _ (f : ℕ → ℕ → Bool) (l m : List ℕ) (same : length l ≡ length
       let few_lanes = mask_l-mod (zip2 f l m) 64 in
       grind (arith, length-zip2 f l m same, tops, few_lanes, get_or-zip2, bit_mask_l)
 
-  -- the test fails below the lowest bit that is set
-  clear : (k : ℕ) → k < length l → k < trailing_zeros w64 (mask_of f l m)
-      → f (get_or l k 0) (get_or m k 0) ≡ false
-  clear k within less =
+  -- the test fails below the lowest bit that is set, and passes at that bit
+  first_set : (k : ℕ) → k < length l → (k < trailing_zeros w64 (mask_of f l m)
+      → f (get_or l k 0) (get_or m k 0) ≡ false)
+      × (k ≡ trailing_zeros w64 (mask_of f l m) → f (get_or l k 0) (get_or m k 0) ≡ true)
+  first_set k within =
       let low = bit_at-trailing_zeros w64 (mask_of f l m) in
-      grind (arith, bit k within, low, cases_lt 0 (mask_of f l m), trailing_of_zero 64)
-
-  -- and passes at that bit
-  first_set : (k : ℕ) → k < length l → k ≡ trailing_zeros w64 (mask_of f l m)
-      → f (get_or l k 0) (get_or m k 0) ≡ true
-  first_set k within is =
-      let low = bit_at-trailing_zeros w64 (mask_of f l m) in
-      grind (arith, bit k within, low, cases_lt 0 (mask_of f l m), trailing_of_zero 64)
+      let some = cases_lt 0 (mask_of f l m) in
+      let bit = bit k within in
+      let none = trailing_of_zero 64 in
+      (λ less. grind (arith, bit, low, some, none), λ is. grind (arith, bit, low, some, none))
 
 -- so many bytes from a place on, compared with zero
 module _ (bytes : List ℕ) (at n : ℕ) (few : n ≤ 64) (room : at + n ≤ length bytes) (k : ℕ)
     (within : k < n) where
-  abbrev next : List ℕ
-  next = take n (drop at bytes)
+  abbrev first : ℕ
+  first = trailing_zeros w64 (mask_of eqb (take n (drop at bytes)) (replicate n 0))
 
-  lane : eqb (get_or next k 0) (get_or (replicate n 0) k 0) ≡ eqb (get_or bytes (at + k) 0) 0
-  lane = ap₂ eqb (get_or-chunk at n bytes k 0 within) (get_or-replicate n k 0 0 within)
-
-  long : length next ≡ n
-  long = length-chunk at n bytes room
-
-  same_long : length next ≡ length (replicate {A = ℕ} n 0)
-  same_long = long ∙ sym (length-replicate n 0)
-
-  -- those that aren't
-  pub lanes_some : k < trailing_zeros w64 (mask_of eqb next (replicate n 0))
-      → get_or bytes (at + k) 0 ≢ 0
-  lanes_some less =
-      let passed = clear eqb next (replicate n 0) same_long (omega (arith, long)) k in
-      grind (arith, nat_tests, lane, long, passed)
-
-  -- the byte at the lowest bit that is set
-  pub lanes_zero : k ≡ trailing_zeros w64 (mask_of eqb next (replicate n 0))
-      → get_or bytes (at + k) 0 ≡ 0
-  lanes_zero is =
-      let found = first_set eqb next (replicate n 0) same_long (omega (arith, long)) k in
-      grind (arith, nat_tests, lane, long, found)
+  -- those below the lowest bit that is set aren't, and the byte at that bit is
+  pub lanes : (k < first → get_or bytes (at + k) 0 ≢ 0) × (k ≡ first → get_or bytes (at + k) 0 ≡ 0)
+  lanes =
+      let long = length-chunk at n bytes room in
+      let set = first_set eqb (take n (drop at bytes)) (replicate n 0)
+      (long ∙ sym (length-replicate n 0)) (omega (arith, long)) k (omega (arith, long)) in
+      let lane = ap₂ eqb (get_or-chunk at n bytes k 0 within) (get_or-replicate n k 0 0 within) in
+      (λ less. grind (arith, nat_tests, lane, set.0), λ is. grind (arith, nat_tests, lane, set.1))
 
 -- so many bytes from one place on, and from another
 module _ (n : ℕ) (few : n ≤ 64) (bytes other : List ℕ) (at to : ℕ) (room : at + n ≤ length bytes)
@@ -119,16 +102,12 @@ module _ (n : ℕ) (few : n ≤ 64) (bytes other : List ℕ) (at to : ℕ) (room
   abbrev m : List ℕ
   m = take n (drop to other)
 
-  long_l : length l ≡ n
-  long_l = length-chunk at n bytes room
-
-  long_m : length m ≡ n
-  long_m = length-chunk to n other room'
-
   -- none of those is zero of which no lesser one is
   pub both_some : mask_of eqb (sel_l (map (top 7) (zip2 (λ a b. cond (ltb a b) 255 0) l m)) l m)
       (replicate n 0) ≡ 0 → (get_or bytes (at + k) 0 ≢ 0) × (get_or other (to + k) 0 ≢ 0)
   both_some is =
+      let long_l = length-chunk at n bytes room in
+      let long_m = length-chunk to n other room' in
       let less : List Bool = zip2 ltb l m in
       let least : List ℕ = sel_l less l m in
       let long_less : length less ≡ n = length-zip2 ltb l m (long_l ∙ sym long_m) ∙ long_l in
@@ -137,9 +116,9 @@ module _ (n : ℕ) (few : n ≤ 64) (bytes other : List ℕ) (at to : ℕ) (room
       let none : mask_of eqb least (replicate n 0) ≡ 0 =
       ap (λ ls. mask_of eqb (sel_l ls l m) (replicate n 0)) {x = less}
       (sym (tops_compared w8 ltb l m)) ∙ is in
-      let some = eqb-false _ _ (clear eqb least (replicate n 0)
+      let some = eqb-false _ _ ((first_set eqb least (replicate n 0)
       (long_least ∙ sym (length-replicate n 0)) (omega (arith, long_least, few)) k
-      (omega (arith, long_least, within)) (rw none (omega (arith, trailing_of_zero 64)))) in
+      (omega (arith, long_least, within))).0 (rw none (omega (arith, trailing_of_zero 64)))) in
       let selected = get_or-sel_l less l m k 0 in
       let compared = get_or-zip2 ltb l m k 0 0 false in
       let zero = get_or-replicate {A = ℕ} n k 0 0 within in
@@ -151,15 +130,12 @@ module _ (n : ℕ) (few : n ≤ 64) (bytes other : List ℕ) (at to : ℕ) (room
   pub lanes_same_before : k < trailing_zeros w64 (mask_of (λ a b. not (eqb a b)) l m)
       → get_or bytes (at + k) 0 ≡ get_or other (to + k) 0
   lanes_same_before less =
-      let same = clear (λ a b. not (eqb a b)) l m (omega (arith, long_l, long_m))
-      (omega (arith, long_l, few)) k (omega (arith, long_l, within)) less in
+      let long_l = length-chunk at n bytes room in
+      let same = (first_set (λ a b. not (eqb a b)) l m
+      (long_l ∙ sym (length-chunk to n other room'))
+      (omega (arith, long_l, few)) k (omega (arith, long_l, within))).0 less in
       let first = get_or-chunk at n bytes k 0 within in
       grind (arith, nat_tests, first, get_or-chunk to n other k 0 within, same)
-
-  -- all of them where none do
-  pub lanes_same : mask_of (λ a b. not (eqb a b)) l m ≡ 0
-      → get_or bytes (at + k) 0 ≡ get_or other (to + k) 0
-  lanes_same is = lanes_same_before (rw is (omega (arith, trailing_of_zero 64)))
 
 -- fronts of which each byte is the same
 pub same_fronts : (xs ys : List ℕ) (n : ℕ) → n ≤ length xs → n ≤ length ys

@@ -337,16 +337,12 @@ pub ended_free : (rest : List ℕ) (end : ℕ) → IsFirstZero rest end → IsZe
 ended_free rest end is_zero = λ k d below same.
     grind (arith, length-take, is_zero.before k, get_or_default rest k 0 d, get_or-take)
 
--- bytes that are the same as far as a zero begin with the same string
-pub alike_front : (xs ys : List ℕ) (end : ℕ) → end < length xs → end < length ys
-    → get_or xs end 0 ≡ 0 → get_or ys end 0 ≡ 0 → take end xs ≡ take end ys
-    → front_string xs ≡ front_string ys
-alike_front (x ∷ xs) (y ∷ ys) zero within within' is_zero is_zero' same =
-    grind (arith, front_string-cons)
-alike_front (x ∷ xs) (y ∷ ys) (suc end) within within' is_zero is_zero' same =
-    grind (arith, front_string-cons, alike_front xs ys end)
-alike_front [] ys end within within' is_zero is_zero' same = absurd (omega arith)
-alike_front (x ∷ xs) [] end within within' is_zero is_zero' same = absurd (omega arith)
+-- what stands behind a zero doesn't matter
+pub front_cut : (xs : List ℕ) (end : ℕ) → end < length xs → get_or xs end 0 ≡ 0
+    → front_string (take end xs) ≡ front_string xs
+front_cut [] end within is_zero = absurd (omega arith)
+front_cut (x ∷ xs) zero within is_zero = grind (arith, front_string-cons)
+front_cut (x ∷ xs) (suc end) within is_zero = grind (arith, front_string-cons, front_cut xs end)
 
 -- the first zero ends it
 pub ended_front : (xs : List ℕ) (end : ℕ) → IsFirstZero xs end → front_string xs ≡ take end xs

@@ -1,4 +1,5 @@
 //! The hash of a string, made of 32 bytes a step: nearly that of std's `FoldHasher`.
+#![tactic(auto, using(crate::proofs::Hashed::mixed_first), unfolding(crate::specs::Places::wide))]
 
 ghost use Rattle.std.specs.Prelude.{◌≡◌, ◌<◌, ◌≤◌, ◌+◌, length};
 ghost use Rattle.std.specs.Hash.FoldHasher.{folded_multiply as folded, read_u32, read_u64, mix};
@@ -85,7 +86,6 @@ fn long_hash(bytes: &[u8]) -> u64
 }
 
 /// The whole hash of a string.
-#[tactic(auto, unfolding(crate::specs::Places::wide))]
 #[inline(always)]
 fn wide_hash(string: &[u8]) -> u64
     ensures { result ≡ wide string.now }

@@ -3,9 +3,8 @@
 ghost use Rattle.std.specs.Prelude.{◌≡◌, ◌≤◌, ◌<◌, ◌+◌, ◌^◌, List, [], ◌++◌, All, length};
 ghost use Rattle.std.specs.Prelude.{slice_index, slice_index_or, slice_set, vec_len, insert, map};
 ghost use Rattle.std.specs.Prelude.{filter, nat_lt, take, drop, OnOk, OnErr, IfOk};
-ghost use Rattle.std.specs.List.{concat};
 ghost use Rattle.dwp_strings.specs.Chunks.{pieces, starts_from, AreShort, IsHalved, IsPieceOf};
-ghost use Rattle.dwp_strings.specs.Chunks.{IsChunked};
+ghost use Rattle.{dwp_strings.specs.Chunks.IsChunked, std.specs.List.concat};
 
 use std::alloc::{AllocError, Global};
 use std::marker::Model;

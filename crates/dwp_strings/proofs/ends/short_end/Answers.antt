@@ -1,6 +1,5 @@
-use Rattle.dwp_strings.proofs.Lanes.{lanes_some, lanes_zero}
 use Rattle.std.proofs.Common.{arith, refl, ◌*◌, ◌+◌, ◌-◌}
-use Rattle.std.proofs.lemmas.Bool.{cases_lt}
+use Rattle.{dwp_strings.proofs.Lanes.lanes, std.proofs.lemmas.Bool.cases_lt}
 use Rattle.dwp_strings.proofs.ends.short_end.Goals as goal
 
 pub returns-then-some-lt-LANES-clause-some : goal.returns-then-some-lt-LANES-clause-some
@@ -8,10 +7,10 @@ returns-then-some-lt-LANES-clause-some c =
     let at = c.loop-round.round * 64 in
     record {
       within = omega arith;
-      ended = lanes_zero c.args.bytes.now at 64 (omega arith) (omega arith) _
-          c.if-some-lt-LANES.true refl;
+      ended = (lanes c.args.bytes.now at 64 (omega arith) (omega arith) _
+          c.if-some-lt-LANES.true).1 refl;
       before = λ k less.
-          let some = lanes_some c.args.bytes.now at 64 (omega arith) (omega arith) (k - at) in
+          let some = lanes c.args.bytes.now at 64 (omega arith) (omega arith) (k - at) in
           grind (arith, some, c.loop-round.invariant.some k, cases_lt k at);
     }
 
@@ -21,14 +20,11 @@ loop-round-preserved c =
     record {
       within = omega arith;
       some = λ k less.
-          let some = lanes_some c.args.bytes.now at 64 (omega arith) (omega arith) (k - at) in
+          let some = lanes c.args.bytes.now at 64 (omega arith) (omega arith) (k - at) in
           grind (arith, some, c.loop-round.invariant.some k, cases_lt k at);
     }
 
 pub returns-then-some-lt-LANES-clause-near : goal.returns-then-some-lt-LANES-clause-near
-returns-then-some-lt-LANES-clause-near c = record {
-  steps = c.loop-round.round + 1;
-  few = omega arith;
-  within = omega arith;
-  before = omega arith;
-}
+returns-then-some-lt-LANES-clause-near c =
+    let next = c.loop-round.round + 1 in
+    record { steps = next; few = omega arith; within = omega arith; before = omega arith }

@@ -1,5 +1,6 @@
-use Rattle.dwp_strings.proofs.Hashed.{added, carried_kept, indexed_push, unplaced}
-use Rattle.std.proofs.Common.{inl, refl, rules, ◌+◌}
+use Rattle.dwp_strings.specs.Places.{shared}
+use Rattle.dwp_strings.proofs.Hashed.{added, indexed_push, unplaced}
+use Rattle.std.proofs.Common.{arith, inl, refl, rules, ◌+◌}
 use Rattle.dwp_strings.proofs.entries.Entries.add.Goals as goal
 
 pub returns : goal.returns
@@ -13,6 +14,6 @@ returns c =
     let done = added e new s c.args.hash _ table c.requires.zero_free c.requires.hashed absent
     c.in_ok-append.ensures.ok c.len-place.ensures.value refl
     (indexed_push e.bytes e.ordered s table.indexed c.requires.zero_free absent)
-    (carried_kept e new c.requires.open c.enter.ensures.kept refl)
+    (λ g m _ found. grind (arith, found, c.enter.ensures.kept g m, c.enter.ensures.kept g shared))
     (inl (c.if-not-enter.ensures.entered refl, c.if-not-enter.ensures.fits refl)) in
     search rules

@@ -1,7 +1,7 @@
-use Rattle.dwp_strings.proofs.Hashed.{added, carried_kept, indexed_push, unplaced}
+use Rattle.dwp_strings.proofs.Hashed.{added, indexed_push, unplaced}
 use Rattle.dwp_strings.proofs.Named.{ended_free, ended_front, ended_take}
 use Rattle.std.proofs.Common.{arith, inl, refl, rules, take, ◌+◌}
-use Rattle.dwp_strings.specs.Ends.{IsFirstZero}
+use Rattle.dwp_strings.specs.{Ends.IsFirstZero, Places.shared}
 use Rattle.dwp_strings.proofs.entries.Entries.add_guessed.Goals as goal
 
 pub returns : goal.returns
@@ -20,7 +20,7 @@ returns c =
     (grind (arith, ended, c.if-not-append_guessed.ensures.appended refl))
     c.len-place.ensures.value refl
     (indexed_push e.bytes e.ordered s table.indexed free absent)
-    (carried_kept e new c.if-self.false c.enter.ensures.kept refl)
+    (λ g m _ found. grind (arith, found, c.enter.ensures.kept g m, c.enter.ensures.kept g shared))
     (inl (c.if-not-enter.ensures.entered refl, c.if-not-enter.ensures.fits refl)) in
     let placed = rw (← ended_front c.args.rest.now c.args.end first) at done.1 in
     search rules

@@ -1,6 +1,6 @@
-use Rattle.dwp_strings.proofs.Hashed.{carried_among, hashed_kept, inserted_or, known_offset_in}
+use Rattle.dwp_strings.proofs.Hashed.{hashed_kept, inserted_or, known_offset_in}
 use Rattle.dwp_strings.proofs.Named.{string_was}
-use Rattle.std.proofs.Common.{refl, sym, ◌∙◌}
+use Rattle.std.proofs.Common.{arith, refl, sym, ◌∙◌}
 use Rattle.dwp_strings.proofs.entries.Entries.keep_ordered.Goals as goal
 
 pub returns-in-Ok-place-clause-there : goal.returns-in-Ok-place-clause-there
@@ -24,4 +24,4 @@ returns-in-Err-clause-table c =
     let now = inserted_or e.bytes e.ordered s c.in-Err.rank c.args.place _ c.insert.result
     table.indexed stands begins is c.insert.ensures.ok c.insert.ensures.err in
     let new = record e { ordered = c.insert.new.self } in
-    hashed_kept e new table refl refl now.0 (carried_among e new refl now.1)
+    hashed_kept e new table refl refl now.0 (λ g m _ found. grind (arith, found, now.1 m))

@@ -1,8 +1,7 @@
+use Rattle.dwp_strings.proofs.Chunks.{counts, piece_read, placed}
+use Rattle.dwp_strings.{proofs.positions.Positions.get_near.Goals.After-index, specs.Chunks.pieces}
 use Rattle.std.proofs.Common.{arith, get_or, length, sym, ◌-◌, ◌<◌, ◌∙◌, ◌≡◌}
 use Rattle.std.{proofs.lemmas.List.get_or_read, specs.List.concat}
-use Rattle.dwp_strings.proofs.Chunks.{counts, piece_read, placed}
-use Rattle.dwp_strings.specs.Chunks.{pieces}
-use Rattle.dwp_strings.proofs.positions.Positions.get_near.Goals.{After-index}
 use Rattle.dwp_strings.proofs.positions.Positions.get_near.Goals as goal
 
 -- what the rank finds
