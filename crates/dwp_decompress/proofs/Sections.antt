@@ -77,32 +77,12 @@ pub behind_none : (rest : Result Contents DecompressError) → behind [] rest �
 behind_none (Ok contents) = refl
 behind_none (Err e) = refl
 
-one_more : (front : Contents) (content : Option (List ℕ)) (rest : Result Contents DecompressError)
+pub one_more : (front : Contents) (content : Option (List ℕ)) (rest : Result Contents
+    DecompressError)
     → behind front (rest >>= λ contents. Ok (content ∷ contents)) ≡ behind
     (front ++ content ∷ []) rest
 one_more front content (Ok contents) = rw append_assoc refl
 one_more front content (Err e) = refl
-
-module _ (asked : Asked) (class : Class) (order : Endianness) (sections : List SectionMeaning)
-    (i : ℕ) (front : Contents) where
-  pub contents_step : (section : SectionMeaning) (content : Option (List ℕ))
-      → slice_get sections i ≡ Some section → content_of asked class order section ≡ Ok content
-      → behind front (contents_of asked class order (drop i sections)) ≡ behind
-      (front ++ content ∷ []) (contents_of asked class order (drop (i + 1) sections))
-  unfolding contents_of
-  contents_step section content at is = rw (drop_step sections i section at, is)
-      (one_more front content (contents_of asked class order (drop (i + 1) sections)))
-
-  pub contents_fail : (section : SectionMeaning) (e : DecompressError)
-      → slice_get sections i ≡ Some section → content_of asked class order section ≡ Err e
-      → behind front (contents_of asked class order (drop i sections)) ≡ Err e
-  unfolding contents_of
-  contents_fail section e at is = rw (drop_step sections i section at, is) refl
-
-  pub contents_end : length sections ≤ i
-      → behind front (contents_of asked class order (drop i sections)) ≡ Ok front
-  unfolding contents_of
-  contents_end h = rw (drop_all i sections h, append-nil front) refl
 
 -- names that are added
 pub names_step : (asked : Asked) (sections : List SectionMeaning) (i : ℕ) (front more : List ℕ)
@@ -135,32 +115,11 @@ get_content contents i x h e = rw (
   slice_get_read contents (length contents) i x refl h e,
 ) refl
 
-module _ (names : ℕ) (added : List ℕ) (old new : List SectionMeaning)
-    (contents : List (Option (List ℕ))) (i : ℕ) where
-  -- those from the i-th on are what they are to become, if those behind are
-  pub agree_step : (section : SectionMeaning) (content : Option (List ℕ))
-      → slice_get old i ≡ Some section → slice_get contents i ≡ Some content
-      → slice_get new i ≡ Some (result_section names added section content)
-      → drop (i + 1) new ≡ result_sections names added (drop (i + 1) old) (drop (i + 1) contents)
-      → drop i new ≡ result_sections names added (drop i old) (drop i contents)
-  unfolding result_sections
-  agree_step section content at given is h = rw (
-    drop_step new i _ is,
-    drop_step old i section at,
-    drop_step contents i content given,
-    h,
-  ) refl
-
-  pub agree_end : length old ≤ i → length new ≤ i
-      → drop i new ≡ result_sections names added (drop i old) (drop i contents)
-  unfolding result_sections
-  agree_end o n = rw (drop_all i new n, drop_all i old o) refl
-
 -- a number and what others have together
 abbrev pub plus : ℕ → Result ℕ DecompressError → Result ℕ DecompressError
 plus n rest = rest >>= λ m. Ok (n + m)
 
-plus_more : (n m : ℕ) (rest : Result ℕ DecompressError) → plus n (rest >>= λ k. Ok (m + k))
+pub plus_more : (n m : ℕ) (rest : Result ℕ DecompressError) → plus n (rest >>= λ k. Ok (m + k))
     ≡ plus (n + m) rest
 plus_more n m (Ok k) = ap Ok (omega arith)
 plus_more n m (Err e) = refl
@@ -168,27 +127,6 @@ plus_more n m (Err e) = refl
 pub none_plus : (rest : Result ℕ DecompressError) → plus 0 rest ≡ rest
 none_plus (Ok k) = ap Ok (omega arith)
 none_plus (Err e) = refl
-
-module _ (asked : Asked) (class : Class) (order : Endianness) (sections : List SectionMeaning)
-    (i : ℕ) where
-  pub told_step : (n m : ℕ) (section : SectionMeaning) → slice_get sections i ≡ Some section
-      → told_size asked class order section ≡ Ok m
-      → plus n (told_sizes asked class order (drop i sections)) ≡ plus (n + m)
-      (told_sizes asked class order (drop (i + 1) sections))
-  unfolding told_sizes
-  told_step n m section at is = rw (drop_step sections i section at, is)
-      (plus_more n m (told_sizes asked class order (drop (i + 1) sections)))
-
-  pub told_fail : (n : ℕ) (e : DecompressError) (section : SectionMeaning)
-      → slice_get sections i ≡ Some section → told_size asked class order section ≡ Err e
-      → plus n (told_sizes asked class order (drop i sections)) ≡ Err e
-  unfolding told_sizes
-  told_fail n e section at is = rw (drop_step sections i section at, is) refl
-
-  pub told_end : (n : ℕ) → length sections ≤ i
-      → plus n (told_sizes asked class order (drop i sections)) ≡ Ok n
-  unfolding told_sizes
-  told_end n h = rw (drop_all i sections h) (ap Ok (omega arith))
 
 module _ (asked : Asked) (sections : List SectionMeaning) (i : ℕ) where
   pub size_step : (left here less : ℕ) (section : SectionMeaning)

@@ -1,10 +1,12 @@
 use Rattle.dwp_elf_read.{proofs.Compared.same_file, specs.View.elf, specs.View.section}
-use Rattle.dwp_decompress.proofs.Sections.{agree_end, agree_step, get_content}
-use Rattle.std.proofs.Common.{ap, arith, option_map, rules, Some, sym, ◌∙◌}
-use Rattle.dwp_decompress.specs.Result.{plain_contents, result_file}
+use Rattle.dwp_decompress.proofs.Sections.{drop_step, get_content}
+use Rattle.std.proofs.Common.{ap, arith, option_map, refl, rules, Some, sym, ◌∙◌}
+use Rattle.std.proofs.lemmas.List.{drop_all}
+use Rattle.dwp_decompress.specs.Result.{plain_contents, result_file, result_sections}
 use Rattle.dwp_decompress.proofs.agree.Expected.agrees.Goals as goal
 
 pub loop-i-preserved : goal.loop-i-preserved
+unfolding result_sections
 loop-i-preserved c h =
     let e = c.args.self.now in
     let i = c.loop-i.i in
@@ -13,16 +15,21 @@ loop-i-preserved c h =
     ∙ ap Some (c.is_result.ensures c.if-not-is_result.false) in
     let content = get_content e.contents.now.items i c.index.result.now (omega arith)
     c.index.ensures in
-    c.loop-i.invariant (agree_step e.names e.added.now (elf c.args.old.now).sections
-    (elf c.args.new.now).sections (plain_contents e.contents.now.items) i _ _ at content is h)
+    c.loop-i.invariant (rw (
+      drop_step (elf c.args.new.now).sections i _ is,
+      drop_step (elf c.args.old.now).sections i _ at,
+      drop_step (plain_contents e.contents.now.items) i _ content,
+      h,
+    ) refl)
 
 pub returns : goal.returns
-unfolding result_file
+unfolding result_file result_sections
 returns c t =
     let e = c.args.self.now in
     let old = elf c.args.old.now in
     let new = elf c.args.new.now in
-    let contents = plain_contents e.contents.now.items in
     let alike = c.is_like.ensures.alike.0 (search rules) in
-    same_file new old _ alike.0 alike.1 alike.2 (c.loop-i.invariant (agree_end e.names e.added.now
-    old.sections new.sections contents c.loop-i.i (omega arith) (omega arith)))
+    same_file new old _ alike.0 alike.1 alike.2 (c.loop-i.invariant (rw (
+      drop_all c.loop-i.i new.sections (omega arith),
+      drop_all c.loop-i.i old.sections (omega arith),
+    ) refl))
