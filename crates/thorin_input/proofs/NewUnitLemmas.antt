@@ -1,15 +1,14 @@
 -- The names of units, what `==` says of them and what is kept for one; a unit that is added last.
-use Rattle.std.proofs.Common.{All, ap, arith, Bool, get_or-take, [], ℕ, ◌++◌, ◌<◌, ◌∙◌, ◌∷◌, ◌≡◌}
-use Rattle.std.proofs.Common.{length, List, map, None, Option, refl, Result, rules, slice_get, Some}
-use Rattle.std.proofs.{Common.suc, Common.take, lemmas.List.Elements.All-push, lemmas.List.map_push}
-use Rattle.std.proofs.lemmas.Option.{get_or_from_slice_get, slice_get_within}
-use Rattle.std.specs.{Map.lookup, Result.OnErr, Result.OnOk}
-use Rattle.dwp_table.specs.declared.object.DwarfObject.{DwarfObject}
-use Rattle.thorin_index.specs.{declared.entry.IndexEntry.IndexEntry, Rows.blank}
-use Rattle.thorin_index.proofs.Held.{at_least}
-use Rattle.thorin_input.specs.{Names.same_name, UnitView.new_unit}
+use Rattle.std.proofs.Common.{[], All, ap, map, Result, rules, Some, suc, take, ◌++◌, ◌<◌, ◌∙◌, ◌∷◌}
+use Rattle.std.proofs.Common.{arith, Bool, get_or-take, length, List, None, Option, refl, slice_get}
+use Rattle.std.proofs.lemmas.List.Elements.{All-push}
+use Rattle.std.proofs.lemmas.{List.map_push, Option.get_or_from_slice_get, Option.slice_get_within}
+use Rattle.thorin_index.{proofs.Held.at_least, specs.declared.entry.IndexEntry.IndexEntry}
 use Rattle.thorin_input.specs.NewUnits.{kept_bytes, NewUnit, or_held}
-use Rattle.thorin_input.specs.declared.held.NewUnit.{NewUnit as CodeUnit}
+use Rattle.{dwp_table.specs.declared.object.DwarfObject.DwarfObject, thorin_index.specs.Rows.blank}
+use Rattle.{std.proofs.Common.ℕ, std.proofs.Common.◌≡◌, thorin_input.specs.Names.same_name}
+use Rattle.{std.specs.Map.lookup, thorin_input.specs.declared.held.NewUnit.NewUnit as CodeUnit}
+use Rattle.{std.specs.Result.OnErr, std.specs.Result.OnOk, thorin_input.specs.UnitView.new_unit}
 use Rattle.dwp_table.specs.contracts.object.DwarfObjectPartialEq.TheImpl as derived
 
 -- `==` is the same name

@@ -1,24 +1,20 @@
 -- One walk over the sections of an input: what is known of those so far, with those that are left.
+use Rattle.dwp_base.specs.Sections.{all_kinds, kind_named}
+use Rattle.dwp_elf_read.specs.Elf.{Elf, has_name, SectionMeaning, SHT_NOBITS}
+use Rattle.dwp_elf_read.specs.View.{Placed, placed_sections}
+use Rattle.std.proofs.Common.{[], ap, Ok, sym, ℕ, ◌∙◌, ◌∷◌, ◌≡◌}
+use Rattle.std.proofs.Common.{arith, Bool, false, find, Option, option_and_then, Result}
+use Rattle.std.proofs.Common.{eqb, Err, is_some, List, map, None, not, refl, Some, true, ◌&&◌, ◌||◌}
+use Rattle.std.{proofs.Math.Bool.or-false, proofs.Math.Bool.or_assoc, specs.List.list_any}
+use Rattle.thorin_errors.specs.Errors.{error_of, ErrorValue}
+use Rattle.thorin_errors.specs.{Answers.Gives, Answers.MemoryAside, declared.error.Error.Error}
+use Rattle.thorin_input.specs.Encodings.{is_index, is_plain}
+use Rattle.thorin_input.specs.Used.{has_kind, Used, used_from, used_kind, with_used}
+use Rattle.thorin_input.specs.declared.object.{InputObject.InputObject, UsedSection.UsedSection}
+use Rattle.{dwp_index.specs.Contents.is_of_kind, std.proofs.lemmas.Bool.false≢true}
+use Rattle.{std.specs.Result.result_err, thorin_input.specs.declared.walk.UsedSections.UsedSections}
 use Rattle.dwp_base.specs.declared.section.SectionKind.TheVariants as kinds
 use Rattle.thorin_input.specs.View as view
-use Rattle.std.proofs.Common.{Bool, eqb, false, List, not, true, [], ℕ, ◌&&◌, ◌||◌, ◌∙◌, ◌∷◌, ◌≡◌}
-use Rattle.std.proofs.Common.{arith, is_some, None, Ok, Option, option_and_then, refl, Result, Some}
-use Rattle.std.proofs.Common.{ap, Err, find, map, sym}
-use Rattle.std.proofs.lemmas.Bool.{false≢true}
-use Rattle.std.specs.{List.list_any, Result.result_err}
-use Rattle.std.proofs.Math.Bool.{or-false, or_assoc}
-use Rattle.dwp_base.specs.declared.endian.Endianness.{Endianness}
-use Rattle.dwp_base.specs.Sections.{all_kinds, kind_named, name_of}
-use Rattle.dwp_elf_read.specs.Elf.{Elf, has_name, is_named, SectionMeaning, SHT_NOBITS}
-use Rattle.dwp_elf_read.specs.View.{Placed, placed_sections}
-use Rattle.dwp_index.specs.Contents.{is_of_kind}
-use Rattle.thorin_errors.specs.{declared.error.Error.Error, Errors.error_of, Errors.ErrorValue}
-use Rattle.thorin_errors.specs.Answers.{Gives, MemoryAside}
-use Rattle.thorin_input.specs.Encodings.{is_index, is_plain}
-use Rattle.thorin_input.specs.Used.{has_kind, input_file_of, Used, used_from, used_kind, with_used}
-use Rattle.thorin_input.specs.declared.object.InputObject.{InputObject}
-use Rattle.thorin_input.specs.declared.object.UsedSection.{UsedSection}
-use Rattle.thorin_input.specs.declared.walk.UsedSections.{UsedSections}
 
 -- ---- one section
 
@@ -38,14 +34,14 @@ kind-full s h = rw h (full s.name)
     full None = refl
     full (Some own) = refl
 
-pub ruleset kinds_used = (kind-empty, kind-full)
-
 -- ---- kinds among those that are used
 
 pub found-any : {A : Type 0} (test : A → Bool) (xs : List A) → is_some (find test xs) ≡
     list_any test xs
 found-any test [] = refl
 found-any test (x ∷ xs) = grind (arith, found-any test xs)
+
+pub ruleset kinds_used = (found-any, kind-empty, kind-full)
 
 -- an index is one of the two
 pub either-index : (ss : List UsedSection) → (list_any (has_kind kinds.CuIndex) (map view.used ss)
@@ -54,13 +50,14 @@ pub either-index : (ss : List UsedSection) → (list_any (has_kind kinds.CuIndex
 either-index [] = refl
 either-index (s ∷ ss) = grind (arith, either-index ss)
 
-any-index : (ss : List UsedSection)
-    → list_any (λ s. is_index (view.used s)) ss ≡ list_any is_index (map view.used ss)
-any-index [] = refl
-any-index (s ∷ ss) = rw (any-index ss) refl
+-- what is found among values that are made of others
+pub any_map : {A B : Type 0} (test : B → Bool) (f : A → B) (xs : List A)
+    → list_any test (map f xs) ≡ list_any (λ x. test (f x)) xs
+any_map test f [] = refl
+any_map test f (x ∷ xs) = rw (any_map test f xs) refl
 
 pub plain-is : (o : InputObject) → o.plain ≡ is_plain (view.object o).sections
-plain-is o = o.no_index ∙ ap not (any-index o.sections.items)
+plain-is o = o.no_index ∙ ap not (sym (any_map is_index view.used o.sections.items))
 
 -- ---- the walk
 
@@ -72,15 +69,18 @@ pub map-placed : (e : Elf) (ss : List SectionMeaning) → those (placed_sections
 map-placed e [] = refl
 map-placed e (s ∷ ss) = rw (map-placed e ss) refl
 
--- a test of a section so far, or of one of those that are left
-pub any-step : (test : SectionMeaning → Bool) (b : Bool) (l rest : List Placed) (p : Placed) → l ≡ p
-    ∷ rest → ((b || test p.section) || list_any test (those rest)) ≡ (b || list_any test (those l))
-any-step test b l rest p h = rw h (or_assoc b (test p.section) (list_any test (those rest)))
+-- a test of the sections so far, or of one of those that are left, is that of all
+abbrev pub SoFar : (SectionMeaning → Bool) → Bool → List Placed → Elf → Type 0
+SoFar test b left file = (b || list_any test (those left)) ≡ list_any test file.sections
 
-pub any-end : (test : SectionMeaning → Bool) (b : Bool) (l : List Placed)
-    (all : List SectionMeaning) → l ≡ [] → (b || list_any test (those l)) ≡ list_any test all
-    → b ≡ list_any test all
-any-end test b l all e h = sym (or-false b) ∙ (rw e at h)
+pub any-step : (test : SectionMeaning → Bool) (b : Bool) (l rest : List Placed) (p : Placed)
+    (file : Elf) → l ≡ p ∷ rest → SoFar test b l file → SoFar test (b || test p.section) rest file
+any-step test b l rest p file h so_far =
+    or_assoc b (test p.section) (list_any test (those rest)) ∙ (rw h at so_far)
+
+pub any-end : (test : SectionMeaning → Bool) (b : Bool) (l : List Placed) (file : Elf) → l ≡ []
+    → SoFar test b l file → b ≡ list_any test file.sections
+any-end test b l file e so_far = sym (or-false b) ∙ (rw e at so_far)
 
 -- the used sections so far, with those that are left; or the error of the first that can't be used
 abbrev pub used_in : UsedSections → List Used
@@ -108,31 +108,3 @@ pub used-kept : (fault : Option Error) (t : UsedSections) (rest left : List Sect
     → GoesOn fault t left all
 used-kept None t rest left all some goes = absurd (false≢true some)
 used-kept (Some e) t rest left all some goes = goes
-
--- what the whole walk gives
-pub walk-gives : (t : UsedSections)
-    (order : Endianness) (strings abbreviations : Bool) (l : List Placed) (file : Elf)
-    → order ≡ file.order → strings ≡ list_any (is_named (name_of kinds.Str)) file.sections
-    → abbreviations ≡ list_any (is_named (name_of kinds.Abbrev)) file.sections → l ≡ []
-    → GoesOn None t (those l) (used_from [] file.sections) → input_file_of file ≡ Ok (record {
-      order = order;
-      sections = used_in t;
-      has_strings = strings;
-      has_abbreviations = abbreviations;
-    })
-unfolding input_file_of used_from
-walk-gives t order strings abbreviations l file ho hs ha h goes =
-    let used : used_from [] file.sections ≡ Ok (used_in t) = sym (rw h at goes) in
-    rw (
-      used,
-      ho,
-      hs,
-      ha,
-      found-any (is_named (name_of kinds.Str)) file.sections,
-      found-any (is_named (name_of kinds.Abbrev)) file.sections,
-    ) refl
-
-pub walk-fails : (e : Error) (file : Elf) → MemoryAside e
-    (used_from [] file.sections ≡ Err (error_of e)) → Gives view.object (Err e) (input_file_of file)
-unfolding input_file_of
-walk-fails e file used = λ aside. rw (used aside) refl

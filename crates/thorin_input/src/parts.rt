@@ -229,7 +229,7 @@ fn put_part(file: &mut WritableObject, part: Part<'_>) -> Result<(), Error>
 
 /// Adds the parts to the contents of a package, in order. Errors: `Memory` alone, which may leave
 /// bytes behind those before.
-#[tactic(auto, unfolding(crate::specs::Parts::with_parts))]
+#[tactic(auto, using(std::proofs::lemmas::List::nil_from_length), unfolding(crate::specs::Parts::with_parts))]
 pub fn put_parts(file: &mut WritableObject, parts: Vec<Part<'_>>) -> Result<(), Error>
     ensures contents { OnOk result (file.new ≡ record file.old {
       contents = with_parts (map view.part parts.entry.items) file.old.contents;

@@ -1,10 +1,9 @@
 //! One walk over the sections of an input: all that is known of them.
 
 ghost use Rattle.std.specs.Prelude.{◌≡◌, ◌&&◌, find, is_some, map};
-ghost use Rattle.std.specs.List.{list_any};
 ghost use Rattle.dwp_base.specs.declared.section.SectionKind.TheVariants as kinds;
 ghost use Rattle.dwp_elf_read.specs.View.{elf, section as meaning};
-ghost use Rattle.thorin_errors.specs.Answers.{Gives};
+ghost use Rattle.{std.specs.List.list_any, thorin_errors.specs.Answers.Gives};
 ghost use Rattle.thorin_input.specs.Used as spec;
 ghost use Rattle.thorin_input.specs.View as view;
 
@@ -52,6 +51,7 @@ fn used_bytes<'a>(section: &Section<'a>, kind: SectionKind) -> Result<&'a [u8], 
 
 impl<'a> UsedSections<'a> {
     /// Whether only the first section of a kind counts, and there was one.
+    #[tactic(auto, using(crate::proofs::Walking::kinds_used))]
     fn is_repeated(&self, kind: SectionKind) -> bool
         ensures { result ≡ (spec.counts_once kind
             && is_some (find (spec.has_kind kind) (map view.used self.now.sections.items))) }

@@ -1,7 +1,6 @@
-use Rattle.std.proofs.Common.{◌≡◌, map, drop, take, length}
-use Rattle.thorin_strings.specs.Known.{AreKnown}
-use Rattle.thorin_input.specs.Parts.{with_each_part, parts_of}
-use Rattle.thorin_input.specs.View.{part, used, source}
+use Rattle.std.proofs.Common.{drop, length, map, take, ◌≡◌}
+use Rattle.thorin_input.specs.{Parts.parts_of, View.part, View.source, View.used}
+use Rattle.{thorin_input.specs.Parts.with_each_part, thorin_strings.specs.Known.AreKnown}
 use Rattle.thorin_input.proofs.parts.parts_of.Given as goal
 
 -- what the sections that are left add to the parts so far is what all add; and the strings from

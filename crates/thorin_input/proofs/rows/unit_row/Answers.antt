@@ -1,5 +1,5 @@
-use Rattle.dwp_dwarf.proofs.Terms.{ap, err_from_is_err_and, Ok, rules, sym, ◌∙◌}
-use Rattle.thorin_input.proofs.RowContributions.{plain-row, row-read, row-refused}
+use Rattle.dwp_dwarf.proofs.Terms.{ap, Err, err_from_is_err_and, Ok, rules, sym, ◌∙◌}
+use Rattle.thorin_input.proofs.RowContributions.{plain-row, row-read}
 use Rattle.thorin_input.specs.View as view
 use Rattle.thorin_input.proofs.rows.unit_row.Goals as goal
 
@@ -11,8 +11,8 @@ pub returns-in_err-contributions-clause-meaning : goal.returns-in_err-contributi
 returns-in_err-contributions-clause-meaning c =
     let p = err_from_is_err_and c.from_residual.result c.from_residual.ensures.1 in
     let refused = c.in_err-contributions.ensures in
-    rw (p.1, p.2) (λ other. row-refused (view.indexes c.args.indexes.now) c.args.whole.now.row
-    c.args.name _ (
+    rw (p.1, p.2) (λ other. row-read (view.indexes c.args.indexes.now) c.args.whole.now.row
+    c.args.name (Err _) (
       refused.0,
       refused.1,
       refused.2,
@@ -26,6 +26,6 @@ pub returns-clause-meaning : goal.returns-clause-meaning
 returns-clause-meaning c =
     let read = c.in_ok-contributions.ensures in
     row-read (view.indexes c.args.indexes.now) c.args.whole.now.row c.args.name
-    c.in_ok-contributions.contributions
+    (Ok c.in_ok-contributions.contributions)
     (read.0, λ kind. let at = read.1 kind in let there = at.2 in (at.0, at.1, search rules))
     ∙ ap Ok (sym c.by_kind.ensures)

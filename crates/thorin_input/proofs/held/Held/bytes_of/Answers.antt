@@ -1,20 +1,11 @@
-use Rattle.std.proofs.Common.{ap, Bool, get_or, List, map, None, Option, refl, [], ℕ, ◌∙◌, ◌∷◌, ◌≡◌}
-use Rattle.std.proofs.Common.{option_map, position, rules, Some, sym}
-use Rattle.std.specs.Map.{lookup}
-use Rattle.dwp_elf.specs.Growing.{Contents}
-use Rattle.dwp_table.specs.declared.object.DwarfObject.{DwarfObject}
-use Rattle.thorin_index.specs.{declared.entry.IndexEntry.IndexEntry, Rows.blank}
+use Rattle.std.proofs.Common.{[], ap, Option, ℕ, ◌∙◌, ◌∷◌, ◌≡◌}
+use Rattle.std.proofs.Common.{get_or, List, map, None, option_map, position, refl, rules, Some, sym}
 use Rattle.thorin_input.specs.{Held.held_units, Held.unit_bytes, Names.same_name}
-use Rattle.thorin_input.proofs.NewUnitLemmas.{same_name-is}
+use Rattle.{dwp_elf.specs.Growing.Contents, thorin_index.specs.declared.entry.IndexEntry.IndexEntry}
+use Rattle.{dwp_table.specs.declared.object.DwarfObject.DwarfObject, thorin_index.specs.Rows.blank}
+use Rattle.{std.specs.Map.lookup, thorin_input.proofs.NewUnitLemmas.same_name-is}
 use Rattle.dwp_table.specs.contracts.object.DwarfObjectPartialEq.TheImpl as derived
 use Rattle.thorin_input.proofs.held.Held.bytes_of.Goals as goal
-
--- where a name stands among those of a list, the value of its entry is found
-found : {A B : Type 0} (test : DwarfObject → Bool) (id : A → DwarfObject) (f : A → B)
-    (rows : List A) (d : A) → option_map (λ n. f (get_or rows n d)) (position test (map id rows))
-    ≡ lookup test (map {B = DwarfObject × B} (λ row. (id row, f row)) rows)
-found test id f [] d = refl
-found test id f (row ∷ rows) d = grind (rules, found test id f rows d)
 
 -- where a name stands among those of a package, its row's bytes are found
 held-at : (contents : Contents) (rows : List IndexEntry) (keys : List DwarfObject)
@@ -22,8 +13,13 @@ held-at : (contents : Contents) (rows : List IndexEntry) (keys : List DwarfObjec
     → at ≡ position (derived.eq-value.it name) keys → option_map (λ n.
     unit_bytes contents (get_or rows n d)) at ≡ lookup (same_name name) (held_units contents rows)
 held-at contents rows keys name named d at is =
-    rw (is ∙ ap (λ test. position test keys) (same_name-is name), named)
-    (found (same_name name) (λ row. row.id) (unit_bytes contents) rows d)
+    rw (is ∙ ap (λ test. position test keys) (same_name-is name), named) (found rows)
+  where
+    found : (rows : List IndexEntry) → option_map (λ n. unit_bytes contents (get_or rows n d))
+        (position (same_name name) (map (λ row. row.id) rows))
+        ≡ lookup (same_name name) (held_units contents rows)
+    found [] = refl
+    found (row ∷ rows) = grind (rules, found rows)
 
 pub returns-in_default : goal.returns-in_default
 returns-in_default c =

@@ -1,10 +1,8 @@
 use Rattle.std.proofs.Common.{Some, ◌&&◌, ◌≡◌}
-use Rattle.std.specs.List.{list_all}
-use Rattle.dwp_bytes.specs.Input.{section}
-use Rattle.dwp_units.specs.Units.{units, units_left}
-use Rattle.thorin_input.specs.Encodings.{all_have, has_encoding}
-use Rattle.thorin_input.specs.{NewUnits.with_each_read, View.used}
 use Rattle.thorin_input.specs.UnitView.{adding_of, left_in, met_of, new_of}
+use Rattle.thorin_input.specs.{Encodings.all_have, Encodings.has_encoding, NewUnits.with_each_read}
+use Rattle.{dwp_bytes.specs.Input.section, thorin_input.specs.View.used}
+use Rattle.{dwp_units.specs.Units.units, dwp_units.specs.Units.units_left, std.specs.List.list_all}
 use Rattle.thorin_input.proofs.held.NewUnits.add_section.Given as goal
 
 -- what the units that are left add to those so far is what all add; and all have the input's

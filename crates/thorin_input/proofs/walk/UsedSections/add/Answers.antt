@@ -1,7 +1,5 @@
-use Rattle.std.proofs.Common.{arith, sym, ◌∙◌}
-use Rattle.std.proofs.lemmas.Grind.{common_steps}
-use Rattle.dwp_elf_read.specs.View.{section}
-use Rattle.thorin_input.proofs.Walking.{kind-full}
+use Rattle.std.proofs.{Common.arith, Common.sym, Common.◌∙◌, lemmas.Grind.common_steps}
+use Rattle.{dwp_elf_read.specs.View.section, thorin_input.proofs.Walking.kind-full}
 use Rattle.thorin_input.proofs.walk.UsedSections.add.Goals as goal
 
 pub returns : goal.returns

@@ -1,10 +1,10 @@
-use Rattle.std.proofs.Common.{ap, not, refl, rules, [], ◌∙◌, ◌∷◌, ◌≡◌}
-use Rattle.thorin_input.proofs.Walking.{either-index, map-placed, used-next, walk-fails, walk-gives}
-use Rattle.thorin_input.proofs.Walking.{any-end, any-step, those, used-kept}
-use Rattle.std.specs.List.{list_any}
 use Rattle.dwp_base.specs.declared.section.SectionKind.TheVariants.{Abbrev, Info, Str}
-use Rattle.dwp_base.specs.Sections.{name_of}
 use Rattle.dwp_elf_read.specs.{Elf.is_named, Elf.is_of, View.elf, View.placed, View.sections_left}
+use Rattle.std.proofs.Common.{[], ap, map, not, Ok, refl, rules, sym, ◌∙◌, ◌∷◌, ◌≡◌}
+use Rattle.thorin_input.proofs.Walking.{any-end, found-any, map-placed, those, used-kept, used-next}
+use Rattle.thorin_input.specs.Used.{input_file_of, used_from}
+use Rattle.thorin_input.{proofs.Walking.any-step, proofs.Walking.either-index, specs.View.used}
+use Rattle.{dwp_base.specs.Sections.name_of, std.specs.List.list_any}
 use Rattle.thorin_input.proofs.walk.Walked.over.Goals as goal
 
 pub loop-section-init : goal.loop-section-init
@@ -27,16 +27,17 @@ loop-section-preserved c =
     let left : sections_left c.loop-section.section-iterator ≡ placed c.in-Some.section ∷
     sections_left c.next.new.self = search (rules, c.in-Some.ensures.steps) in
     let p = placed c.in-Some.section in
+    let file = elf c.args.file.now in
     let before = c.loop-section in
     let so_far = before.invariant in
     record {
       info = rw c.is_of-with_units.ensures.named
-          (any-step (is_of Info) before.with_units _ _ p left ∙ so_far.info);
+          (any-step (is_of Info) before.with_units _ _ p file left so_far.info);
       strings = rw (c.is_called-has_strings.ensures, c.name.ensures)
-          (any-step (is_named (name_of Str)) before.has_strings _ _ p left ∙ so_far.strings);
+          (any-step (is_named (name_of Str)) before.has_strings _ _ p file left so_far.strings);
       abbreviations = rw (c.is_called-has_abbreviations.ensures, c.name-in-loop-section.ensures)
-          (any-step (is_named (name_of Abbrev)) before.has_abbreviations _ _ p left
-          ∙ so_far.abbreviations);
+          (any-step (is_named (name_of Abbrev)) before.has_abbreviations _ _ p file left
+          so_far.abbreviations);
       used = elim c.if-is_none.branch [
         | goal.then-is_none w ↦ rw (w.fault-is, w.used-is, w.err-fault.ensures.value)
             (used-next before.fault before.used w.add.new.self w.add.result _ _ p _
@@ -56,21 +57,34 @@ pub returns-clause-units : goal.returns-clause-units
 returns-clause-units c =
     let left : sections_left c.loop-section.section-iterator ≡ [] =
     search (rules, c.in-None.ensures.steps) in
-    any-end (is_of Info) c.loop-section.with_units _ (elf c.args.file.now).sections left
+    any-end (is_of Info) c.loop-section.with_units _ (elf c.args.file.now) left
     c.loop-section.invariant.info
 
 pub returns-clause-input : goal.returns-clause-input
+unfolding input_file_of used_from
 returns-clause-input c =
     let left : sections_left c.loop-section.section-iterator ≡ [] =
     search (rules, c.in-None.ensures.steps) in
     let last = c.loop-section in
-    let so_far = last.invariant in
     let file = elf c.args.file.now in
+    let strings = any-end (is_named (name_of Str)) last.has_strings _ file left
+    last.invariant.strings in
+    let abbreviations = any-end (is_named (name_of Abbrev)) last.has_abbreviations _ file left
+    last.invariant.abbreviations in
     elim c.match-fault-3.branch [
-      | goal.in-Some-fault w ↦ rw w.input-is
-          (walk-fails w.in-Some-fault.error file (rw w.in-Some-fault.is at so_far.used))
-      | goal.in-None-fault w ↦ rw w.input-is (walk-gives last.used _ _ _ _ file w.endianness.ensures
-          (any-end (is_named (name_of Str)) last.has_strings _ file.sections left so_far.strings)
-          (any-end (is_named (name_of Abbrev)) last.has_abbreviations
-          _ file.sections left so_far.abbreviations) left (rw w.in-None-fault.is at so_far.used))
+      | goal.in-Some-fault w ↦
+          let fails = rw w.in-Some-fault.is at last.invariant.used in
+          rw w.input-is (λ aside. rw (fails aside) refl)
+      | goal.in-None-fault w ↦
+          let all : used_from [] file.sections ≡ Ok (map used last.used.sections.items) =
+          sym (rw (w.in-None-fault.is, left) at last.invariant.used) in
+          rw (
+            w.input-is,
+            all,
+            w.endianness.ensures,
+            strings,
+            abbreviations,
+            found-any (is_named (name_of Str)) file.sections,
+            found-any (is_named (name_of Abbrev)) file.sections,
+          ) refl
     ]
