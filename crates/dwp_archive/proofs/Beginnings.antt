@@ -1,11 +1,10 @@
 -- The beginning of a name is read from the beginning of the bytes that it stands in.
-use Rattle.std.proofs.Common.{◌≡◌, ◌∙◌, ℕ, zero, suc, ◌+◌, ◌-◌, ◌<◌, ◌≤◌, ◌==◌, Bool, false}
-use Rattle.std.proofs.Common.{List, [], ◌∷◌, length, take, ap, sym, refl, arith, take_all, nat_le}
-use Rattle.std.proofs.Common.{take-take, length-take-le, slice_index}
-use Rattle.std.proofs.lemmas.Bool.Decides.{nat_tests}
-use Rattle.std.specs.List.{before_first, position_or_len}
-use Rattle.dwp_base.proofs.Bools.{by-bool}
 use Rattle.dwp_archive.specs.Names.{long_name, own_name, without_slash}
+use Rattle.std.proofs.Common.{ap, nat_le, [], ℕ, ◌==◌, ◌≤◌}
+use Rattle.std.proofs.Common.{arith, Bool, length, length-take-le, slice_index, take-take, take_all}
+use Rattle.std.proofs.Common.{false, List, refl, suc, sym, take, zero, ◌+◌, ◌-◌, ◌<◌, ◌∙◌, ◌∷◌, ◌≡◌}
+use Rattle.std.specs.List.{before_first, position_or_len}
+use Rattle.{dwp_base.proofs.Bools.by-bool, std.proofs.lemmas.Bool.Decides.nat_tests}
 
 -- what stands in front of the first byte of a kind
 one_more : (p : ℕ → Bool) (x : ℕ) (xs : List ℕ) → p x ≡ false

@@ -1,13 +1,12 @@
 -- What holds of each kind of section in the list of them holds of every kind.
-use Rattle.std.proofs.Common.{Bool, false, List, map, not, suc, true, zero, [], ℕ, ◌∙◌, ◌∷◌, ◌≡◌}
-use Rattle.std.proofs.Common.{ap, arith, eqb-true, get_or, option_map, refl, slice_get, Some, subst}
-use Rattle.std.proofs.lemmas.Option.{get_or_from_slice_get, slice_get-map, slice_get_within}
 use Rattle.dwp_base.specs.Sections.{all_kinds, compressed_name_of, is_named, kind_named, same_kind}
-use Rattle.dwp_base.specs.Sections.{name_of, rank_of}
-use Rattle.std.proofs.{Common.sym, lemmas.List.Sums.AllPass-from_list_all, lemmas.Option.same_Some}
-use Rattle.std.specs.{List.list_all, Str.bytes_eq}
-use Rattle.std.proofs.lemmas.List.FromFn.{get_or-range_with_len}
 use Rattle.dwp_base.{proofs.Bools.is-false, specs.declared.section.SectionKind.SectionKind}
+use Rattle.std.proofs.Common.{ap, get_or, map, not, subst, suc, sym, true, zero, [], ◌∙◌, ◌∷◌, ◌≡◌}
+use Rattle.std.proofs.Common.{arith, Bool, eqb-true, false, List, option_map, refl, slice_get, Some}
+use Rattle.std.proofs.lemmas.List.{FromFn.get_or-range_with_len, Sums.AllPass-from_list_all}
+use Rattle.std.proofs.lemmas.Option.{get_or_from_slice_get, slice_get-map, slice_get_within}
+use Rattle.std.{proofs.lemmas.Option.same_Some, specs.List.list_all, specs.Str.bytes_eq}
+use Rattle.{dwp_base.specs.Sections.name_of, dwp_base.specs.Sections.rank_of, std.proofs.Common.ℕ}
 
 pub at-rank : (kind : SectionKind) → slice_get all_kinds (rank_of kind) ≡ Some kind
 at-rank kind = grind arith

@@ -1,11 +1,10 @@
 -- The first item of a list that passes a test, looked for one after the other.
-use Rattle.std.proofs.Common.{ap, Bool, false, suc, true, zero, [], ℕ, ◌+◌, ◌<◌, ◌∙◌, ◌∷◌, ◌≡◌, ◌≤◌}
-use Rattle.std.proofs.Common.{arith, cond, drop, length, List, None, Option, slice_get, Some, ◌==◌}
-use Rattle.std.{proofs.lemmas.List.drop_all, proofs.lemmas.List.drop_more, specs.List.find}
-use Rattle.std.proofs.lemmas.Option.{get_or_from_slice_get, slice_get_within}
-use Rattle.std.proofs.{lemmas.Bool.false_from_ne_true, lemmas.List.Sums.position_or_len_is}
-use Rattle.std.specs.{List.position, List.position_or_len, Prelude.unwrap_or}
 use Rattle.memchr.specs.Find.{is_byte, IsFirstByte}
+use Rattle.std.proofs.Common.{ap, Bool, cond, drop, List, None, slice_get, ◌+◌, ◌<◌, ◌==◌, ◌∷◌, ◌≡◌}
+use Rattle.std.proofs.Common.{arith, false, length, Option, Some, suc, true, zero, [], ℕ, ◌∙◌, ◌≤◌}
+use Rattle.std.proofs.lemmas.{Bool.false_from_ne_true, List.drop_more, List.Sums.position_or_len_is}
+use Rattle.std.proofs.lemmas.{List.drop_all, Option.get_or_from_slice_get, Option.slice_get_within}
+use Rattle.std.specs.{List.find, List.position, List.position_or_len, Prelude.unwrap_or}
 
 pub find_at : {X : Type 0} (p : X → Bool) (xs : List X) (i : ℕ) (x : X) → slice_get xs i ≡ Some x
     → find p (drop i xs) ≡ cond (p x) (Some x) (find p (drop (i + 1) xs))

@@ -1,15 +1,14 @@
 -- Values that are read for each kind, one kind after another.
-use Rattle.std.proofs.Common.{ap, List, map, suc, zero, [], ℕ, ⊎_elim, ◌+◌, ◌<◌, ◌∙◌, ◌∷◌, ◌≡◌, ◌≤◌}
-use Rattle.std.proofs.Common.{arith, length, refl, subst, sym}
-use Rattle.std.proofs.lemmas.Option.{get_or_from_slice_get, slice_get_within}
-use Rattle.std.specs.Prelude.{Err, Ok, option_map, Result, slice_get, slice_set, Some}
-use Rattle.std.proofs.{lemmas.Bool.cases_lt, lemmas.Option.same_Some, lemmas.Option.slice_get-map}
-use Rattle.std.proofs.{lemmas.Grind.elements, lemmas.List.length-map, lemmas.List.length-set}
+use Rattle.dwp_base.proofs.{EveryKind.at-rank, Steps.bind-err, Steps.each-read, Steps.read-at}
 use Rattle.dwp_base.specs.ByKind.{ReadsEach, value_of, values_of}
-use Rattle.dwp_base.specs.{declared.by_kind.ByKind.ByKind, declared.section.SectionKind.SectionKind}
+use Rattle.dwp_base.specs.declared.{by_kind.ByKind.ByKind, section.SectionKind.SectionKind}
 use Rattle.dwp_base.specs.{Reading.Answers, Reading.read_each, Sections.all_kinds, Sections.rank_of}
-use Rattle.dwp_base.proofs.EveryKind.{at-rank, rank-at}
-use Rattle.dwp_base.proofs.Steps.{bind-err, each-read, read-at}
+use Rattle.std.proofs.Common.{ap, subst, [], ℕ, ◌∷◌, ◌≡◌, ◌≤◌}
+use Rattle.std.proofs.Common.{arith, length, List, map, refl, suc, sym, zero, ⊎_elim, ◌+◌, ◌<◌, ◌∙◌}
+use Rattle.std.proofs.lemmas.Option.{get_or_from_slice_get, slice_get-map, slice_get_within}
+use Rattle.std.proofs.lemmas.{Grind.elements, List.length-map, List.length-set, Option.same_Some}
+use Rattle.std.specs.Prelude.{Err, Ok, option_map, Result, slice_get, slice_set, Some}
+use Rattle.{dwp_base.proofs.EveryKind.rank-at, std.proofs.lemmas.Bool.cases_lt}
 
 -- the value at each of the first places was read for the kind that stands there
 abbrev pub ReadBelow : {T E : Type 0} → (SectionKind → Result T E → Type 0) → List T → ℕ → Type 0

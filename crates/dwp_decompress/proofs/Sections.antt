@@ -1,27 +1,26 @@
 -- What is said of a file by its headers, and what once its streams are read: sections that are
 -- compared, sizes that are added up, and the limit of what headers tell.
-use Rattle.std.proofs.Common.{Option, option_map, refl, Result, slice_get, Some, sym, take, true, ℕ}
-use Rattle.std.proofs.Common.{if◌then◌else◌, [], ◌&&◌, ◌*◌, ◌++◌, ◌+◌, ◌-◌, ◌/◌, ◌<◌, ◌∙◌, ◌∷◌, ◌≡◌}
-use Rattle.std.proofs.Common.{length-take, List, lt-ltb, ltb-false, ltb-true, nat_lt, None, not, Ok}
-use Rattle.dwp_decompress.specs.declared.{asked.Asked.Asked, error.DecompressError.DecompressError}
-use Rattle.dwp_decompress.specs.Result.{contents_of, decompressed_of, plain_contents, plain_file}
-use Rattle.std.proofs.Common.{false, get_or, IsTrue, le-ltb, length, length-append, length-drop}
-use Rattle.std.proofs.Common.{ap, append-nil, append_assoc, arith, Bool, codes, drop, Err, ◌≤◌}
-use Rattle.dwp_decompress.specs.declared.error.DecompressError.TheVariants.{Unrepresentable}
-use Rattle.dwp_decompress.specs.Sizes.{compressed_size, length_of, size_in, sum_tells_more}
-use Rattle.dwp_decompress.specs.Names.{added_name, added_name_of, added_names, plain_name}
-use Rattle.std.proofs.lemmas.Option.{get_or_from_slice_get, slice_get-map, slice_get_read}
-use Rattle.dwp_decompress.specs.Result.{plain_length_of, result_section, result_sections}
-use Rattle.std.proofs.lemmas.List.{drop_all, drop_more, map-append, Sums.sum_by-cons}
 use Rattle.dwp_base.specs.declared.{class.Class.Class, endian.Endianness.Endianness}
+use Rattle.dwp_base.{proofs.Bools.by-bool, proofs.Bools.neither, specs.Reading.◌>>=◌}
 use Rattle.dwp_decompress.specs.Compressed.{has_compressed, is_compressed, is_older}
-use Rattle.std.proofs.lemmas.{Option.slice_get_within, Slice.Eq.bytes_eq-Decides}
 use Rattle.dwp_decompress.specs.Headers.{content_of, told_size, told_sizes}
-use Rattle.dwp_decompress.specs.{Answers.reading, Sizes.tells_more}
+use Rattle.dwp_decompress.specs.Names.{added_name, added_name_of, added_names, plain_name}
+use Rattle.dwp_decompress.specs.Result.{contents_of, plain_length_of, result_sections}
+use Rattle.dwp_decompress.specs.Result.{decompressed_of, plain_contents, plain_file, result_section}
+use Rattle.dwp_decompress.specs.Sizes.{compressed_size, length_of, sum_tells_more, tells_more}
+use Rattle.dwp_decompress.specs.declared.error.DecompressError.TheVariants.{Unrepresentable}
+use Rattle.dwp_decompress.specs.declared.{asked.Asked.Asked, error.DecompressError.DecompressError}
+use Rattle.dwp_decompress.specs.{Answers.reading, Sizes.size_in}
 use Rattle.dwp_elf_read.specs.Elf.{Elf, elf_of, SectionMeaning}
-use Rattle.dwp_base.proofs.Bools.{by-bool, neither}
+use Rattle.std.proofs.Common.{ap, Ok, [], ℕ, ◌&&◌, ◌++◌, ◌-◌, ◌/◌, ◌<◌, ◌∙◌, ◌∷◌, ◌≡◌, ◌≤◌}
+use Rattle.std.proofs.Common.{append-nil, length-drop, length-take, ltb-false, ltb-true, option_map}
+use Rattle.std.proofs.Common.{append_assoc, if◌then◌else◌, IsTrue, length-append, Option, slice_get}
+use Rattle.std.proofs.Common.{arith, Bool, codes, false, get_or, le-ltb, length, List, None, Result}
+use Rattle.std.proofs.Common.{drop, Err, lt-ltb, nat_lt, not, refl, Some, sym, take, true, ◌*◌, ◌+◌}
+use Rattle.std.proofs.lemmas.List.{drop_all, drop_more, map-append, Sums.sum_by-cons}
+use Rattle.std.proofs.lemmas.Option.{get_or_from_slice_get, slice_get_read, slice_get_within}
+use Rattle.std.proofs.lemmas.{Option.slice_get-map, Slice.Eq.bytes_eq-Decides}
 use Rattle.std.specs.{Global.Vec, List.list_any}
-use Rattle.dwp_base.specs.Reading.{◌>>=◌}
 
 -- the same error of another step
 same_error : {A B : Type 0} (d e : DecompressError)

@@ -1,19 +1,17 @@
 -- The sections of a file by number, and the entries of a table.
-use Rattle.std.proofs.Common.{Bool, false, suc, true, [], ℕ, ◌*◌, ◌+◌, ◌-◌, ◌<◌, ◌∙◌, ◌∷◌, ◌≡◌, ◌≤◌}
-use Rattle.std.proofs.Common.{arith, find, length, List, map, None, refl, Result, slice_get, Some}
-use Rattle.std.proofs.Common.{ap, Ok, sym}
-use Rattle.dwp_elf_read.specs.Relocation.{relocates, relocation_at, relocation_size, relocations_in}
-use Rattle.dwp_elf_read.specs.Relocation.{entries_from, entries_then, table_of}
-use Rattle.dwp_elf_read.specs.View.{entries_left, placed_sections, relocations_left, sections_after}
-use Rattle.dwp_elf_read.specs.View.{elf, file, nth, placed, section, sections_left}
-use Rattle.std.{proofs.lemmas.List.length-map, specs.List.range_with_len}
-use Rattle.std.proofs.lemmas.List.FromFn.{get_or-map-range_with_len, length-map-range_with_len}
-use Rattle.std.proofs.lemmas.Option.{slice_get_past, slice_get_read}
-use Rattle.dwp_elf_read.specs.{declared.error.ReadError.ReadError, declared.section.Section.Section}
-use Rattle.dwp_elf_read.specs.{declared.file.ElfFile.ElfFile, declared.relocation.Table.Table}
-use Rattle.dwp_elf_read.specs.declared.relocation.RawRelocation.{RawRelocation}
-use Rattle.dwp_elf_read.specs.declared.relocation.Relocations.{Relocations}
 use Rattle.dwp_elf_read.specs.Elf.{SectionMeaning, sections_from}
+use Rattle.dwp_elf_read.specs.Relocation.{entries_from, entries_then, relocation_at, relocations_in}
+use Rattle.dwp_elf_read.specs.Relocation.{relocates, relocation_size, table_of}
+use Rattle.dwp_elf_read.specs.View.{elf, file, nth, placed, section, sections_left}
+use Rattle.dwp_elf_read.specs.View.{entries_left, placed_sections, relocations_left, sections_after}
+use Rattle.dwp_elf_read.specs.declared.relocation.{RawRelocation.RawRelocation, Table.Table}
+use Rattle.dwp_elf_read.specs.declared.{error.ReadError.ReadError, file.ElfFile.ElfFile}
+use Rattle.dwp_elf_read.specs.declared.{relocation.Relocations.Relocations, section.Section.Section}
+use Rattle.std.proofs.Common.{arith, Bool, false, find, length, List, None, Result, slice_get, Some}
+use Rattle.std.proofs.Common.{map, Ok, refl, suc, sym, true, ◌*◌, ◌+◌, ◌-◌, ◌<◌, ◌∙◌, ◌∷◌, ◌≡◌, ◌≤◌}
+use Rattle.std.proofs.lemmas.List.FromFn.{get_or-map-range_with_len, length-map-range_with_len}
+use Rattle.std.proofs.lemmas.{List.length-map, Option.slice_get_past, Option.slice_get_read}
+use Rattle.std.{proofs.Common.ap, specs.List.range_with_len, proofs.Common.[], proofs.Common.ℕ}
 
 -- ---- a list made from the numbers of a range: its first item, its end, an item by its number
 

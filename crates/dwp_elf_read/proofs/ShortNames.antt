@@ -1,20 +1,19 @@
 -- Texts in a string table: what `memchr` and `from_utf8` say of them, and whether one is a text
 -- that is given, by as much of it as that is long.
-use Rattle.std.proofs.Common.{Bool, false, get_or, List, None, Some, true, ℕ, ◌<◌, ◌==◌, ◌∙◌, ◌≡◌}
-use Rattle.std.proofs.Common.{is_some, MatchResult, nat_lt, Option, option_map, position, Result}
-use Rattle.std.proofs.Common.{ap, arith, drop, Err, find, length, not, Ok, refl, sym, take}
-use Rattle.std.proofs.lemmas.Bool.{eqb-true, false_from_ne_true, lt-ltb, ltb-false}
-use Rattle.std.proofs.{lemmas.List.Quantifiers.position-Some, lemmas.Slice.Eq.bytes_eq-Decides}
-use Rattle.std.specs.{List.position_or_len, Option.option_and_then, Result.result_ok}
-use Rattle.std.specs.Str.{bytes_eq, is_utf8, IsUtf8}
-use Rattle.std.proofs.lemmas.List.{drop_all, get_or-take, length-take-le}
-use Rattle.std.proofs.lemmas.List.Sums.{fails_before_first, position_or_len_is}
+use Rattle.dwp_base.proofs.{Bools.by-bool, EveryKind.every}
 use Rattle.dwp_base.specs.Sections.{all_kinds, compressed_name_of, kind_named, name_of}
-use Rattle.dwp_base.specs.declared.section.SectionKind.{SectionKind}
-use Rattle.memchr.specs.Find.{is_byte, IsFirstByte}
+use Rattle.dwp_base.{proofs.Finds.position_is, specs.declared.section.SectionKind.SectionKind}
 use Rattle.dwp_elf_read.specs.Elf.{has_name, name_is, text_at, text_of}
-use Rattle.dwp_base.proofs.{Bools.by-bool, EveryKind.every, Finds.position_is}
+use Rattle.memchr.specs.Find.{is_byte, IsFirstByte}
+use Rattle.std.proofs.Common.{Bool, drop, Err, find, List, MatchResult, None, not, refl, Some, take}
+use Rattle.std.proofs.Common.{ap, arith, false, Ok, sym, true, ℕ, ◌<◌, ◌==◌, ◌∙◌, ◌≡◌}
+use Rattle.std.proofs.Common.{get_or, is_some, length, nat_lt, Option, option_map, position, Result}
+use Rattle.std.proofs.lemmas.Bool.{eqb-true, false_from_ne_true, lt-ltb, ltb-false}
+use Rattle.std.proofs.lemmas.List.Sums.{fails_before_first, position_or_len_is}
+use Rattle.std.proofs.lemmas.List.{drop_all, get_or-take, length-take-le, Quantifiers.position-Some}
 use Rattle.std.proofs.lemmas.Str.{is_utf8-from_IsUtf8, IsUtf8-from_is_utf8}
+use Rattle.std.specs.{List.position_or_len, Result.result_ok, Str.bytes_eq, Str.is_utf8, Str.IsUtf8}
+use Rattle.std.{proofs.lemmas.Slice.Eq.bytes_eq-Decides, specs.Option.option_and_then}
 
 -- what `from_utf8` answers, its error left out
 pub text_of_result : {T E : Type 0} (view : T → List ℕ) (F : E → Type 0) (bytes : List ℕ)

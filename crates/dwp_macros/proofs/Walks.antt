@@ -1,13 +1,11 @@
 -- Sections taken one after the other, from the last.
-use Rattle.std.proofs.Common.{Bool, List, [], if◌then◌else◌, ℕ, ◌&&◌, ◌+◌, ◌||◌, ◌∙◌, ◌∷◌, ◌≡◌, ◌≤◌}
-use Rattle.std.proofs.Common.{ap, drop, false, length, refl, slice_get, Some}
-use Rattle.std.proofs.{lemmas.Bool.and_right, lemmas.List.drop_all, lemmas.List.drop_more}
-use Rattle.std.specs.List.{list_any}
-use Rattle.std.proofs.lemmas.Option.{get_or_from_slice_get, slice_get_within}
-use Rattle.dwp_elf_read.specs.Elf.{SectionMeaning}
 use Rattle.dwp_macros.specs.Kept.{emptied, go, has_macros, kept_section, kept_sections, lose}
-use Rattle.dwp_macros.specs.declared.kept.KeptMacros.{KeptMacros}
-use Rattle.dwp_macros.specs.declared.kept.KeptMacros.TheVariants.{All}
+use Rattle.dwp_macros.specs.declared.kept.KeptMacros.{KeptMacros, TheVariants.All}
+use Rattle.std.proofs.Common.{Bool, drop, false, if◌then◌else◌, length, List, refl, slice_get, Some}
+use Rattle.std.proofs.Common.{ap, [], ℕ, ◌&&◌, ◌+◌, ◌||◌, ◌∙◌, ◌∷◌, ◌≡◌, ◌≤◌}
+use Rattle.std.proofs.lemmas.Option.{get_or_from_slice_get, slice_get_within}
+use Rattle.std.proofs.lemmas.{Bool.and_right, List.drop_all, List.drop_more}
+use Rattle.{dwp_elf_read.specs.Elf.SectionMeaning, std.specs.List.list_any}
 
 -- the items from the i-th on are it and those from the j-th on
 pub drop_step : {X : Type 0} (xs : List X) (i j : ℕ) (x : X) → j ≡ i + 1 → slice_get xs i ≡ Some x

@@ -1,16 +1,15 @@
 -- Readings made of others, with what `dwp_bytes` says of them, and what comes of many steps.
 use Rattle.dwp_units.proofs.Terms
-use Terms.{◌+◌, ◌++◌, ◌<◌, ◌>>=◌, ap, append_assoc, arith, Bool, cond, drop, Err, front, Goes}
-use Terms.{Input, length, length-drop, List, ltb, ltb-false, Ok, ReadError, refl, Result, skip_at}
-use Terms.{split_at, suc, sym, take, take-add, take-append-drop, UnexpectedEof, zero, ℕ, ◌∙◌, ◌≡◌}
-use Terms.{◌≤◌}
-use Rattle.dwp_bytes.specs.Input.{number_at, relocated_at, after}
-pub use Rattle.dwp_bytes.proofs.Reading.{error_gives, Gives, more_gives, then_gives, value_gives}
-pub use Rattle.dwp_bytes.proofs.Reading.{after-zero, by-result, goes_after, size, test_gives, was}
-pub use Rattle.dwp_bytes.proofs.Reading.{after-after, goes_least, goes_none, goes_some, goes_then}
-pub use Rattle.dwp_bytes.proofs.Reading.{Answer, goes_length, Reads, Takes, takes_then, told_there}
-pub use Rattle.dwp_bytes.proofs.Reading.{error_reads, test_reads, then_reads, value_reads}
-pub use Rattle.dwp_bytes.proofs.Reading.{goes, reads_byte, reads_sleb, reads_uleb, some_reads}
+use Rattle.dwp_bytes.specs.Input.{after, number_at, relocated_at}
+use Terms.{ap, Err, ltb, ltb-false, Ok, suc, sym, take, zero, ℕ, ◌++◌, ◌+◌, ◌<◌, ◌∙◌, ◌≡◌, ◌≤◌}
+use Terms.{append_assoc, length-drop, ReadError, skip_at, split_at, take-append-drop, UnexpectedEof}
+use Terms.{arith, Bool, cond, drop, front, Goes, Input, length, List, refl, Result, take-add, ◌>>=◌}
+pub use Rattle.dwp_bytes.proofs.Reading.{Answer, goes, goes_then, size, was}
+pub use Rattle.dwp_bytes.proofs.Reading.{Gives, goes_length, Reads, Takes, value_gives, value_reads}
+pub use Rattle.dwp_bytes.proofs.Reading.{after-after, by-result, test_reads, then_gives, then_reads}
+pub use Rattle.dwp_bytes.proofs.Reading.{after-zero, goes_after, goes_least, more_gives, reads_byte}
+pub use Rattle.dwp_bytes.proofs.Reading.{error_gives, error_reads, goes_none, goes_some, told_there}
+pub use Rattle.dwp_bytes.proofs.Reading.{reads_sleb, reads_uleb, some_reads, takes_then, test_gives}
 
 -- a reading has one answer
 pub one_answer : {A E : Type 0} (r : Result A E) {x y : A} → r ≡ Ok x → r ≡ Ok y → x ≡ y

@@ -1,26 +1,24 @@
 -- A unit's bytes are those that stood before the rest, and its entries lie in them behind the
 -- header; the units of a section one after the other.
 use Rattle.dwp_units.proofs.Terms
-use Terms.{◌&&◌, ◌+◌, ◌++◌, ◌-◌, ◌<◌, [], ap, append-nil, append_assoc, arith, cond, drop}
-use Terms.{drop-take, eqb, Err, false, flat_map, Format, front, Goes, Input, is_err, leb, length}
-use Terms.{length-append, length-take-le, List, ltb, map, ne_eqb, nil_from_length, Ok, ReadError}
-use Terms.{refl, Result, sym, take-append-drop, true, Unit, ℕ, ◌∙◌, ◌∷◌, ◌≡◌, ◌≤◌}
-use Rattle.dwp_units.specs.Units.{listed, newer_at, older_at, type_at, unit_at, unit_seen, UnitsLie}
-use Rattle.dwp_units.specs.Units.{address_size_at, initial_length_at, older_type_at, unit_code_at}
-use Rattle.dwp_units.specs.Units.{header_at, unit_bytes, unit_type_at, units_left, units_within}
-use Rattle.dwp_units.proofs.Readings.{Answer, error_gives, number_goes, relocated_goes, value_gives}
-use Rattle.dwp_units.proofs.Readings.{after-after, goes_length, more_gives, test_gives, then_gives}
-use Rattle.dwp_units.proofs.Readings.{after-zero, goes_after, goes_least, reads_byte, then_split}
-use Rattle.dwp_units.proofs.Readings.{by-result, by_step, Gives, goes_none, goes_some, goes_then}
-use Rattle.dwp_units.proofs.Readings.{goes, size, Steps}
 use Rattle.dwp_bytes.specs.Input.{after, is_address_size, offset_at}
-use Rattle.dwp_bytes.specs.Encoding.{offset_size}
-use Rattle.dwp_units.specs.{declared.unit.UnitSection.UnitSection, declared.unit.UnitType.UnitType}
-use Rattle.dwp_units.specs.{declared.unit.UnitHeader.UnitHeader, Units.unit_of, Units.units}
+use Rattle.dwp_units.proofs.Readings.{Answer, by_step, goes_none, goes_some, test_gives, then_gives}
+use Rattle.dwp_units.proofs.Readings.{Gives, goes_then, number_goes, Steps, then_split, value_gives}
+use Rattle.dwp_units.proofs.Readings.{after-after, after-zero, error_gives, goes_after, goes_length}
+use Rattle.dwp_units.proofs.Readings.{by-result, goes_least, more_gives, reads_byte, relocated_goes}
+use Rattle.dwp_units.specs.Units.{address_size_at, header_at, initial_length_at, newer_at, UnitsLie}
+use Rattle.dwp_units.specs.Units.{listed, type_at, unit_at, unit_of, unit_seen, units, units_within}
+use Rattle.dwp_units.specs.Units.{older_type_at, unit_bytes, unit_code_at, unit_type_at, units_left}
 use Rattle.dwp_units.specs.declared.unit.UnitSection.TheVariants.{Info, Types}
-use Rattle.std.proofs.{lemmas.Bool.Decides.nat_tests, lemmas.List.Concat.flat_map-cons}
-use Rattle.dwp_base.specs.Reading.{Reads}
-use Rattle.dwp_units.specs.declared.unit.UnitHeaders.{UnitHeaders}
+use Rattle.dwp_units.specs.declared.unit.{UnitHeader.UnitHeader, UnitType.UnitType}
+use Rattle.dwp_units.specs.declared.unit.{UnitHeaders.UnitHeaders, UnitSection.UnitSection}
+use Rattle.dwp_units.{proofs.Readings.goes, proofs.Readings.size, specs.Units.older_at}
+use Rattle.std.proofs.lemmas.{Bool.Decides.nat_tests, List.Concat.flat_map-cons}
+use Rattle.{dwp_base.specs.Reading.Reads, dwp_bytes.specs.Encoding.offset_size}
+use Terms.{ap, Ok, [], ℕ, ◌++◌, ◌+◌, ◌-◌, ◌<◌, ◌∙◌, ◌∷◌, ◌≡◌, ◌≤◌}
+use Terms.{append-nil, cond, drop, eqb, Err, Goes, leb, List, ltb, map, refl, sym, true, Unit, ◌&&◌}
+use Terms.{append_assoc, flat_map, length-append, length-take-le, nil_from_length, take-append-drop}
+use Terms.{arith, drop-take, false, Format, front, Input, is_err, length, ne_eqb, ReadError, Result}
 
 -- what was read leaves what stands behind it
 abbrev pub Onward : (A : Type 0) → Input → Answer A → Type 0

@@ -1,15 +1,14 @@
 -- Relocations whose places are in strict order, and what there is to read of a section by them.
-use Rattle.std.proofs.Common.{arith, IsTrue, List, map, map-id, Ok, refl, sym, [], ℕ, ◌∙◌, ◌∷◌, ◌≡◌}
-use Rattle.std.proofs.{Common.lt-ltb, Common.nat_cmp, lemmas.Simd.map-map}
-use Rattle.std.specs.List.Sorted.{IsStrictlySortedBy}
-use Rattle.std.proofs.lemmas.Map.Keys.{below_from_sorted, sorted_tail}
-use Rattle.dwp_elf_read.specs.{Elf.Elf, Elf.SectionMeaning, Relocation.relocations_of}
-use Rattle.dwp_bytes.specs.declared.relocation.Relocation.{Relocation}
 use Rattle.dwp_bytes.specs.{declared.relocation.RelocationEntry.RelocationEntry, Relocation.ascends}
-use Rattle.dwp_bytes.specs.{Input.section as input_section, Relocation.relocated_input}
+use Rattle.dwp_elf_read.specs.{Elf.Elf, Elf.SectionMeaning, Relocation.relocations_of}
+use Rattle.std.proofs.Common.{arith, IsTrue, List, lt-ltb, map, map-id, nat_cmp, sym, ◌∙◌, ◌∷◌, ◌≡◌}
+use Rattle.std.proofs.lemmas.{Map.Keys.below_from_sorted, Map.Keys.sorted_tail, Simd.map-map}
+use Rattle.std.{proofs.Common.Ok, proofs.Common.refl, specs.List.Sorted.IsStrictlySortedBy}
 use Rattle.thorin_executable.specs.Relocations.{pair_of, with_relocations}
 use Rattle.thorin_executable.specs.Sections.{debug_content, entry_of, loaded}
-use Rattle.thorin_executable.specs.declared.loading.DebugSection.{DebugSection}
+use Rattle.{dwp_bytes.specs.declared.relocation.Relocation.Relocation, std.proofs.Common.[]}
+use Rattle.{thorin_executable.specs.declared.loading.DebugSection.DebugSection, std.proofs.Common.ℕ}
+use Rattle.dwp_bytes.specs.{Input.section as input_section, Relocation.relocated_input}
 
 abbrev places : List RelocationEntry → List ℕ
 places es = map (λ (e : RelocationEntry). e.offset) es

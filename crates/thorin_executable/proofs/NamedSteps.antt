@@ -1,13 +1,12 @@
 -- A list of split units, one unit after the other.
-use Rattle.std.proofs.Common.{Err, length, List, map, Ok, Option, refl, Result, ◌++◌, ◌∷◌, ◌≡◌}
-use Rattle.thorin_executable.specs.Skeletons.{Listed, skeleton_read, skeletons_from, with_first}
-use Rattle.std.proofs.{Common.arith, Common.take, Common.take_all, lemmas.List.length-map}
-use Rattle.dwp_bytes.specs.declared.error.ReadError.{ReadError}
-use Rattle.dwp_units.specs.Units.{Unit as UnitMeaning}
+use Rattle.std.proofs.Common.{arith, Err, List, map, Option, refl, Result, take, take_all, ◌∷◌, ◌≡◌}
+use Rattle.std.proofs.Common.{length, Ok, ◌++◌}
 use Rattle.thorin_errors.specs.{declared.error.Error.Error, Errors.ErrorValue}
+use Rattle.thorin_executable.specs.Skeletons.{Listed, skeleton_read, skeletons_from, with_first}
+use Rattle.thorin_executable.specs.declared.listing.{NamelessUnits.NamelessUnits, Skeleton.Skeleton}
 use Rattle.thorin_executable.specs.{Sections.DebugData, Skeletons.Named, View.IsPushed, View.named}
-use Rattle.thorin_executable.specs.declared.listing.NamelessUnits.{NamelessUnits}
-use Rattle.thorin_executable.specs.declared.listing.Skeleton.{Skeleton}
+use Rattle.{dwp_bytes.specs.declared.error.ReadError.ReadError, std.proofs.lemmas.List.length-map}
+use Rattle.dwp_units.specs.Units.{Unit as UnitMeaning}
 
 -- what comes first, and what the units behind it stand for
 pub first_then : (nameless : NamelessUnits) (debug : DebugData)

@@ -1,16 +1,15 @@
 -- Strings as text; and the same places name the same path.
-use Rattle.dwp_dwarf.proofs.Terms.{ap, arith, DebugAttribute, Err, Format, IfSome, Ok, ℕ, ◌∙◌, ◌≡◌}
-use Rattle.dwp_dwarf.proofs.Terms.{Input, List, None, Option, refl, Result, Some, SplitAttributes}
-use Rattle.thorin_executable.specs.Paths.{base_of, IsPathAt, IsStringAt, object_path, text_of}
-use Rattle.dwp_dwarf.{proofs.Terms.sym, specs.Strings.Strings}
-use Rattle.std.proofs.Common.{IsTrue, IsUtf8, string_bytes}
-use Rattle.std.proofs.{lemmas.Bool.Decides.nat_tests, lemmas.Bool.false_from_ne_true}
-use Rattle.std.proofs.lemmas.Str.{is_utf8-from_IsUtf8, IsUtf8-from_is_utf8}
 use Rattle.dwp_bytes.specs.declared.error.ReadError.TheVariants.{BadUtf8}
+use Rattle.dwp_dwarf.proofs.Terms.{ap, Err, Ok, refl, Result, Some, SplitAttributes, sym, ◌∙◌, ◌≡◌}
+use Rattle.dwp_dwarf.proofs.Terms.{arith, DebugAttribute, Format, IfSome, Input, List, None, Option}
+use Rattle.dwp_dwarf.{specs.Strings.Strings, proofs.Terms.ℕ}
+use Rattle.std.proofs.Common.{IsTrue, IsUtf8, string_bytes}
+use Rattle.std.proofs.lemmas.Bool.{Decides.nat_tests, false_from_ne_true}
+use Rattle.std.proofs.lemmas.Str.{is_utf8-from_IsUtf8, IsUtf8-from_is_utf8}
 use Rattle.thorin_errors.specs.Errors.{ErrorValue, GimliRead}
-use Rattle.thorin_executable.specs.{declared.paths.LastPath.LastPath, Paths.IsKept, Paths.path_at}
-use Rattle.thorin_executable.specs.declared.paths.StringPlace.{StringPlace}
-use Rattle.thorin_executable.specs.declared.paths.PathPlaces.{PathPlaces}
+use Rattle.thorin_executable.specs.Paths.{base_of, IsKept, IsPathAt, object_path, path_at, text_of}
+use Rattle.thorin_executable.specs.declared.paths.{PathPlaces.PathPlaces, StringPlace.StringPlace}
+use Rattle.thorin_executable.specs.{declared.paths.LastPath.LastPath, Paths.IsStringAt}
 use Rattle.thorin_executable.specs.contracts.paths.StringPlacePartialEq.TheImpl as place
 use Rattle.thorin_executable.specs.contracts.paths.PathPlacesPartialEq.TheImpl as places
 

@@ -1,9 +1,8 @@
 -- What is left of a reader's bytes when it is cut.
-use Rattle.std.proofs.Common.{arith, drop, false, is_err, Result, take, take_all, true, [], ℕ, ◌≡◌}
-use Rattle.std.proofs.{lemmas.Bool.Decides.nat_tests, lemmas.List.drop_all}
-use Rattle.dwp_base.specs.Reading.{Reads}
 use Rattle.dwp_bytes.specs.Input.{Input, skip_at, truncate_at}
-use Rattle.dwp_bytes.specs.declared.error.ReadError.{ReadError}
+use Rattle.std.proofs.Common.{arith, drop, false, is_err, Result, take, take_all, true, [], ℕ, ◌≡◌}
+use Rattle.std.proofs.lemmas.{Bool.Decides.nat_tests, List.drop_all}
+use Rattle.{dwp_base.specs.Reading.Reads, dwp_bytes.specs.declared.error.ReadError.ReadError}
 
 -- an end past the end leaves all
 pub cut : (r : Result (Unit {0}) ReadError) (i j : Input) (n : ℕ)

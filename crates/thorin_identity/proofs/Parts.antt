@@ -1,27 +1,24 @@
 -- The identity by a part of a section: tables of the same bytes give the same, and so does the
 -- section's table where it says the same of the root entry's code.
-use Rattle.std.proofs.Common.{drop, length, min, Ok, take, [], ℕ, ◌+◌, ◌-◌, ◌<◌, ◌∙◌, ◌∷◌, ◌≡◌, ◌≤◌}
-use Rattle.std.proofs.Common.{drop-drop, length-drop, length-take-le, Option, option_map, take-take}
-use Rattle.std.proofs.Common.{ap, arith, Err, inl, inr, List, None, refl, Result, Some, sym}
-use Rattle.dwp_base.specs.Reading.{◌>>=◌}
-use Rattle.thorin_identity.specs.Identity.{entry_identity, part_between, root_identity, with_offset}
-use Rattle.thorin_identity.specs.Identity.{DW_AT_GNU_dwo_id, first_identifier, numbered_identity}
-use Rattle.thorin_identity.specs.Identity.{compilation, found_or, identifier_in}
-use Rattle.std.proofs.{lemmas.Bool.cases_lt, lemmas.List.take_min, lemmas.Slice.between_is}
-use Rattle.std.specs.Option.{ok_or}
-use Rattle.dwp_bytes.specs.declared.error.ReadError.TheVariants.{UnknownCode}
 use Rattle.dwp_bytes.specs.Input.{after, front, Input, section}
+use Rattle.dwp_bytes.specs.declared.error.ReadError.{ReadError, TheVariants.UnknownCode}
 use Rattle.dwp_dwarf.proofs.Tables.{declared_anywhere, from_within, past_end}
-use Rattle.dwp_units.proofs.Readings.{bind_alike}
-use Rattle.dwp_dwarf.specs.{Abbreviations.declaration, Abbreviations.Declaration, Offsets.from_at}
 use Rattle.dwp_dwarf.specs.Entries.{DebugAttribute, DebugEntry, entry}
-use Rattle.dwp_units.specs.{AbbreviationCodes.root_code_at, Units.Unit}
-use Rattle.dwp_table.specs.declared.object.DwarfObject.{DwarfObject}
-use Rattle.thorin_errors.specs.Errors.{ErrorValue, GimliRead, NoDie, ParseUnitAbbreviations}
-use Rattle.thorin_errors.specs.Answers.{as_error}
-use Rattle.dwp_base.specs.declared.endian.Endianness.{Endianness}
-use Rattle.dwp_bytes.specs.{declared.encoding.Encoding.Encoding, declared.error.ReadError.ReadError}
 use Rattle.dwp_dwarf.specs.Numbers.{first_number, number_or, numbered, numbered_at}
+use Rattle.dwp_dwarf.specs.{Abbreviations.Declaration, Abbreviations.declaration, Offsets.from_at}
+use Rattle.dwp_units.{proofs.Readings.bind_alike, specs.AbbreviationCodes.root_code_at}
+use Rattle.std.proofs.Common.{ap, length, Ok, sym, [], ℕ, ◌+◌, ◌-◌, ◌<◌, ◌∙◌, ◌∷◌, ◌≡◌, ◌≤◌}
+use Rattle.std.proofs.Common.{arith, drop, Err, inl, inr, List, min, None, refl, Result, Some, take}
+use Rattle.std.proofs.Common.{drop-drop, length-drop, length-take-le, Option, option_map, take-take}
+use Rattle.thorin_errors.specs.Errors.{ErrorValue, GimliRead, NoDie, ParseUnitAbbreviations}
+use Rattle.thorin_identity.specs.Identity.{DW_AT_GNU_dwo_id, first_identifier}
+use Rattle.thorin_identity.specs.Identity.{compilation, entry_identity, identifier_in, part_between}
+use Rattle.thorin_identity.specs.Identity.{found_or, numbered_identity, root_identity, with_offset}
+use Rattle.{dwp_base.specs.declared.endian.Endianness.Endianness, std.proofs.lemmas.Bool.cases_lt}
+use Rattle.{dwp_bytes.specs.declared.encoding.Encoding.Encoding, std.proofs.lemmas.Slice.between_is}
+use Rattle.{dwp_table.specs.declared.object.DwarfObject.DwarfObject, dwp_base.specs.Reading.◌>>=◌}
+use Rattle.{dwp_units.specs.Units.Unit, std.specs.Option.ok_or}
+use Rattle.{std.proofs.lemmas.List.take_min, thorin_errors.specs.Answers.as_error}
 
 -- by the code of the root entry
 abbrev by_code : Unit → Input → ℕ × Input → Result (Option DwarfObject) ErrorValue

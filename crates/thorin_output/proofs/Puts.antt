@@ -1,18 +1,17 @@
 -- What was put under a name, or begun.
-use Rattle.thorin_print.specs.declared.output.Failure.TheVariants as failures
-use Rattle.std.proofs.Common.{arith, false, inl, inr, length, List, true, [], ℕ, ◌≡◌}
-use Rattle.thorin_output.specs.Files.{Begins, HasBeginning, IsCutShort, IsUnwritten, IsWhyUnwritten}
-use Rattle.std.specs.Prelude.{codes, None, Option, Some}
-use Rattle.std.specs.{Io.KnownBytes.Appends, Io.KnownBytes.Keeps, Str.bytes_eq}
-use Rattle.std.proofs.{KnownBytes.Appends-kept, KnownBytes.Appends-nil, lemmas.List.take_all}
-use Rattle.dwp_base.proofs.Bools.{by-bool}
-use Rattle.dwp_elf_read.specs.declared.error.WriteError.{WriteError}
-use Rattle.dwp_elf_read.specs.declared.error.WriteError.TheVariants.{Io, Memory, NumberTooLarge}
 use Rattle.dwp_elf.specs.{FileText.file_text, FileText.Object, Refusals.RefusesWriter}
+use Rattle.dwp_elf_read.specs.declared.error.WriteError.TheVariants.{Io, Memory, NumberTooLarge}
+use Rattle.std.proofs.Common.{arith, false, inl, inr, length, List, true, [], ℕ, ◌≡◌}
+use Rattle.std.proofs.{KnownBytes.Appends-kept, KnownBytes.Appends-nil, lemmas.List.take_all}
+use Rattle.std.specs.{Prelude.codes, Prelude.None, Prelude.Option, Prelude.Some, Str.bytes_eq}
+use Rattle.thorin_output.specs.Files.{Adds, IsCutShort, IsOfFile}
+use Rattle.thorin_output.specs.Files.{Begins, Begun, HasBeginning, IsUnwritten, IsWhyUnwritten, Put}
+use Rattle.thorin_output.specs.Warnings.{IsPrinted, IsWarning}
 use Rattle.thorin_print.specs.Answers.{FailsBy, IsOfPrinting}
-use Rattle.thorin_print.specs.declared.output.Failure.{Failure}
-use Rattle.thorin_output.specs.{declared.warnings.Warned.Warned, Files.IsOfFile, Warnings.IsPrinted}
-use Rattle.thorin_output.specs.{Files.Adds, Files.Begun, Files.Put, Warnings.IsWarning}
+use Rattle.{dwp_base.proofs.Bools.by-bool, dwp_elf_read.specs.declared.error.WriteError.WriteError}
+use Rattle.{std.specs.Io.KnownBytes.Appends, thorin_output.specs.declared.warnings.Warned.Warned}
+use Rattle.{std.specs.Io.KnownBytes.Keeps, thorin_print.specs.declared.output.Failure.Failure}
+use Rattle.thorin_print.specs.declared.output.Failure.TheVariants as failures
 
 -- a package whose writing was refused was begun
 pub begun : (o : Object) (old new : Option (List ℕ)) (e : WriteError) → RefusesWriter o old new e

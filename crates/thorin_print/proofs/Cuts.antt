@@ -1,9 +1,8 @@
 -- Names that are cut.
-use Rattle.std.proofs.Common.{codes, length, List, suc, zero, ℕ, ◌*◌, ◌++◌, ◌+◌, ◌-◌, ◌<◌, ◌≡◌, ◌≤◌}
-use Rattle.std.proofs.Common.{arith, drop, IsCharBoundary, slice_range}
-use Rattle.std.proofs.{lemmas.Bool.Decides.nat_tests, Math.Nat.sub-zero}
-use Rattle.std.specs.Fmt.Cut.{floor_char_boundary}
-use Rattle.thorin_print.specs.Shown.{cut}
+use Rattle.std.proofs.Common.{arith, codes, drop, IsCharBoundary, List, slice_range, suc, zero, ◌*◌}
+use Rattle.std.proofs.Common.{length, ℕ, ◌++◌, ◌+◌, ◌-◌, ◌<◌, ◌≡◌, ◌≤◌}
+use Rattle.std.{proofs.lemmas.Bool.Decides.nat_tests, specs.Fmt.Cut.floor_char_boundary}
+use Rattle.{std.proofs.Math.Nat.sub-zero, thorin_print.specs.Shown.cut}
 
 -- what `floor_char_boundary` ensures fixes its result
 floor_is : (bs : List ℕ) (i kept : ℕ) → i < length bs → kept ≤ i → IsCharBoundary bs kept

@@ -1,12 +1,11 @@
 -- What was printed, or begun.
-use Rattle.std.proofs.Common.{◌≡◌, ℕ, List, [], length, take, Option, Result, arith}
-use Rattle.std.proofs.Common.{take_all, ◌++◌, append-nil, Some, None, append_assoc, sym}
-use Rattle.std.specs.Io.KnownBytes.{Appends, Keeps}
-pub use Rattle.std.proofs.KnownBytes.{Appends-kept as flushed}
+use Rattle.std.proofs.Common.{append-nil, append_assoc, arith, List, None, Option, Result, take_all}
+use Rattle.std.proofs.Common.{length, Some, sym, take, [], ℕ, ◌++◌, ◌≡◌}
 use Rattle.std.proofs.KnownBytes.{Appends-kept, Appends-nil, Appends-trans}
-use Rattle.std.proofs.Math.Seq.{take-append_seam}
-use Rattle.thorin_print.specs.Answers.{HasBeginning, Comes, Grows}
-use Rattle.thorin_print.specs.declared.output.Failure.{Failure}
+use Rattle.std.{proofs.Math.Seq.take-append_seam, specs.Io.KnownBytes.Appends}
+use Rattle.thorin_print.specs.Answers.{Comes, Grows, HasBeginning}
+use Rattle.{std.specs.Io.KnownBytes.Keeps, thorin_print.specs.declared.output.Failure.Failure}
+pub use Rattle.std.proofs.KnownBytes.{Appends-kept as flushed}
 
 -- all of it is a beginning
 pub whole : (old new : Option (List ℕ)) (bytes : List ℕ) → Appends old new bytes

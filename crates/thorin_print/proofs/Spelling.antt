@@ -1,9 +1,8 @@
 -- Texts as they are spelled, and in JSON.
-use Rattle.std.proofs.Common.{◌≡◌, ℕ, List, flat_map, chars, IsUtf8, refl}
-use Rattle.std.proofs.lemmas.Bool.{false_from_ne_true}
-use Rattle.std.proofs.lemmas.Str.{IsUtf8-from_is_utf8, is_utf8-from_IsUtf8}
-use Rattle.thorin_print.specs.declared.form.Form.{Form}
-use Rattle.thorin_print.specs.Spelled.{spelled, spelled_character, spelled_byte}
+use Rattle.std.proofs.Common.{chars, flat_map, IsUtf8, List, refl, ℕ, ◌≡◌}
+use Rattle.std.proofs.lemmas.Str.{is_utf8-from_IsUtf8, IsUtf8-from_is_utf8}
+use Rattle.thorin_print.specs.Spelled.{spelled, spelled_byte, spelled_character}
+use Rattle.{std.proofs.lemmas.Bool.false_from_ne_true, thorin_print.specs.declared.form.Form.Form}
 
 -- a text
 pub spelled_text : (form : Form) (bytes name : List ℕ) → name ≡ bytes → IsUtf8 bytes

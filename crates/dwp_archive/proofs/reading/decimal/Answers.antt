@@ -1,7 +1,6 @@
-use Rattle.std.proofs.Common.{◌∙◌, ◌+◌, ◌-◌, ◌*◌, ◌==◌, ℕ, sym, ap, arith, get_or, drop}
-use Rattle.std.specs.List.{list_all}
-use Rattle.dwp_archive.specs.Headers.{decimal_from}
-use Rattle.dwp_archive.proofs.Decimals.{decimal_step, stops, digit_small, digits_fit, digits_grow}
+use Rattle.dwp_archive.proofs.Decimals.{decimal_step, digit_small, digits_fit, digits_grow, stops}
+use Rattle.std.proofs.Common.{ap, arith, drop, get_or, sym, ℕ, ◌*◌, ◌+◌, ◌-◌, ◌==◌, ◌∙◌}
+use Rattle.{dwp_archive.specs.Headers.decimal_from, std.specs.List.list_all}
 use Rattle.dwp_archive.proofs.reading.decimal.Goals as goal
 
 pub returns-then-not-is_ascii_digit-2 : goal.returns-then-not-is_ascii_digit-2

@@ -1,6 +1,5 @@
+use Rattle.std.{proofs.Common.drop, specs.List.list_any, proofs.Common.◌≡◌}
 use Rattle.{dwp_decompress.specs.Compressed.is_compressed, dwp_elf_read.specs.View.elf}
-use Rattle.std.proofs.Common.{drop, ◌≡◌}
-use Rattle.std.specs.List.{list_any}
 use Rattle.dwp_decompress.proofs.asked.has_compressed.Given as goal
 
 abbrev pub invariant-loop-i : goal.invariant-loop-i

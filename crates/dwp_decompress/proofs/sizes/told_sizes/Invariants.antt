@@ -1,6 +1,5 @@
 use Rattle.dwp_decompress.{proofs.Sections.plus, specs.Headers.told_sizes}
-use Rattle.dwp_elf_read.specs.View.{elf}
-use Rattle.std.proofs.Common.{drop, ◌≡◌}
+use Rattle.{dwp_elf_read.specs.View.elf, std.proofs.Common.drop, std.proofs.Common.◌≡◌}
 use Rattle.dwp_decompress.proofs.sizes.told_sizes.Given as goal
 
 -- those so far and those that are left are all

@@ -1,7 +1,6 @@
-use Rattle.std.proofs.Common.{◌≡◌, ◌≤◌, drop, length}
-use Rattle.std.specs.List.{list_any}
-use Rattle.dwp_elf_read.specs.View.{elf}
-use Rattle.dwp_macros.specs.Kept.{has_macros, lose, is_index}
+use Rattle.dwp_macros.specs.Kept.{has_macros, is_index, lose}
+use Rattle.std.proofs.Common.{drop, length, ◌≡◌, ◌≤◌}
+use Rattle.{dwp_elf_read.specs.View.elf, std.specs.List.list_any}
 use Rattle.dwp_macros.proofs.kept.is_changed.Given as goal
 
 -- what was found behind

@@ -1,7 +1,6 @@
 use Rattle.std.proofs.Common.{length, string_bytes, ◌≡◌}
-use Rattle.dwp_dwarf.specs.Sections.{strings_of}
-use Rattle.dwp_units.specs.Units.{units_left}
 use Rattle.thorin_executable.specs.{Paths.IsKept, Skeletons.skeletons_from, View.data_of}
+use Rattle.{dwp_dwarf.specs.Sections.strings_of, dwp_units.specs.Units.units_left}
 use Rattle.thorin_executable.proofs.listing.next_named.Given as goal
 
 -- the units so far stand for none, and the path that came last stays

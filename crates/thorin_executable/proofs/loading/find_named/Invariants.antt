@@ -1,6 +1,5 @@
-use Rattle.std.proofs.Common.{◌≡◌, find, drop}
-use Rattle.dwp_elf_read.specs.View.{elf}
-use Rattle.thorin_executable.specs.Sections.{is_used}
+use Rattle.std.proofs.Common.{drop, find, ◌≡◌}
+use Rattle.{dwp_elf_read.specs.View.elf, thorin_executable.specs.Sections.is_used}
 use Rattle.thorin_executable.proofs.loading.find_named.Given as goal
 
 -- the first of those that are left is the first of all

@@ -1,8 +1,7 @@
-use Rattle.std.proofs.Common.{◌≡◌, rules, ap, subst, drop, take}
 use Rattle.dwp_units.specs.Units.{unit_of}
-use Rattle.thorin_errors.specs.Answers.{Gives}
+use Rattle.std.proofs.Common.{ap, drop, rules, subst, take, ◌≡◌}
 use Rattle.thorin_identity.specs.Identity.{identity, part_between}
-use Rattle.thorin_identity.proofs.Parts.{root_alike}
+use Rattle.{thorin_errors.specs.Answers.Gives, thorin_identity.proofs.Parts.root_alike}
 use Rattle.thorin_identity.proofs.identity.dwo_identifier_in_range.Goals as goal
 
 pub returns-in-None-clause-meaning : goal.returns-in-None-clause-meaning

@@ -1,8 +1,7 @@
 use Rattle.std.proofs.Common.{ap, rules, subst, ◌∙◌}
-use Rattle.dwp_dwarf.specs.Attributes.{entry_of}
 use Rattle.thorin_errors.specs.Answers.{Gives}
 use Rattle.thorin_identity.specs.Identity.{numbered_identity, root_identity}
-use Rattle.thorin_identity.proofs.Parts.{numbered_is}
+use Rattle.{dwp_dwarf.specs.Attributes.entry_of, thorin_identity.proofs.Parts.numbered_is}
 use Rattle.thorin_identity.proofs.identity.root_identifier.Goals as goal
 
 pub returns-clause-meaning : goal.returns-clause-meaning

@@ -1,9 +1,8 @@
 use Rattle.dwp_dwarf.proofs.Terms.{from_at, Ok, rules, Some, subst, sym, ◌≡◌}
-use Rattle.dwp_units.specs.{AbbreviationCodes.root_code_at, Units.unit_of}
 use Rattle.dwp_dwarf.specs.Numbers.{numbered_at, numbered_of}
-use Rattle.thorin_errors.specs.Answers.{Gives}
 use Rattle.thorin_identity.specs.Identity.{DW_AT_GNU_dwo_id, with_offset}
-use Rattle.thorin_identity.proofs.Parts.{root_is}
+use Rattle.{dwp_units.specs.AbbreviationCodes.root_code_at, thorin_identity.proofs.Parts.root_is}
+use Rattle.{dwp_units.specs.Units.unit_of, thorin_errors.specs.Answers.Gives}
 use Rattle.thorin_identity.proofs.identity.root_identifier_at.Goals as goal
 
 pub returns-clause-meaning : goal.returns-clause-meaning

@@ -1,6 +1,5 @@
 use Rattle.std.proofs.Common.{string_bytes}
-use Rattle.thorin_print.proofs.Lines.{flat_map_next}
-use Rattle.thorin_output.specs.Warnings.{differing_line}
+use Rattle.{thorin_output.specs.Warnings.differing_line, thorin_print.proofs.Lines.flat_map_next}
 use Rattle.thorin_output.proofs.warnings.put_each.Goals as goal
 
 pub loop-signature-preserved : goal.loop-signature-preserved

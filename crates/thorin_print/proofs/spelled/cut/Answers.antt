@@ -1,5 +1,4 @@
-use Rattle.std.proofs.Common.{rules}
-use Rattle.thorin_print.proofs.Cuts.{is_cut}
+use Rattle.{std.proofs.Common.rules, thorin_print.proofs.Cuts.is_cut}
 use Rattle.thorin_print.proofs.spelled.cut.Goals as goal
 
 pub returns : goal.returns

@@ -1,6 +1,5 @@
-use Rattle.std.proofs.Common.{◌≡◌, drop}
-use Rattle.dwp_elf_read.specs.View.{elf}
-use Rattle.dwp_decompress.specs.Result.{result_sections, plain_contents}
+use Rattle.dwp_decompress.specs.Result.{plain_contents, result_sections}
+use Rattle.{dwp_elf_read.specs.View.elf, std.proofs.Common.drop, std.proofs.Common.◌≡◌}
 use Rattle.dwp_decompress.proofs.agree.Expected.agrees.Given as goal
 
 -- if those that are left agree, all do

@@ -1,5 +1,4 @@
-use Rattle.std.proofs.Common.{◌≡◌, ◌-◌}
-use Rattle.dwp_elf_read.specs.View.{relocations_left}
+use Rattle.{dwp_elf_read.specs.View.relocations_left, std.proofs.Common.◌-◌, std.proofs.Common.◌≡◌}
 use Rattle.dwp_elf_read.proofs.relocation.RelocationsIterator.next.Given as goal
 
 abbrev pub invariant-loop-entry : goal.invariant-loop-entry

@@ -1,8 +1,7 @@
-use Rattle.std.proofs.Common.{◌≡◌, rules, ◌∙◌, ap, arith, drop, take}
-use Rattle.std.proofs.lemmas.Grind.{common_steps}
 use Rattle.dwp_bytes.specs.Input.{section}
+use Rattle.std.proofs.Common.{ap, arith, drop, rules, take, ◌∙◌, ◌≡◌}
+use Rattle.{std.proofs.lemmas.Grind.common_steps, thorin_identity.proofs.Parts.part_within}
 use Rattle.dwp_bytes.specs.contracts.slice.SliceReaderReader.TheImpl as reader
-use Rattle.thorin_identity.proofs.Parts.{part_within}
 use Rattle.thorin_identity.proofs.ranges.RangeTables.identifier.Goals as goal
 
 pub returns-else-eq-2-clause-meaning : goal.returns-else-eq-2-clause-meaning
