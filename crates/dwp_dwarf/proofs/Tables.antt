@@ -192,21 +192,19 @@ chosen_alike : (wanted : ℕ) (f g : Input → Found) (o : Option Next)
     → ((x : Next) → o ≡ Some x → f x.1 ≡ g x.1) → chosen wanted f o ≡ chosen wanted g o
 chosen_alike wanted f g o same = grind (arith, same)
 
-look_up_steps : (wanted : ℕ) → Steps size (λ n i. declaration_within n wanted i)
-    (λ others i. next_at i >>= chosen wanted others)
-unfolding declaration_within next_at code_at
-look_up_steps wanted = record {
-  none = λ others i e. rw e refl;
-  next = λ n i. simp (bind-bind, bind-cond);
-  alike = λ f g i same. bind_alike (next_at i) (chosen wanted f) (chosen wanted g) (λ o e.
-      chosen_alike wanted f g o (λ x is. same x.1 (next_shorter i x (e ∙ ap (λ p. Ok p) is))));
-}
-
 -- it goes by the next declaration
 pub look_up : (code : ℕ) (i : Input) → declaration code i ≡ (next_at i >>= chosen code
     (declaration code))
-unfolding declaration
-look_up code i = by_step (look_up_steps code) i
+unfolding declaration declaration_within next_at code_at
+look_up code i =
+    let steps : Steps size (λ n i. declaration_within n code i) (λ others i. next_at i >>=
+    chosen code others) = record {
+      none = λ others i e. rw e refl;
+      next = λ n i. simp (bind-bind, bind-cond);
+      alike = λ f g i same. bind_alike (next_at i) (chosen code f) (chosen code g) (λ o e.
+          chosen_alike code f g o (λ x is. same x.1 (next_shorter i x (e ∙ ap (λ p. Ok p) is))));
+    } in
+    by_step steps i
 
 pub look_up-by : (code : ℕ) (i : Input) {r : Result (Option Next) ReadError} → next_at i ≡ r
     → declaration code i ≡ (r >>= chosen code (declaration code))
