@@ -27,9 +27,8 @@ use Rattle.dwp_strings.proofs.Named.{begins_there, begun_later, has_Decides, the
 use Rattle.dwp_strings.specs.Places.{IsOrdered, after_block, after_blocks, place_from}
 use Rattle.std.proofs.lemmas.List.{flat_map_more, get_or-map, get_or_past, length-map}
 use Rattle.std.proofs.lemmas.List.Sorted.{Contains-permutation, IsPermutation-insert}
-use Rattle.std.{specs.declared.alloc.AllocError.AllocError}
+use Rattle.std.{proofs.lemmas.Map.Made.is_member-filter, specs.declared.alloc.AllocError.AllocError}
 use Rattle.std.proofs.lemmas.Map.Made.{IsDistinct-from_AllPairs, is_member-Decides}
-use Rattle.std.proofs.lemmas.Map.Made.{is_member-filter}
 use Rattle.dwp_strings.specs.declared.{entries.Entries.Entries, places.Slot.Slot}
 use Rattle.std.specs.Hash.FoldHasher.{initial, mix}
 

@@ -60,13 +60,6 @@ abbrev mask_of : (ℕ → ℕ → Bool) → List ℕ → List ℕ → ℕ
 mask_of f l m = mask_l (map (top 7) (zip2 (λ a b. cond (f a b) 255 0) l m)) % 2 ^ 64
 
 module _ (f : ℕ → ℕ → Bool) (l m : List ℕ) (same : length l ≡ length m) (few : length l ≤ 64) where
-  bit : (k : ℕ) → k < length l → cond (f (get_or l k 0) (get_or m k 0)) 1 0 ≡ bit_at
-      (mask_of f l m) k
-  bit k within =
-      let tops = tops_compared w8 f l m in
-      let few_lanes = mask_l-mod (zip2 f l m) 64 in
-      grind (arith, length-zip2 f l m same, tops, few_lanes, get_or-zip2, bit_mask_l)
-
   -- the test fails below the lowest bit that is set, and passes at that bit
   first_set : (k : ℕ) → k < length l → (k < trailing_zeros w64 (mask_of f l m)
       → f (get_or l k 0) (get_or m k 0) ≡ false)
@@ -74,7 +67,10 @@ module _ (f : ℕ → ℕ → Bool) (l m : List ℕ) (same : length l ≡ length
   first_set k within =
       let low = bit_at-trailing_zeros w64 (mask_of f l m) in
       let some = cases_lt 0 (mask_of f l m) in
-      let bit = bit k within in
+      let tops = tops_compared w8 f l m in
+      let few_lanes = mask_l-mod (zip2 f l m) 64 in
+      let bit : cond (f (get_or l k 0) (get_or m k 0)) 1 0 ≡ bit_at (mask_of f l m) k =
+      grind (arith, length-zip2 f l m same, tops, few_lanes, get_or-zip2, bit_mask_l) in
       let none = trailing_of_zero 64 in
       (λ less. grind (arith, bit, low, some, none), λ is. grind (arith, bit, low, some, none))
 

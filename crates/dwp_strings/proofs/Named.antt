@@ -33,11 +33,6 @@ before_first-ended s xs free =
     let before = λ (k : ℕ). free k 0 in
     grind (arith, nat_tests, first, before, get_or_at, get_or_append_left, take_at, length-append)
 
--- the string behind some bytes
-pub string_from-ended : (front s rest : List ℕ) (n : ℕ) → length front ≡ n → IsZeroFree s
-    → string_from (front ++ (s ++ 0 ∷ rest)) n ≡ s
-string_from-ended front s rest n long free = grind (arith, drop_at, before_first-ended s rest free)
-
 pub strings_in-ended : (s xs : List ℕ) → IsZeroFree s → strings_in (s ++ 0 ∷ xs) ≡ s ∷ strings_in xs
 strings_in-ended [] xs free = refl
 strings_in-ended (b ∷ s) xs free =
@@ -213,8 +208,8 @@ pub known_offset : (ss : List (List ℕ)) (p : ℕ) → All IsZeroFree ss → Al
     × (p ≡ offset_of ss (string_from (data_of ss) p))
 known_offset [] p free apart begins = absurd (omega (arith, begins.within))
 known_offset (t ∷ ss) p free apart begins = by-bool _ (eqb p 0)
-    (λ first. let here = rw (← data_of-cons t ss)
-    at (string_from-ended [] t (data_of ss) 0 refl (All-head IsZeroFree t ss free)) in
+    (λ first. let here : string_from (data_of (t ∷ ss)) 0 ≡ t = rw data_of-cons
+    (before_first-ended t (data_of ss) (All-head IsZeroFree t ss free)) in
     rw (eqb-true p 0 first, here)
     ((0, omega arith, refl), grind (arith, bytes_eq-Decides t t)))
     (λ later. let next = begun_behind t (data_of ss) p (All-head IsZeroFree t ss free) begins
