@@ -7,7 +7,7 @@ use crate::repeats::Repeats;
 use crate::table::PackageStringTable;
 use dwp_strings::{ROUNDS, end_of, short_end};
 
-#[tactic(auto, using(std::proofs::lemmas::List::take_all))]
+#[tactic(auto, using(crate::proofs::Remapping::are_known_later, std::proofs::lemmas::List::take_all))]
 impl PackageStringTable {
     /// The offset of a string, where no table's offset is past the limit, and its length, where its
     /// end is near, if it has to be.

@@ -144,7 +144,7 @@ impl PackageStringTable {
 
     /// `remapped` of a whole range, with offsets of four bytes, the lowest first.
     #[inline(always)]
-    #[tactic(auto, unfolding(crate::specs::StringOffsets::remapped), using(std::proofs::lemmas::List::take_all))]
+    #[tactic(auto, unfolding(crate::specs::StringOffsets::remapped), using(crate::proofs::Remapping::are_known_later, std::proofs::lemmas::List::take_all))]
     pub(crate) fn remapped_words(
         &mut self,
         repeats: &mut Repeats,

@@ -1,10 +1,10 @@
 use Rattle.thorin_strings.proofs.table.PackageStringTable.remapped_words.Goals.{After-write_told-index}
 use Rattle.std.proofs.{Common.length, lemmas.List.with_items_is, lemmas.Result.err_from_is_err_and}
 use Rattle.{dwp_base.specs.declared.endian.Endianness.TheVariants.Little, std.specs.Vec.with_items}
-use Rattle.std.proofs.Common.{ap, append-nil, length-append, length-drop, length-take, rules, sym}
+use Rattle.std.proofs.Common.{ap, append-nil, length-append, length-drop, length-take, sym}
 use Rattle.std.proofs.Common.{arith, Ok, refl, take, take_all, [], ◌*◌, ◌+◌, ◌<◌, ◌∙◌, ◌≡◌, ◌≤◌}
 use Rattle.thorin_strings.proofs.table.PackageStringTable.remapped_words.Goals.{After-len-first}
-use Rattle.thorin_strings.proofs.Remapping.{are_known_later, read_fitting, remapped_refuses}
+use Rattle.thorin_strings.proofs.Remapping.{read_fitting, remapped_refuses}
 use Rattle.thorin_strings.proofs.Remapping.{entry_is, header_long, kept_more, one_written}
 use Rattle.thorin_strings.specs.StringOffsets.{remapped_entries, remapped_entry}
 use Rattle.dwp_bytes.specs.{Encoding.offset_size, StringOffsets.header_size}
@@ -35,9 +35,6 @@ loop-index-init c =
       long = grind (arith, length-append, length-take, length-drop, fits at);
       known = c.requires.known;
     }
-
-pub other_offset-requires : goal.other_offset-requires
-other_offset-requires c = search (rules, are_known_later)
 
 -- so many entries are written before the next, and that is in the range
 written : (c : goal.After-write_told-index) → AreWritten c.args.range.now.encoding
