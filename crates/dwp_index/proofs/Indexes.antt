@@ -71,7 +71,8 @@ get_or-number_rows order columns (suc n) bytes (suc r) d h =
     (get_or-number_rows order columns n (drop (4 * columns) bytes) r d (omega arith))
 
 -- what is known of the numbers of an index's fields
-pub ruleset read_numbers = (length-numbers, length-number_rows, get_or-numbers, length-drop)
+pub ruleset read_numbers =
+    (length-numbers, length-number_rows, get_or-numbers, get_or-number_rows, length-drop, nat_tests)
 
 -- one more number
 pub numbers_more : (order : Endianness) (width n : ℕ) (bytes : List ℕ) → numbers order width (n + 1)
@@ -239,12 +240,9 @@ pub among : (version n : ℕ) (columns : List ℕ) (kind : SectionKind) → kind
 among version n columns kind named = sym (is_some-position (λ x. eqb x n) 0 columns)
     ∙ ap is_some (sym (number_place version n columns kind named))
 
--- as many slots and rows as the fields say
+-- as many slots as the fields say
 pub slots-length : (u : Inside) (v : Index) → index_in u ≡ v → length v.rows ≡ u.slot_count
 slots-length u v e = rw (← e) (length-numbers u.order 4 u.slot_count u.rows.now)
-
-pub units-length : (u : Inside) (v : Index) → index_in u ≡ v → length v.offsets ≡ u.unit_count
-units-length u v e = rw (← e) (length-number_rows u.order u.column_count u.unit_count u.offsets.now)
 
 -- ---- where a look-up stops
 module _ (signatures rows : List ℕ) (x : ℕ) where

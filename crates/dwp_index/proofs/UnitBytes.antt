@@ -1,26 +1,26 @@
 -- The first unit of a section, and the header of a split compilation unit of DWARF 5, in the 32-bit
 -- format. What a reading gave of a section it gives again elsewhere, of the bytes alone that it
 -- took; so a unit is read again from its own bytes.
-use Rattle.std.proofs.Common.{get_or-drop, get_or-take, length-drop, length-take, length-take-le, ℕ}
-use Rattle.{dwp_base.proofs.Bools.by-bool, dwp_bytes.specs.Input.Input, dwp_bytes.specs.Input.after}
-use Rattle.{dwp_units.specs.declared.unit.UnitSection.UnitSection, std.proofs.lemmas.List.drop-take}
-use Rattle.dwp_units.proofs.Readings.{error_gives, test_gives, then_gives, then_split, value_gives}
-use Rattle.dwp_units.proofs.{Readings.by-result, Readings.was, Units.unit_taken, Units.units-cases}
+use Rattle.{dwp_bytes.specs.declared.error.ReadError.ReadError, dwp_index.specs.Package.encoding_in}
+use Rattle.std.proofs.Common.{Ok, [], add_assoc, ap, eqb, ltb, take-take, ◌-◌, ◌<◌, ◌∙◌, ◌≡◌, ◌⊎◌}
 use Rattle.dwp_bytes.specs.Input.{byte_at, number_at, offset_at, relocated_at, section, split_at}
-use Rattle.std.proofs.Common.{Err, Ok, [], ap, eqb, inr, leb, ltb, ltb-false, sym, ◌+◌, ◌-◌, ◌≤◌}
-use Rattle.dwp_base.specs.{Numbers.number, Reading.◌>>=◌, declared.endian.Endianness.Endianness}
-use Rattle.dwp_base.{proofs.Steps.bind-was, specs.declared.endian.Endianness.TheVariants.Little}
-use Rattle.std.proofs.Common.{Bool, Some, cond, drop, inl, refl, take, ◌<◌, ◌∙◌, ◌∷◌, ◌≡◌, ◌⊎◌}
-use Rattle.std.proofs.Common.{Result, add_assoc, drop-drop, le-ltb, slice_get, suc, take-take}
-use Rattle.std.proofs.Common.{List, arith, false, get_or, is_ok, length, lt-ltb, zero, ◌&&◌}
-use Rattle.dwp_units.specs.Units.{Unit, address_size_at, initial_length_at, unit_at, units}
-use Rattle.dwp_units.specs.Units.{newer_at, older_at, older_type_at, type_at, unit_code_at}
-use Rattle.dwp_bytes.specs.declared.error.ReadError.{ReadError, TheVariants.UnexpectedEof}
-use Rattle.{dwp_index.specs.Package.encoding_in, std.proofs.lemmas.Bool.Decides.nat_tests}
-use Rattle.dwp_bytes.specs.{Encoding.offset_size, declared.encoding.Encoding.Encoding}
-use Rattle.dwp_bytes.specs.declared.encoding.Format.{Format, TheVariants.Dwarf32}
-use Rattle.dwp_units.specs.Units.{header_at, listed, unit_type_at, units_within}
-use Rattle.dwp_units.proofs.Readings.{Gives, bind-cond}
+use Rattle.{dwp_base.specs.Numbers.number, dwp_units.specs.declared.unit.UnitSection.UnitSection}
+use Rattle.std.proofs.{Common.length-take, lemmas.Bool.Decides.nat_tests, lemmas.List.drop-take}
+use Rattle.dwp_bytes.specs.{Encoding.offset_size, Input.after, declared.encoding.Format.Format}
+use Rattle.std.proofs.Common.{Bool, Err, Some, inl, inr, suc, sym, take, zero, ◌+◌, ◌∷◌, ◌≤◌}
+use Rattle.dwp_bytes.specs.declared.encoding.{Encoding.Encoding, Format.TheVariants.Dwarf32}
+use Rattle.dwp_bytes.specs.{Input.Input, declared.error.ReadError.TheVariants.UnexpectedEof}
+use Rattle.dwp_units.specs.Units.{Unit, address_size_at, newer_at, type_at, unit_at, units}
+use Rattle.std.proofs.Common.{drop-drop, get_or, le-ltb, length-drop, ltb-false, slice_get}
+use Rattle.std.proofs.Common.{List, arith, cond, drop, false, is_ok, length, lt-ltb, refl}
+use Rattle.dwp_units.specs.Units.{initial_length_at, listed, older_type_at, unit_code_at}
+use Rattle.dwp_base.specs.{Reading.◌>>=◌, declared.endian.Endianness.TheVariants.Little}
+use Rattle.dwp_base.{proofs.Steps.bind-was, specs.declared.endian.Endianness.Endianness}
+use Rattle.dwp_units.proofs.Readings.{error_gives, test_gives, then_gives, value_gives}
+use Rattle.dwp_units.specs.Units.{header_at, older_at, unit_type_at, units_within}
+use Rattle.std.proofs.Common.{Result, get_or-drop, get_or-take, length-take-le, ℕ}
+use Rattle.dwp_units.proofs.{Readings.Gives, Units.unit_taken, Units.units-cases}
+use Rattle.dwp_units.proofs.Readings.{bind-cond, by-result, then_split, was}
 
 -- the encoding of the first of these units
 abbrev first_encoding : List (Result Unit ReadError) → Result Encoding ReadError
@@ -188,14 +188,11 @@ header_alone : (place : UnitSection) (format : Format) (whole other rest i : Inp
     → shown (header_at place format other (record i { place = q })) rest ≡ Ok u.encoding
 unfolding header_at number_at
 header_alone place format whole other rest i q u h =
-    let v = number i.order 2 i.bytes in
-    by-bool _ (ltb (length i.bytes) 2) (λ short. let never = rw short at h in absurd cc)
-    (λ enough. by-bool _ (eqb v 5) (λ five. rw (enough, five)
-    (newer_alone format whole other rest (after 2 i) (q + 2) u (rw (enough, five) at h)))
-    (λ older. by-bool _ (leb 2 v && leb v 4) (λ known. rw (enough, older, known)
-    (older_alone place format v whole other rest (after 2 i) (q + 2) u
-    (rw (enough, older, known) at h)))
-    (λ none. let never = rw (enough, older, none) at h in absurd cc)))
+    let j = after 2 i in grind (
+      arith,
+      newer_alone format whole other rest j (q + 2) u,
+      older_alone place format (number i.order 2 i.bytes) whole other rest j (q + 2) u,
+    )
 
 unit_alone : (order : Endianness) (place : UnitSection) (p : ℕ) (bytes : List ℕ)
     → Gives (Unit × Input) (unit_at place (plain order p bytes)) (λ x. (k : ℕ)

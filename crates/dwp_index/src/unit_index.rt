@@ -2,11 +2,10 @@
 #![tactic(auto, using(crate::proofs::Indexes::read_numbers), unfolding(crate::specs::Index::range_in))]
 
 ghost use Rattle.std.specs.Prelude.{◌≡◌, ◌<◌, ◌≤◌, ◌+◌, ℕ, List, length, slice_index, is_some};
-ghost use Rattle.dwp_base.specs.Reading.{Answers};
 ghost use Rattle.dwp_table.specs.Probing.{found_row, look_count};
 ghost use Rattle.dwp_table.specs.Table.{IsIndex, FindsExactly};
 ghost use Rattle.dwp_index.specs.Index.{row_in, column_place, range_in};
-ghost use Rattle.dwp_index.specs.IndexBytes.{index_of};
+ghost use Rattle.{dwp_base.specs.Reading.Answers, dwp_index.specs.IndexBytes.index_of};
 
 use crate::parsing::{after, after_rows, read_columns, read_u32_at, tail, version_of};
 use dwp_base::{ByKind, Contribution, ContributionOffset, Endianness, SectionKind};
@@ -176,6 +175,7 @@ impl<'a> UnitIndex<'a> {
     }
 
     /// The ranges of a row, counted from 1. Errors: `RowOutOfRange` past the rows.
+    #[tactic(auto, using(crate::proofs::Indexes::read_numbers), unfolding(crate::specs::Index::row_in))]
     #[inline(always)]
     pub fn row(&self, row: u32) -> Result<Row<'a>, ReadError>
         ensures { result ≡ row_in self.now row }
