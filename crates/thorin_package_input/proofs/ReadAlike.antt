@@ -1,27 +1,27 @@
 -- A package's string offsets, rewritten, read as they read before: one range is rewritten after
 -- another, and string offsets without a header, joined, are read in turn.
-use Rattle.dwp_base.specs.declared.{endian.Endianness.Endianness, section.Contribution.Contribution}
-use Rattle.std.proofs.Common.{add-mul, Err, length, length-append, length-drop, List, None, take_at}
-use Rattle.std.proofs.Common.{append_assoc, get_or, Result, slice_range, subst, sym, take, take_all}
-use Rattle.thorin_package_input.specs.PackagedOffsets.{offset_ranges, packaged_offsets, ranges_test}
+use Rattle.std.proofs.Common.{Err, Ok, drop, ltb, refl, sym, ◌%◌, ◌+◌, ◌-◌, ◌/◌, ◌∙◌, ◌∷◌, ◌≡◌, ◌≤◌}
+use Rattle.std.proofs.Common.{List, None, Some, [], arith, cond, get_or, length, take, ⊎_elim, ◌++◌}
 use Rattle.dwp_bytes.specs.StringOffsets.{entry_count, entry_in, header_size, string_at, string_in}
-use Rattle.std.proofs.Common.{arith, ℕ, [], ◌%◌, ◌*◌, ◌++◌, ◌+◌, ◌-◌, ◌/◌, ◌<◌, ◌∙◌, ◌∷◌, ◌≡◌, ◌≤◌}
-use Rattle.std.proofs.{Common.drop-drop, Common.drop_at, lemmas.Nat.row_fits, Math.Nat.div-add-mod}
-use Rattle.{dwp_index.specs.Index.Index, thorin_package_input.specs.PackagedOffsets.rewritten_from}
-use Rattle.std.proofs.Common.{ap, cond, drop, length-take-le, ltb, Ok, Option, refl, Some, ⊎_elim}
+use Rattle.std.proofs.Common.{Option, Result, add-mul, drop-drop, drop_at, length-append, take_all}
+use Rattle.std.proofs.Common.{ap, append_assoc, length-take-le, slice_range, take_at, ℕ, ◌*◌, ◌<◌}
+use Rattle.thorin_package_input.specs.PackagedOffsets.{offset_ranges, ranges_test, rewritten_from}
 use Rattle.std.proofs.lemmas.List.{at_drop_all, at_drop_more, drop-append-le, get_or_append_left}
-use Rattle.{thorin_errors.specs.Errors.ErrorValue, thorin_strings.specs.Rewritten.NamesTheSame}
-use Rattle.thorin_package_input.specs.{PackagedReading.range_bytes, ReadStrings.ReadsAlike}
+use Rattle.{dwp_base.specs.Reading.◌>>=◌, thorin_package_input.specs.PackagedReading.range_bytes}
+use Rattle.thorin_package_input.specs.{PackagedOffsets.packaged_offsets, ReadStrings.ReadsAlike}
+use Rattle.std.proofs.{Common.length-drop, Math.Nat.div-add-mod, lemmas.Bool.Decides.nat_tests}
+use Rattle.{dwp_base.specs.declared.section.Contribution.Contribution, std.proofs.Common.subst}
+use Rattle.{dwp_base.specs.declared.endian.Endianness.Endianness, dwp_index.specs.Index.Index}
+use Rattle.{dwp_bytes.specs.Encoding.offset_size, thorin_strings.specs.Rewritten.NamesTheSame}
 use Rattle.thorin_package_input.specs.PackagedReading.{PackageReadsAlike, RangeReadsAlike}
-use Rattle.std.proofs.lemmas.Bool.{cases_eq, cases_lt, Decides.nat_tests, lt-leb}
-use Rattle.thorin_package_input.proofs.Rows.{compilation_there, IsIn, type_there}
+use Rattle.std.proofs.lemmas.{Bool.cases_eq, Bool.cases_lt, Bool.lt-leb, Nat.row_fits}
+use Rattle.thorin_package_input.proofs.Rows.{IsIn, compilation_there, type_there}
+use Rattle.{dwp_base.specs.Numbers.number, thorin_errors.specs.Errors.ErrorValue}
 use Rattle.thorin_strings.proofs.Remapping.{as_error_ok, kept_more, range_named}
-use Rattle.{dwp_base.specs.Numbers.number, dwp_bytes.specs.Encoding.offset_size}
 use Rattle.dwp_bytes.specs.declared.encoding.{Encoding.Encoding, Format.Format}
 use Rattle.thorin_strings.specs.StringOffsets.{named_at, offset_at, remapped}
 use Rattle.dwp_base.proofs.Steps.{bind-was, guard-ok, same-ok}
-use Rattle.dwp_strings.specs.Strings.{data_of, IsTable}
-use Rattle.dwp_base.specs.Reading.{◌>>=◌}
+use Rattle.dwp_strings.specs.Strings.{IsTable, data_of}
 
 -- ---- what the tests say of the next range
 pub record IsNext (encoding : Encoding) (size last : ℕ) (r : Contribution)
@@ -223,104 +223,17 @@ slice_length : (bytes : List ℕ) (a b : ℕ) → a ≤ b → b ≤ length bytes
 slice_length bytes a b less within = length-take-le (b - a) (drop a bytes)
     (omega (arith, length-drop a bytes))
 
--- ---- a range that was rewritten
-pub strings_alike : (order : Endianness) (encoding : Encoding) (section bytes : List ℕ)
-    (before : List (List ℕ)) (rewritten : List ℕ) (after final : List (List ℕ))
-    → IsTable before → remapped order encoding section bytes (length bytes) before ≡ Ok
-    (rewritten, after) → IsTable final → take (length after) final ≡ after → (i : ℕ)
-    → ReadsAlike order encoding section bytes (data_of final) rewritten i
-strings_alike order encoding section bytes before rewritten after final table ok =
-    strings_again order encoding section bytes before rewritten after final
-    (range_named order encoding section bytes (length bytes) before (rewritten, after) table ok)
-
+-- ---- ranges that were rewritten
 module _ (order : Endianness) (encoding : Encoding) (section bytes : List ℕ) where
-  -- a range was rewritten, and its strings are among those in the end
-  record IsRewritten (after : List (List ℕ)) (r : Contribution) (rewritten : List ℕ) : Type 0 where
-    inside : r.offset.0 + r.size ≤ length bytes
-    old : List (List ℕ)
-    new : List (List ℕ)
-    table : IsTable old
-    ok : remapped order encoding section (range_bytes bytes r) r.size old ≡ Ok (rewritten, new)
-    still : take (length new) after ≡ new
-
-  -- it stands rewritten among what was written from a place on
-  record IsWritten (at : ℕ) (written : List ℕ) (after : List (List ℕ))
-      (r : Contribution) : Type 0 where
-    rewritten : List ℕ
-    one : IsRewritten after r rewritten
-    there : (front : List ℕ) → length front ≡ at → range_bytes (front ++ written) r ≡ rewritten
-
+  -- what was written from a place on keeps the size, and behind the bytes before that place each of
+  -- these ranges is read as before
   record AreWritten (at : ℕ) (rs : List Contribution) (before : List (List ℕ)) (written : List ℕ)
       (after : List (List ℕ)) : Type 0 where
     table : IsTable after
     kept : take (length before) after ≡ before
     size : length written + at ≡ length bytes
-    each : (r : Contribution) → IsIn r rs → IsWritten at written after r
-
-  -- a whole range keeps its length
-  same_size : (last : ℕ) (r : Contribution) (rs : List Contribution) (old new : List (List ℕ))
-      (rewritten : List ℕ) → IsNext encoding (length bytes) last r rs → NamesTheSame order encoding
-      section (range_bytes bytes r) r.size old rewritten new → length rewritten ≡ r.size
-  same_size last r rs old new rewritten next named = ⊎_elim (λ (none : r.size ≡ 0). ap length
-      (named.none none) ∙ sym none) (λ some. let parts = div-add-mod (r.size - header_size encoding)
-      (offset_size encoding.format) in omega (arith, named.long some, parts)) (cases_eq r.size 0)
-
-  module _ (at : ℕ) (x : Contribution) (xs : List Contribution) (before between : List (List ℕ))
-      (range rest : List ℕ) (after : List (List ℕ))
-      (next : IsNext encoding (length bytes) at x xs) (table : IsTable before)
-      (ok : remapped order encoding section (range_bytes bytes x) x.size before ≡ Ok
-      (range, between)) (behind : AreWritten (x.offset.0 + x.size) xs between rest after) where
-    abbrev gap : List ℕ
-    gap = slice_range bytes at x.offset.0
-
-    gap_length : length gap ≡ x.offset.0 - at
-    gap_length = slice_length bytes at x.offset.0 next.behind (omega (arith, next.inside))
-
-    same : NamesTheSame order encoding section (range_bytes bytes x) x.size before range between
-    same = range_named order encoding section (range_bytes bytes x) x.size before (range, between)
-        table ok
-
-    range_length : length range ≡ x.size
-    range_length = same_size at x xs before between range next same
-
-    here_written : IsWritten at (gap ++ range ++ rest) after x
-    here_written = record {
-      rewritten = range;
-      one = record {
-        inside = next.inside;
-        old = before;
-        new = between;
-        table = table;
-        ok = ok;
-        still = behind.kept;
-      };
-      there = λ front long.
-          let regrouped : front ++ ((gap ++ range) ++ rest) ≡ ((front ++ gap) ++ range) ++ rest =
-          simp append_assoc in
-          rw regrouped (slice_front (front ++ gap) range rest x.offset.0 (x.offset.0 + x.size)
-          (omega (arith, length-append {A = ℕ}, gap_length)) (omega (arith, range_length)));
-    }
-
-    later_written : (r : Contribution) → IsWritten (x.offset.0 + x.size) rest after r
-        → IsWritten at (gap ++ range ++ rest) after r
-    later_written r w = record {
-      rewritten = w.rewritten;
-      one = w.one;
-      there = λ front long.
-          let regrouped : front ++ ((gap ++ range) ++ rest) ≡ (front ++ (gap ++ range)) ++ rest =
-          sym (append_assoc front (gap ++ range) rest) in
-          rw regrouped (w.there (front ++ (gap ++ range))
-          (omega (arith, length-append {A = ℕ}, gap_length, range_length)));
-    }
-
-    more_written : AreWritten at (x ∷ xs) before (gap ++ range ++ rest) after
-    more_written = record {
-      table = behind.table;
-      kept = kept_more before between after same.kept behind.kept;
-      size = omega (arith, length-append {A = ℕ}, gap_length, range_length);
-      each = λ r there. ⊎_elim (λ (is : r ≡ x). rw is here_written)
-          (λ later. later_written r (behind.each r later)) there;
-    }
+    each : (r : Contribution) → IsIn r rs → (front : List ℕ) → length front ≡ at
+        → RangeReadsAlike order encoding section bytes (front ++ written) after r
 
   each_written : (rs : List Contribution) (at : ℕ) (before : List (List ℕ)) (written : List ℕ)
       (after : List (List ℕ)) → at ≤ length bytes → IsTable before → ranges_test encoding
@@ -337,27 +250,46 @@ module _ (order : Endianness) (encoding : Encoding) (section bytes : List ℕ) w
       })
   each_written (x ∷ xs) at before written after within table passed ok =
       let next = next_passed encoding (length bytes) at x xs passed in
-      let first = bind-was _ _ (written, after) ok in
-      let second = bind-was _ _ (written, after) first.2 in
-      let between = range_named order encoding section (range_bytes bytes x) x.size before first.0
-      table first.1 in
-      subst (λ p. AreWritten at (x ∷ xs) before p.0 p.1) (same-ok _ _ second.2)
-      (more_written at x xs before first.0.1 first.0.0 second.0.0 second.0.1 next table first.1
-      (each_written xs (x.offset.0 + x.size) first.0.1 second.0.0 second.0.1 next.inside
-      between.table next.others second.1))
-
-  -- ---- the range of each row
-  reads_alike : (written : List ℕ) (after : List (List ℕ)) (r : Contribution)
-      → IsWritten 0 written after r → RangeReadsAlike order encoding section bytes written after r
-  reads_alike written after r w = record {
-    inside = w.one.inside;
-    alike = λ final table kept k.
-        let count : length (range_bytes bytes r) ≡ r.size = slice_length bytes r.offset.0
-        (r.offset.0 + r.size) (omega arith) w.one.inside ∙ omega arith in
-        rw (w.there [] refl) (strings_alike order encoding section (range_bytes bytes r) w.one.old
-        w.rewritten w.one.new final w.one.table (rw count w.one.ok) table
-        (kept_more w.one.new after final w.one.still kept) k);
-  }
+      let first = bind-was {A = List ℕ × List (List ℕ)} _ _ (written, after) ok in
+      let second = bind-was {A = List ℕ × List (List ℕ)} _ _ (written, after) first.2 in
+      let range = first.0.0 in
+      let rest = second.0.0 in
+      let own = range_bytes bytes x in
+      let gap = slice_range bytes at x.offset.0 in
+      let same = range_named order encoding section own x.size before first.0 table first.1 in
+      let behind = each_written xs (x.offset.0 + x.size) first.0.1 rest second.0.1 next.inside
+      same.table next.others second.1 in
+      let gap_length = slice_length bytes at x.offset.0 next.behind (omega (arith, next.inside)) in
+      -- (a whole range keeps its length)
+      let long : length range ≡ x.size =
+      ⊎_elim (λ (none : x.size ≡ 0). ap length (same.none none) ∙ sym none) (λ some. let parts =
+      div-add-mod (x.size - header_size encoding) (offset_size encoding.format) in
+      omega (arith, same.long some, next.header, next.whole, parts)) (cases_eq x.size 0) in
+      let count : length own ≡ x.size =
+      slice_length bytes x.offset.0 (x.offset.0 + x.size) (omega arith) next.inside
+      ∙ omega arith in
+      subst (λ p. AreWritten at (x ∷ xs) before p.0 p.1) (same-ok _ _ second.2) (record {
+        table = behind.table;
+        kept = kept_more before first.0.1 second.0.1 same.kept behind.kept;
+        size = omega (arith, length-append {A = ℕ}, gap_length, long, behind.size, next.behind);
+        each = λ r there front at_front. ⊎_elim (λ (is : r ≡ x). rw is (record {
+          inside = next.inside;
+          alike = λ final final_table kept k.
+              let regrouped : front ++ ((gap ++ range) ++ rest) ≡ ((front ++ gap) ++ range) ++ rest
+              = simp append_assoc in
+              let place : length (front ++ gap) ≡ x.offset.0 =
+              omega (arith, length-append {A = ℕ}, gap_length, next.behind) in
+              rw (
+                regrouped,
+                slice_front (front ++ gap) range rest x.offset.0 (x.offset.0 + x.size) place
+                    (omega (arith, long)),
+              ) (strings_again order encoding section own before range first.0.1 final
+              (rw count same) final_table
+              (kept_more first.0.1 second.0.1 final behind.kept kept) k);
+        })) (λ later. rw (sym (append_assoc front (gap ++ range) rest))
+            (behind.each r later (front ++ (gap ++ range))
+            (omega (arith, length-append {A = ℕ}, gap_length, long, next.behind)))) there;
+      })
 
   pub package_reads_alike : (compilations types : Option Index) (before : List (List ℕ))
       (written : List ℕ) (after : List (List ℕ)) → IsTable before → packaged_offsets order encoding
@@ -372,8 +304,8 @@ module _ (order : Endianness) (encoding : Encoding) (section bytes : List ℕ) w
         table = all.table;
         kept = all.kept;
         size = omega (arith, all.size);
-        compilation_rows = λ index is number row range there has. reads_alike written after range
-            (all.each range (rw is (compilation_there index number row range there has types)));
-        type_rows = λ index is number row range there has. reads_alike written after range
-            (all.each range (rw is (type_there index number row range there has compilations)));
+        compilation_rows = λ index is number row range there has. all.each range
+            (rw is (compilation_there index number row range there has types)) [] refl;
+        type_rows = λ index is number row range there has. all.each range
+            (rw is (type_there index number row range there has compilations)) [] refl;
       }

@@ -1,20 +1,20 @@
 -- The first row that a test finds, going over the rows of an index, and the range of each row,
 -- which is among the ranges.
-use Rattle.std.proofs.Common.{nat_cmp, None, Ok, Option, refl, rules, Some, suc, sym, true, zero, ℕ}
-use Rattle.std.proofs.Common.{Bool, drop, eqb, Equal, false, get_or, inl, is_eq, length, List, map}
-use Rattle.std.proofs.lemmas.{Bool.cases_eq, Bool.Decides.nat_tests, List.drop_all, List.drop_more}
-use Rattle.thorin_package_input.specs.RowPlaces.{is_range, IsFirstWith, range_of_row, ranges_of}
-use Rattle.std.proofs.Common.{ap, arith, [], ◌&&◌, ◌+◌, ◌-◌, ◌<◌, ◌∙◌, ◌∷◌, ◌≡◌, ◌≢◌, ◌≤◌, ◌⊎◌}
+use Rattle.std.proofs.Common.{Equal, Option, arith, false, get_or, is_eq, length, nat_cmp, rules, ℕ}
+use Rattle.std.{proofs.lemmas.List.drop_all, proofs.lemmas.List.drop_more, specs.List.position_from}
+use Rattle.thorin_package_input.specs.RowPlaces.{IsFirstWith, range_of_row, ranges_of, row_by_place}
+use Rattle.std.proofs.Common.{Bool, List, None, Some, drop, refl, true, zero, ◌&&◌, ◌+◌, ◌<◌, ◌≤◌}
+use Rattle.std.proofs.Common.{Ok, [], ap, eqb, inl, map, suc, sym, ◌-◌, ◌∙◌, ◌∷◌, ◌≡◌, ◌≢◌, ◌⊎◌}
 use Rattle.std.proofs.lemmas.List.FromFn.{get_or-map-range_with_len, length-map-range_with_len}
 use Rattle.thorin_package_input.specs.PackagedOffsets.{offset_ranges, place_cmp, with_ranges}
 use Rattle.dwp_base.specs.declared.section.SectionKind.{SectionKind, TheVariants.StrOffsets}
 use Rattle.dwp_base.{proofs.Bools.by-bool, specs.declared.section.Contribution.Contribution}
 use Rattle.thorin_package_input.specs.{PackagedOffsets.with_rows, RowPlaceFields.pair_cmp}
-use Rattle.std.specs.{List.position_from, List.range_with_len, Ordering.ordering_then}
-use Rattle.thorin_package_input.specs.{RangeKeys.range_at, RowPlaces.row_by_place}
-use Rattle.std.{proofs.lemmas.Option.same_Some, specs.BTreeSet.insert_key}
-use Rattle.dwp_index.specs.Index.{Index, range_in, Ranges, row_in}
-use Rattle.std.specs.BTreeMap.{BTreeMap, get, is_at, Updates}
+use Rattle.std.specs.{BTreeSet.insert_key, List.range_with_len, Ordering.ordering_then}
+use Rattle.std.proofs.lemmas.{Bool.Decides.nat_tests, Bool.cases_eq, Option.same_Some}
+use Rattle.thorin_package_input.specs.{RangeKeys.range_at, RowPlaces.is_range}
+use Rattle.dwp_index.specs.Index.{Index, Ranges, range_in, row_in}
+use Rattle.std.specs.BTreeMap.{BTreeMap, Updates, get, is_at}
 
 -- ---- the first of f a, f (a + 1) and so on that passes a test
 module _ {X : Type 0} (t : X → Bool) (f : ℕ → X) where
@@ -174,24 +174,8 @@ pub map-insert_key : (keys : List (ℕ × ℕ)) (key : ℕ × ℕ) → map range
 map-insert_key [] key = refl
 map-insert_key (x ∷ xs) key = grind (arith, map-insert_key xs key)
 
--- ---- one row after another
-module _ (index : Index) (n : ℕ) where
-  pub rows_none : (ranges : List Contribution) → length index.offsets ≤ n
-      → with_ranges (drop n (ranges_of index StrOffsets)) ranges ≡ ranges
-  rows_none ranges past = rw (ranges_none index StrOffsets n past) refl
-
-  abbrev left : ℕ → List (ℕ × ℕ) → List Contribution
-  left k keys = with_ranges (drop k (ranges_of index StrOffsets)) (map range_at keys)
-
-  module _ (less : n < length index.offsets) (keys new : List (ℕ × ℕ)) where
-    pub row_stored : (r : Contribution) → range_of_row index StrOffsets (n + 1) ≡ Some r
-        → new ≡ insert_key pair_cmp keys (r.offset.0, r.size) → left (n + 1) new ≡ left n keys
-    row_stored r there stored =
-        rw (ranges_from index StrOffsets n less, there, stored, map-insert_key) refl
-
-    pub row_absent : range_of_row index StrOffsets (n + 1) ≡ None → new ≡ keys
-        → left (n + 1) new ≡ left n keys
-    row_absent absent same = rw (ranges_from index StrOffsets n less, absent, same) refl
+-- what is known of the ranges of rows, one row after another
+pub ruleset rows_added = (ranges_from, ranges_none, map-insert_key)
 
 -- a range is one of these
 abbrev pub IsIn : Contribution → List Contribution → Type 0

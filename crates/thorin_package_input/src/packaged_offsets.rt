@@ -4,8 +4,7 @@
 ghost use Rattle.std.specs.Prelude.{IfErr, length, map, OnOk, take, ◌≡◌, ◌≢◌};
 ghost use Rattle.thorin_package_input.specs.PackagedOffsets.{is_whole_range, packaged_offsets};
 ghost use Rattle.thorin_package_input.specs.PackagedOffsets.{ranges_test, rewritten_from};
-ghost use Rattle.std.specs.Option.{option_copied};
-ghost use Rattle.thorin_errors.specs.Answers.{Gives};
+ghost use Rattle.{std.specs.Option.option_copied, thorin_errors.specs.Answers.Gives};
 ghost use Rattle.thorin_package_input.specs.{PackagedOffsets.with_rows, RangeKeys.range_at};
 
 use crate::row_places::range_of_row;
@@ -88,6 +87,7 @@ fn rewritten(
 }
 
 /// Adds place and size of the range of each row of an index.
+#[tactic(auto, using(crate::proofs::Rows::rows_added))]
 fn add_rows(
     keys: &mut BTreeSet<(u64, u64)>,
     index: Option<&UnitIndex<'_>>,
