@@ -1,24 +1,24 @@
 -- A package's string offsets, rewritten, read as they read before: one range is rewritten after
 -- another, and string offsets without a header, joined, are read in turn.
-use Rattle.std.proofs.Common.{Err, Ok, drop, ltb, refl, sym, ◌%◌, ◌+◌, ◌-◌, ◌/◌, ◌∙◌, ◌∷◌, ◌≡◌, ◌≤◌}
-use Rattle.std.proofs.Common.{List, None, Some, [], arith, cond, get_or, length, take, ⊎_elim, ◌++◌}
+use Rattle.dwp_base.specs.declared.{endian.Endianness.Endianness, section.Contribution.Contribution}
+use Rattle.std.proofs.Common.{Err, Ok, drop, ltb, refl, sym, ◌%◌, ◌*◌, ◌+◌, ◌-◌, ◌<◌, ◌∷◌, ◌≡◌, ◌≤◌}
+use Rattle.std.proofs.Common.{append_assoc, length-append, length-drop, length-take-le, slice_range}
+use Rattle.thorin_package_input.specs.PackagedOffsets.{offset_ranges, packaged_offsets, ranges_test}
 use Rattle.dwp_bytes.specs.StringOffsets.{entry_count, entry_in, header_size, string_at, string_in}
-use Rattle.std.proofs.Common.{Option, Result, add-mul, drop-drop, drop_at, length-append, take_all}
-use Rattle.std.proofs.Common.{ap, append_assoc, length-take-le, slice_range, take_at, ℕ, ◌*◌, ◌<◌}
-use Rattle.thorin_package_input.specs.PackagedOffsets.{offset_ranges, ranges_test, rewritten_from}
+use Rattle.std.proofs.Common.{List, None, Option, Some, [], arith, cond, length, take, ⊎_elim, ◌∙◌}
 use Rattle.std.proofs.lemmas.List.{at_drop_all, at_drop_more, drop-append-le, get_or_append_left}
-use Rattle.{dwp_base.specs.Reading.◌>>=◌, thorin_package_input.specs.PackagedReading.range_bytes}
-use Rattle.thorin_package_input.specs.{PackagedOffsets.packaged_offsets, ReadStrings.ReadsAlike}
-use Rattle.std.proofs.{Common.length-drop, Math.Nat.div-add-mod, lemmas.Bool.Decides.nat_tests}
-use Rattle.{dwp_base.specs.declared.section.Contribution.Contribution, std.proofs.Common.subst}
-use Rattle.{dwp_base.specs.declared.endian.Endianness.Endianness, dwp_index.specs.Index.Index}
-use Rattle.{dwp_bytes.specs.Encoding.offset_size, thorin_strings.specs.Rewritten.NamesTheSame}
+use Rattle.{dwp_base.specs.Numbers.number, dwp_base.specs.Reading.◌>>=◌, std.proofs.Common.◌++◌}
+use Rattle.{thorin_errors.specs.Errors.ErrorValue, thorin_strings.specs.Rewritten.NamesTheSame}
+use Rattle.std.proofs.Common.{Result, add-mul, drop-drop, drop_at, get_or, subst, take_at, ℕ}
+use Rattle.{dwp_bytes.specs.declared.encoding.Encoding.Encoding, dwp_index.specs.Index.Index}
+use Rattle.{std.proofs.Common.ap, thorin_package_input.specs.PackagedOffsets.rewritten_from}
+use Rattle.thorin_package_input.specs.{PackagedReading.range_bytes, ReadStrings.ReadsAlike}
 use Rattle.thorin_package_input.specs.PackagedReading.{PackageReadsAlike, RangeReadsAlike}
-use Rattle.std.proofs.lemmas.{Bool.cases_eq, Bool.cases_lt, Bool.lt-leb, Nat.row_fits}
+use Rattle.dwp_bytes.specs.{Encoding.offset_size, declared.encoding.Format.Format}
+use Rattle.std.proofs.{Common.take_all, Math.Nat.div-add-mod, lemmas.Nat.row_fits}
+use Rattle.std.proofs.lemmas.Bool.{Decides.nat_tests, cases_eq, cases_lt, lt-leb}
 use Rattle.thorin_package_input.proofs.Rows.{IsIn, compilation_there, type_there}
-use Rattle.{dwp_base.specs.Numbers.number, thorin_errors.specs.Errors.ErrorValue}
 use Rattle.thorin_strings.proofs.Remapping.{as_error_ok, kept_more, range_named}
-use Rattle.dwp_bytes.specs.declared.encoding.{Encoding.Encoding, Format.Format}
 use Rattle.thorin_strings.specs.StringOffsets.{named_at, offset_at, remapped}
 use Rattle.dwp_base.proofs.Steps.{bind-was, guard-ok, same-ok}
 use Rattle.dwp_strings.specs.Strings.{IsTable, data_of}
@@ -117,14 +117,6 @@ number_front order format xs ys within = grind (arith, get_or_append_left)
 pub no_header : (encoding : Encoding) → encoding.version < 5 → header_size encoding ≡ 0
 no_header encoding old = rw (lt-leb 5 encoding.version old) refl
 
-count_joined : (format : Format) (n m l : ℕ) → l ≡ n * offset_size format + m
-    → (l - 0) / offset_size format ≡ n + (m - 0) / offset_size format
-count_joined format n m l e = grind arith
-
-count_alone : (format : Format) (n l : ℕ) → l ≡ n * offset_size format
-    → (l - 0) / offset_size format ≡ n
-count_alone format n l e = grind arith
-
 module _ (order : Endianness) (encoding : Encoding) (first second : List ℕ) (n : ℕ)
     (old : encoding.version < 5) (long : length first ≡ n * offset_size encoding.format) where
   abbrev width : ℕ
@@ -135,11 +127,10 @@ module _ (order : Endianness) (encoding : Encoding) (first second : List ℕ) (n
 
   count_all : entry_count encoding (length (first ++ second)) ≡ n + entry_count
       encoding (length second)
-  count_all = rw header (count_joined encoding.format n (length second) (length (first ++ second))
-      (omega (arith, length-append first second, long)))
+  count_all = rw header (grind (arith, length-append first second, long))
 
   count_first : entry_count encoding (length first) ≡ n
-  count_first = rw header (count_alone encoding.format n (length first) long)
+  count_first = rw header (grind (arith, long))
 
   -- an entry of the first
   entry_before : (i : ℕ) → i < n → entry_in order encoding (first ++ second) i ≡ entry_in order

@@ -1,20 +1,20 @@
 -- The first row that a test finds, going over the rows of an index, and the range of each row,
 -- which is among the ranges.
-use Rattle.std.proofs.Common.{Equal, Option, arith, false, get_or, is_eq, length, nat_cmp, rules, ℕ}
+use Rattle.std.{proofs.Common.◌∷◌, specs.BTreeMap.Updates, specs.BTreeMap.get, specs.BTreeMap.is_at}
 use Rattle.std.{proofs.lemmas.List.drop_all, proofs.lemmas.List.drop_more, specs.List.position_from}
 use Rattle.thorin_package_input.specs.RowPlaces.{IsFirstWith, range_of_row, ranges_of, row_by_place}
-use Rattle.std.proofs.Common.{Bool, List, None, Some, drop, refl, true, zero, ◌&&◌, ◌+◌, ◌<◌, ◌≤◌}
-use Rattle.std.proofs.Common.{Ok, [], ap, eqb, inl, map, suc, sym, ◌-◌, ◌∙◌, ◌∷◌, ◌≡◌, ◌≢◌, ◌⊎◌}
+use Rattle.std.proofs.Common.{[], ap, length, map, true, zero, ℕ, ◌-◌, ◌<◌, ◌≡◌, ◌≢◌, ◌≤◌, ◌⊎◌}
 use Rattle.std.proofs.lemmas.List.FromFn.{get_or-map-range_with_len, length-map-range_with_len}
 use Rattle.thorin_package_input.specs.PackagedOffsets.{offset_ranges, place_cmp, with_ranges}
 use Rattle.dwp_base.specs.declared.section.SectionKind.{SectionKind, TheVariants.StrOffsets}
 use Rattle.dwp_base.{proofs.Bools.by-bool, specs.declared.section.Contribution.Contribution}
-use Rattle.thorin_package_input.specs.{PackagedOffsets.with_rows, RowPlaceFields.pair_cmp}
-use Rattle.std.specs.{BTreeSet.insert_key, List.range_with_len, Ordering.ordering_then}
+use Rattle.std.proofs.Common.{Bool, Equal, Ok, arith, false, get_or, is_eq, rules, suc}
+use Rattle.std.proofs.Common.{List, None, Option, Some, drop, inl, refl, sym, ◌+◌, ◌∙◌}
 use Rattle.std.proofs.lemmas.{Bool.Decides.nat_tests, Bool.cases_eq, Option.same_Some}
-use Rattle.thorin_package_input.specs.{RangeKeys.range_at, RowPlaces.is_range}
+use Rattle.thorin_package_input.specs.{PackagedOffsets.with_rows, RowPlaces.is_range}
+use Rattle.thorin_package_input.specs.{RangeKeys.range_at, RowPlaceFields.pair_cmp}
+use Rattle.std.specs.{BTreeMap.BTreeMap, BTreeSet.insert_key, List.range_with_len}
 use Rattle.dwp_index.specs.Index.{Index, Ranges, range_in, row_in}
-use Rattle.std.specs.BTreeMap.{BTreeMap, Updates, get, is_at}
 
 -- ---- the first of f a, f (a + 1) and so on that passes a test
 module _ {X : Type 0} (t : X → Bool) (f : ℕ → X) where
@@ -126,12 +126,9 @@ ranges_none index kind n past =
     drop_all n _ (omega (arith, count))
 
 -- ---- keys of place and size
-same_key : (a b c d : ℕ) → is_eq (ordering_then (nat_cmp a b) (nat_cmp c d)) ≡ (eqb a b && eqb c d)
-same_key a b c d = grind (arith, nat_tests)
-
 pub key_test : (r range : Contribution) → is_at (pair_cmp (r.offset.0, r.size))
     (range.offset.0, range.size) ≡ is_range range (Some r)
-key_test r range = same_key r.offset.0 range.offset.0 r.size range.size
+key_test r range = grind (arith, nat_tests)
 
 -- ---- the map of those from a row on
 pub record HasFrom (rows : BTreeMap (ℕ × ℕ) ℕ) (index : Index) (kind : SectionKind)
