@@ -116,8 +116,7 @@ goes_then {i = i} p q = record {
 
 -- what was taken is no longer left
 pub goes_length : {n : ℕ} {i j : Input} → Goes n i j → length j.bytes + n ≤ length i.bytes
-goes_length {i = i} g =
-    omega (arith, g.some, g.enough, ap size g.is, length-drop g.taken i.bytes)
+goes_length {i = i} g = omega (arith, g.some, g.enough, ap size g.is, length-drop g.taken i.bytes)
 
 -- ---- the same bytes elsewhere, and with others behind them
 
@@ -346,8 +345,7 @@ module _ {first i : Input} {k value scale : ℕ}
 
   pub uleb_fails : {e : ReadError} → k < 10 → byte_at i ≡ Err e → uleb_at first ≡ Err e
   unfolding uleb_at
-  uleb_fails {e} lt read =
-      rw (whole leb_at unsigned far (Err e) lt (no_byte (9 - k) i e read)) refl
+  uleb_fails {e} lt read = rw (whole leb_at unsigned far (Err e) lt (no_byte (9 - k) i e read)) refl
 
   pub uleb_big : {b : ℕ} {j : Input} → k ≡ 9 → byte_at i ≡ Ok (b, j) → 1 < b
       → uleb_at first ≡ Err BigLeb

@@ -1,24 +1,23 @@
 -- A table of abbreviations: its readings go forward, and its lists and look-ups go by what stands
 -- first. What stands at an offset of a section.
 use Rattle.dwp_dwarf.proofs.Terms
-use Rattle.dwp_dwarf.specs.Abbreviations.{children_at, is_last, specification_at, specifications_at}
-use Rattle.dwp_units.proofs.Readings.{bind-bind, error_gives, error_reads, goes_length, value_gives}
-use Rattle.dwp_units.proofs.Readings.{bind-cond, by-result, more_gives, reads_byte, reads_sleb, was}
-use Terms.{[], ap, cond, Ok, refl, Some, suc, sym, take, zero, ℕ, ◌<◌, ◌↔◌, ◌∙◌, ◌∷◌, ◌≡◌, ◌≢◌, ◌≤◌}
-use Terms.{Goes}
-use Rattle.dwp_units.proofs.Readings.{goes_none, goes_some}
-use Terms.{arith, false, IfSome, Input, List, ltb, ne_eqb, None, Option, Result, subst, ◌++◌, ◌>>=◌}
-use Terms.{byte_at, eq-eqb, eqb, from_at, le-ltb, leb_at, length, lt-ltb, next_at, skip_at, uleb_at}
-use Terms.{declaration_at, Err, OffsetOutOfRange, past_specifications, Specification, UnexpectedEof}
-use Rattle.dwp_dwarf.specs.Abbreviations.{declaration_within, pairs_within, specifications_within}
-use Rattle.dwp_units.proofs.Readings.{reads_uleb, then_gives, then_reads, told_there, value_reads}
-use Terms.{by-bool, Declaration, declaration, eqb-false, eqb-true, ltb-false, pairs_in, ReadError}
-use Rattle.dwp_units.proofs.Readings.{Answer, by_step, Gives, goes, Reads, shorter, Steps, Takes}
-use Rattle.dwp_units.proofs.Readings.{bind_alike, some_reads, takes_then, test_gives, test_reads}
-use Rattle.{dwp_bytes.specs.Input.after, dwp_units.specs.AbbreviationCodes.code_at}
-use Rattle.dwp_dwarf.specs.Abbreviations.{constant_at, pairs_from, tag_at}
-use Rattle.{dwp_units.proofs.Readings.size, std.specs.List.AllByRecursion}
-use Rattle.dwp_dwarf.specs.Grammar.{DeclarationsLie, IsBehindOthers}
+use Rattle.dwp_dwarf.specs.Abbreviations.{children_at, constant_at, pairs_within, specifications_at}
+use Rattle.dwp_dwarf.specs.Abbreviations.{declaration_within, is_last, pairs_from, specification_at}
+use Rattle.dwp_dwarf.specs.{Abbreviations.tag_at, Grammar.DeclarationsLie, Grammar.IsBehindOthers}
+use Rattle.dwp_units.proofs.Readings.{Answer, Gives, reads_sleb, reads_uleb, some_reads, takes_then}
+use Rattle.dwp_units.proofs.Readings.{Reads, Steps, test_gives, test_reads, then_gives, value_gives}
+use Rattle.dwp_units.proofs.Readings.{Takes, value_reads}
+use Rattle.dwp_units.proofs.Readings.{bind-bind, bind-cond, by-result, by_step, reads_byte, shorter}
+use Rattle.dwp_units.proofs.Readings.{bind_alike, error_gives, error_reads, goes_length, more_gives}
+use Rattle.dwp_units.proofs.Readings.{goes, goes_none, goes_some, size, then_reads, told_there, was}
+use Rattle.{dwp_bytes.specs.Input.after, dwp_dwarf.specs.Abbreviations.specifications_within}
+use Rattle.{dwp_units.specs.AbbreviationCodes.code_at, std.specs.List.AllByRecursion}
+use Terms.{Declaration, declaration, declaration_at, OffsetOutOfRange, Specification, UnexpectedEof}
+use Terms.{ap}
+use Terms.{arith, cond, false, Goes, Input, List, ltb-false, None, refl, Some, subst, take, uleb_at}
+use Terms.{by-bool, byte_at, eqb-false, eqb-true, from_at, pairs_in, past_specifications, ReadError}
+use Terms.{eq-eqb, IfSome, le-ltb, leb_at, length, lt-ltb, ne_eqb, next_at, Option, Result, skip_at}
+use Terms.{eqb, Err, ltb, Ok, suc, sym, zero, [], ℕ, ◌++◌, ◌<◌, ◌>>=◌, ◌↔◌, ◌∙◌, ◌∷◌, ◌≡◌, ◌≢◌, ◌≤◌}
 
 -- past the end nothing stands
 pub past_end : (place : ℕ) (section : Input) → length section.bytes < place → from_at place section

@@ -104,8 +104,7 @@ left_more : (it : Relocations) (s : SectionMeaning) → entries_left it.table �
     → it.section < it.file.count → s ≡ nth it.file it.section → relocations_left it ≡ relocations_in
     it.file.image.class it.file.image.order it.target (s ∷ sections_after it.file (it.section + 1))
 unfolding relocations_left
-left_more it s none h here =
-    rw (none, sections_more it.file it.section h, ← here) refl
+left_more it s none h here = rw (none, sections_more it.file it.section h, ← here) refl
 
 -- a section that has no relocations of the target is passed over
 pub left_passed : (it : Relocations) (s : SectionMeaning) → entries_left it.table ≡ []

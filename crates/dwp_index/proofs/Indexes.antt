@@ -1,40 +1,39 @@
 -- The numbers, columns and rows of an index: numbers one after the other; reading one column after
 -- the other, and where columns stand, by the numbers that say it; what the fields of an index hold,
 -- and where a look-up ends; and the used slots of an index of distinct identifiers.
-use Rattle.std.proofs.Common.{add-zero, arith, below_more, drop-drop, is_none, length-set, zero-add}
-use Rattle.std.proofs.Common.{List, Option, Some, false, filter, lt-ltb, map-id, subst, zero, ◌++◌}
-use Rattle.std.proofs.Common.{inl, inr, ltb, map, not, suc, ◌*◌, ◌+◌, ◌-◌, ◌<◌, ◌∙◌, ◌∷◌, ◌≡◌, ◌⊎◌}
-use Rattle.std.proofs.lemmas.List.Sorted.{IsPermutation-map, IsPermutation-refl, IsPermutation-sym}
-use Rattle.std.proofs.lemmas.List.{FromFn.fill_by_all, FromFn.map-range_with_len_more, get_or_past}
-use Rattle.dwp_index.specs.{Index.Index, Naming.IsIndexOfIds, Naming.entries_of, Naming.numbered}
-use Rattle.std.proofs.lemmas.{Grind.get_or-set_at, List.Elements.filter-append, Option.same_Some}
-use Rattle.std.{proofs.Common.length-drop, specs.Option.option_and_then, specs.Option.option_or}
-use Rattle.dwp_bytes.specs.declared.error.ReadError.TheVariants.{RepeatedColumn, UnknownColumn}
-use Rattle.std.proofs.Common.{Bool, Err, None, Ok, cond, drop, eqb, refl, sym, take, true, ℕ}
-use Rattle.dwp_index.specs.{Fields.index_in, declared.unit_index.UnitIndex.TheInside.Inside}
-use Rattle.dwp_table.specs.Probing.{first_end, found_row, is_end, look_count, place, row_of}
-use Rattle.dwp_index.specs.{Index.column_place, Used.slot_at, Used.used_from, Used.used_in}
-use Rattle.dwp_base.{proofs.Bools.by-bool, specs.declared.section.SectionKind.SectionKind}
-use Rattle.dwp_bytes.specs.declared.error.ReadError.{ReadError, TheVariants.UnexpectedEof}
-use Rattle.std.proofs.Common.{add-one, append_assoc, get_or-set_other, length-append, set}
-use Rattle.std.proofs.Common.{Result, eq-eqb, find, get_or, is_some, le-ltb, length, ◌≤◌}
-use Rattle.std.specs.List.{Sorted.IsPermutation, list_any, position_from, range_with_len}
-use Rattle.dwp_base.specs.declared.{by_kind.ByKind.ByKind, endian.Endianness.Endianness}
-use Rattle.dwp_table.specs.Columns.{column_of, contribution_kinds, is_number, kind_with}
-use Rattle.std.proofs.lemmas.List.Sorted.{IsPermutation-middle, IsPermutation-push_more}
-use Rattle.std.proofs.lemmas.Bool.{Decides.nat_tests, cases_eq, false≢true, or_right}
-use Rattle.std.proofs.{Common.[], Common.ap, lemmas.List.Sorted.IsPermutation-append}
-use Rattle.dwp_index.specs.IndexBytes.{columns_at, new_column, number_rows, numbers}
-use Rattle.std.proofs.{Common.ne_eqb, Common.unwrap_or, Math.Seq.get_or-append_seam}
-use Rattle.dwp_table.specs.Table.{FindsExactly, IsHashTable, IsIndex, signature_of}
-use Rattle.dwp_base.specs.{Numbers.number, Sections.all_kinds, Sections.same_kind}
-use Rattle.std.proofs.lemmas.List.{get_or-map, length-map, set-get_or, set_split}
-use Rattle.dwp_index.specs.Entries.{compilation_entry, entries_from, type_entry}
-use Rattle.dwp_table.specs.Columns.{gnu_column, kind_of_column, standard_column}
-use Rattle.dwp_index.specs.Places.{ArePlaces, IsPlace, NO_COLUMN, place_held}
-use Rattle.dwp_table.proofs.Tables.{count_within, few_slots, finds_exactly}
 use Rattle.dwp_base.proofs.EveryKind.{is-same, same-each, same-self}
+use Rattle.dwp_base.specs.{declared.by_kind.ByKind.ByKind, Sections.all_kinds, Sections.same_kind}
+use Rattle.dwp_base.specs.{declared.endian.Endianness.Endianness, Numbers.number}
+use Rattle.dwp_base.{proofs.Bools.by-bool, specs.declared.section.SectionKind.SectionKind}
+use Rattle.dwp_bytes.specs.declared.error.ReadError.TheVariants.{RepeatedColumn, UnexpectedEof}
+use Rattle.dwp_bytes.specs.declared.error.ReadError.{ReadError, TheVariants.UnknownColumn}
+use Rattle.dwp_index.specs.Entries.{compilation_entry, entries_from, type_entry}
+use Rattle.dwp_index.specs.IndexBytes.{columns_at, new_column, number_rows, numbers}
+use Rattle.dwp_index.specs.Places.{ArePlaces, IsPlace, NO_COLUMN, place_held}
+use Rattle.dwp_index.specs.{Index.Index, Naming.entries_of, Naming.IsIndexOfIds, Naming.numbered}
+use Rattle.dwp_index.specs.{Index.column_place, Used.slot_at, Used.used_from, Used.used_in}
+use Rattle.dwp_index.specs.{declared.unit_index.UnitIndex.TheInside.Inside, Fields.index_in}
 use Rattle.dwp_table.proofs.Finding.{find_first, find_none}
+use Rattle.dwp_table.proofs.Tables.{count_within, few_slots, finds_exactly}
+use Rattle.dwp_table.specs.Columns.{column_of, is_number, kind_with}
+use Rattle.dwp_table.specs.Columns.{contribution_kinds, gnu_column, kind_of_column, standard_column}
+use Rattle.dwp_table.specs.Probing.{first_end, found_row, is_end, look_count, place, row_of}
+use Rattle.dwp_table.specs.Table.{FindsExactly, IsHashTable, IsIndex, signature_of}
+use Rattle.std.proofs.Common.{add-one, arith, inl, is_some, length-append, List, not, Option, subst}
+use Rattle.std.proofs.Common.{add-zero, append_assoc, below_more, eqb, false, lt-ltb, set, suc, ◌*◌}
+use Rattle.std.proofs.Common.{ap, drop, Err, filter, is_none, Result, take, zero-add, ◌+◌, ◌∙◌, ◌≡◌}
+use Rattle.std.proofs.Common.{cond, drop-drop, eq-eqb, find, map-id, None, refl, [], ◌++◌, ◌<◌, ◌≤◌}
+use Rattle.std.proofs.Common.{get_or, get_or-set_other, length-set, map, Some, true, unwrap_or, ◌∷◌}
+use Rattle.std.proofs.Common.{inr, le-ltb, length, length-drop, ltb, ne_eqb, sym, zero, ℕ, ◌-◌, ◌⊎◌}
+use Rattle.std.proofs.lemmas.List.Sorted.{IsPermutation-map, IsPermutation-refl, IsPermutation-sym}
+use Rattle.std.proofs.lemmas.List.Sorted.{IsPermutation-middle, IsPermutation-push_more}
+use Rattle.std.proofs.lemmas.List.{Elements.filter-append, get_or_past, Sorted.IsPermutation-append}
+use Rattle.std.proofs.lemmas.List.{FromFn.fill_by_all, FromFn.map-range_with_len_more, get_or-map}
+use Rattle.std.proofs.lemmas.{Bool.cases_eq, Bool.false≢true, Bool.or_right, Grind.get_or-set_at}
+use Rattle.std.proofs.{Common.Bool, Common.Ok, lemmas.Bool.Decides.nat_tests, lemmas.List.set_split}
+use Rattle.std.proofs.{lemmas.List.length-map, lemmas.Option.same_Some, Math.Seq.get_or-append_seam}
+use Rattle.std.specs.List.{list_any, position_from, range_with_len, Sorted.IsPermutation}
+use Rattle.std.{proofs.lemmas.List.set-get_or, specs.Option.option_and_then, specs.Option.option_or}
 
 pub length-numbers : (order : Endianness) (width n : ℕ) (bytes : List ℕ)
     → length (numbers order width n bytes) ≡ n

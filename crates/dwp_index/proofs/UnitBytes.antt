@@ -1,26 +1,25 @@
 -- The first unit of a section, and the header of a split compilation unit of DWARF 5, in the 32-bit
 -- format. What a reading gave of a section it gives again elsewhere, of the bytes alone that it
 -- took; so a unit is read again from its own bytes.
-use Rattle.{dwp_bytes.specs.declared.error.ReadError.ReadError, dwp_index.specs.Package.encoding_in}
-use Rattle.std.proofs.Common.{Ok, [], add_assoc, ap, eqb, ltb, take-take, ◌-◌, ◌<◌, ◌∙◌, ◌≡◌, ◌⊎◌}
-use Rattle.dwp_bytes.specs.Input.{byte_at, number_at, offset_at, relocated_at, section, split_at}
-use Rattle.{dwp_base.specs.Numbers.number, dwp_units.specs.declared.unit.UnitSection.UnitSection}
-use Rattle.std.proofs.{Common.length-take, lemmas.Bool.Decides.nat_tests, lemmas.List.drop-take}
-use Rattle.dwp_bytes.specs.{Encoding.offset_size, Input.after, declared.encoding.Format.Format}
-use Rattle.std.proofs.Common.{Bool, Err, Some, inl, inr, suc, sym, take, zero, ◌+◌, ◌∷◌, ◌≤◌}
+use Rattle.dwp_base.specs.declared.endian.Endianness.{Endianness, TheVariants.Little}
+use Rattle.dwp_base.{proofs.Steps.bind-was, specs.Numbers.number, specs.Reading.◌>>=◌}
+use Rattle.dwp_bytes.specs.Input.{after, byte_at, Input, number_at, relocated_at, section, split_at}
 use Rattle.dwp_bytes.specs.declared.encoding.{Encoding.Encoding, Format.TheVariants.Dwarf32}
-use Rattle.dwp_bytes.specs.{Input.Input, declared.error.ReadError.TheVariants.UnexpectedEof}
-use Rattle.dwp_units.specs.Units.{Unit, address_size_at, newer_at, type_at, unit_at, units}
-use Rattle.std.proofs.Common.{drop-drop, get_or, le-ltb, length-drop, ltb-false, slice_get}
-use Rattle.std.proofs.Common.{List, arith, cond, drop, false, is_ok, length, lt-ltb, refl}
-use Rattle.dwp_units.specs.Units.{initial_length_at, listed, older_type_at, unit_code_at}
-use Rattle.dwp_base.specs.{Reading.◌>>=◌, declared.endian.Endianness.TheVariants.Little}
-use Rattle.dwp_base.{proofs.Steps.bind-was, specs.declared.endian.Endianness.Endianness}
-use Rattle.dwp_units.proofs.Readings.{error_gives, test_gives, then_gives, value_gives}
-use Rattle.dwp_units.specs.Units.{header_at, older_at, unit_type_at, units_within}
-use Rattle.std.proofs.Common.{Result, get_or-drop, get_or-take, length-take-le, ℕ}
-use Rattle.dwp_units.proofs.{Readings.Gives, Units.unit_taken, Units.units-cases}
-use Rattle.dwp_units.proofs.Readings.{bind-cond, by-result, then_split, was}
+use Rattle.dwp_bytes.specs.declared.error.ReadError.{ReadError, TheVariants.UnexpectedEof}
+use Rattle.dwp_bytes.specs.{declared.encoding.Format.Format, Encoding.offset_size, Input.offset_at}
+use Rattle.dwp_units.proofs.Readings.{bind-cond, by-result, test_gives, then_gives, then_split, was}
+use Rattle.dwp_units.proofs.Readings.{error_gives, Gives, value_gives}
+use Rattle.dwp_units.proofs.Units.{unit_taken, units-cases}
+use Rattle.dwp_units.specs.Units.{address_size_at, initial_length_at, type_at, Unit, unit_at, units}
+use Rattle.dwp_units.specs.Units.{header_at, listed, older_at}
+use Rattle.dwp_units.specs.Units.{newer_at, older_type_at, unit_code_at, unit_type_at, units_within}
+use Rattle.std.proofs.Common.{add_assoc, drop-drop, length-take-le, ltb-false, slice_get, take-take}
+use Rattle.std.proofs.Common.{ap, is_ok, Ok, zero, [], ℕ, ◌≤◌, ◌⊎◌}
+use Rattle.std.proofs.Common.{arith, Bool, cond, drop, false, length-take, List, lt-ltb, refl, Some}
+use Rattle.std.proofs.Common.{eqb, Err, inl, inr, ltb, suc, sym, take, ◌+◌, ◌-◌, ◌<◌, ◌∙◌, ◌∷◌, ◌≡◌}
+use Rattle.std.proofs.Common.{get_or, get_or-drop, get_or-take, le-ltb, length, length-drop, Result}
+use Rattle.{dwp_index.specs.Package.encoding_in, std.proofs.lemmas.Bool.Decides.nat_tests}
+use Rattle.{dwp_units.specs.declared.unit.UnitSection.UnitSection, std.proofs.lemmas.List.drop-take}
 
 -- the encoding of the first of these units
 abbrev first_encoding : List (Result Unit ReadError) → Result Encoding ReadError

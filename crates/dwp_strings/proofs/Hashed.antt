@@ -2,35 +2,33 @@
 -- strings that are used. Strings of entries, found by their hashes, or else by their order. The
 -- hash of a string, made of blocks of sixteen bytes, and places of strings by hashes, in slots.
 use Rattle.std.proofs.Common
-use Common.{OnErr, Result, arith, false, filter, get_or, insert, length, lt-ltb, take_at, ⊎_elim}
-use Common.{Bool, List, None, OnOk, Some, drop, refl, take, zero, ◌++◌, ◌∙◌, ◌∷◌, ◌≡◌, ◌≢◌, ◌≤◌}
-use Common.{All, Err, Ok, [], ap, ltb, map, set, suc, sym, ℕ, ◌%◌, ◌*◌, ◌+◌, ◌-◌, ◌/◌, ◌<◌, ◌^◌}
-use Common.{AllPairs, Contains, get_or-take, length-append, length-take, ltb-true}
-use Common.{get_or-set_other, get_or-set_same, take-append-drop}
-use Rattle.dwp_strings.proofs.Named.{distinct_push, known_offset, offset_of-absent, there_once_used}
-use Rattle.std.proofs.lemmas.List.Edits.{get_or-insert_above, get_or-insert_at, get_or-insert_below}
+use Common.{All, arith, Bool, drop, false, List, ltb-true, None, OnOk, refl, Some, take, zero, ◌++◌}
+use Common.{AllPairs, get_or-set_other, get_or-set_same, get_or-take, length-take, take-append-drop}
+use Common.{Contains, filter, get_or, insert, length, length-append, lt-ltb, OnErr, Result, take_at}
+use Common.{Err, ltb, map, Ok, set, suc, sym, ◌%◌, ◌*◌, ◌+◌, ◌-◌, ◌/◌, ◌<◌, ◌^◌, ◌∙◌, ◌∷◌, ◌≡◌, ◌≢◌}
+use Common.{ap, [], ℕ, ⊎_elim, ◌≤◌}
+use Rattle.dwp_strings.proofs.Named.{begins_there, distinct_push, offset_of-absent, there_once_used}
+use Rattle.dwp_strings.proofs.Named.{begun_later, has_Decides, known_offset, there_later}
 use Rattle.dwp_strings.proofs.Named.{length-data_of-cons, strings_in-data_of, zero_free-strings_in}
-use Rattle.std.proofs.lemmas.{Cmp.nat_eq_equiv, Cmp.tied_itself, Map.Made.length-le_from_is_member}
-use Rattle.dwp_strings.specs.Places.{IsSlotOf, free, hash, home, place_in, place_of, shared, wide}
-use Rattle.dwp_strings.specs.Strings.{IsZeroFree, offset_of, strings_in, terminated, with_string}
-use Rattle.dwp_strings.specs.Strings.{BeginsAt, IsBefore, IsIndexed, IsPlaced, StandsAt, data_of}
-use Rattle.std.proofs.Common.{eqb-true}
-use Rattle.{dwp_bytes.specs.StringOffsets.string_from, std.proofs.lemmas.Cmp.nat_list_cmp_total}
-use Rattle.std.proofs.lemmas.List.Elements.{Contains-get_or, Contains-push_cases, filter_passes}
-use Rattle.std.proofs.lemmas.List.{Concat.flat_map-append, Elements.All-cons, Elements.All-push}
-use Rattle.std.proofs.lemmas.Bool.{Decides.Decides-eqb, cases_lt, cond-true, lt-leb}
-use Rattle.std.proofs.lemmas.List.Elements.{All-contains, All-filter, All-take}
-use Rattle.std.proofs.lemmas.List.{Edits.length-insert, Kept.AllPairs-filter, get_or_default}
-use Rattle.dwp_strings.specs.{Hashed.IsFound, Hashed.IsHashed, Hashed.held, Strings.IsTable}
-use Rattle.std.proofs.lemmas.List.{Sorted.All-permutation}
-use Rattle.dwp_strings.proofs.Named.{begins_there, begun_later, has_Decides, there_later}
-use Rattle.dwp_strings.specs.Places.{IsOrdered, after_block, after_blocks, place_from}
-use Rattle.std.proofs.lemmas.List.{flat_map_more, get_or-map, get_or_past, length-map}
-use Rattle.std.proofs.lemmas.List.Sorted.{Contains-permutation, IsPermutation-insert}
-use Rattle.std.{proofs.lemmas.Map.Made.is_member-filter, specs.declared.alloc.AllocError.AllocError}
-use Rattle.std.proofs.lemmas.Map.Made.{IsDistinct-from_AllPairs, is_member-Decides}
+use Rattle.dwp_strings.specs.Places.{after_block, IsOrdered, IsSlotOf, place_from, place_in, shared}
+use Rattle.dwp_strings.specs.Places.{after_blocks, free, hash, home, place_of, wide}
+use Rattle.dwp_strings.specs.Strings.{BeginsAt, IsBefore, IsIndexed, IsPlaced, IsZeroFree, StandsAt}
+use Rattle.dwp_strings.specs.Strings.{IsTable, offset_of, strings_in, terminated, with_string}
 use Rattle.dwp_strings.specs.declared.{entries.Entries.Entries, places.Slot.Slot}
-use Rattle.std.specs.Hash.FoldHasher.{initial, mix}
+use Rattle.dwp_strings.specs.{Hashed.held, Hashed.IsFound, Hashed.IsHashed, Strings.data_of}
+use Rattle.std.proofs.lemmas.Cmp.{nat_eq_equiv, nat_list_cmp_total, tied_itself}
+use Rattle.std.proofs.lemmas.List.Edits.{get_or-insert_above, get_or-insert_at, get_or-insert_below}
+use Rattle.std.proofs.lemmas.List.Elements.{All-cons, All-contains, All-filter, Contains-push_cases}
+use Rattle.std.proofs.lemmas.List.Elements.{All-push, All-take, Contains-get_or, filter_passes}
+use Rattle.std.proofs.lemmas.List.Sorted.{Contains-permutation, IsPermutation-insert}
+use Rattle.std.proofs.lemmas.List.{Concat.flat_map-append, length-map, Sorted.All-permutation}
+use Rattle.std.proofs.lemmas.List.{flat_map_more, get_or-map, get_or_default, get_or_past}
+use Rattle.std.proofs.lemmas.Map.Made.{IsDistinct-from_AllPairs, length-le_from_is_member}
+use Rattle.std.proofs.lemmas.Map.Made.{is_member-Decides, is_member-filter}
+use Rattle.std.proofs.lemmas.{Bool.cases_lt, Bool.cond-true, Bool.lt-leb, List.Kept.AllPairs-filter}
+use Rattle.std.{proofs.Common.eqb-true, specs.Hash.FoldHasher.initial, specs.Hash.FoldHasher.mix}
+use Rattle.std.{proofs.lemmas.Bool.Decides.Decides-eqb, specs.declared.alloc.AllocError.AllocError}
+use Rattle.{dwp_bytes.specs.StringOffsets.string_from, std.proofs.lemmas.List.Edits.length-insert}
 
 -- the state after the blocks before a place
 unfoldable pub mixed_to : List ℕ → ℕ → ℕ

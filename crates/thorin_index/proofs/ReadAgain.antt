@@ -1,39 +1,38 @@
 -- What was written is read again: numbers, items that are written alike, one after the other, the
 -- columns of an index, the whole of one whose entries passed the tests, and its rows.
-use Rattle.dwp_base.specs.declared.{endian.Endianness.Endianness, section.Contribution.Contribution}
-use Rattle.std.proofs.Common.{None, arith, drop, drop_at, false, leb, map, sym, ◌&&◌, ◌<◌, ◌^◌, ◌≡◌}
-use Rattle.std.proofs.lemmas.List.{Elements.filter_passes, get_or-map, get_or_default, length-map}
-use Rattle.std.proofs.Common.{All, Bool, ap, append_assoc, eqb, flat_map, le-ltb, lt-ltb, ℕ, ◌++◌}
-use Rattle.dwp_index.specs.IndexBytes.{columns_at, counts_of, new_column, number_rows, version_of}
-use Rattle.std.proofs.Common.{List, Ok, Option, append-nil, eq-eqb, eqb-true, is_some, suc, true}
-use Rattle.thorin_index.proofs.Held.{HavePassed, has_number, have_passed, number_of, used_known}
-use Rattle.thorin_index.specs.IndexText.{IsIndexText, numbers_bytes, row_numbers, version_bytes}
-use Rattle.thorin_index.specs.{EntryTests.tests_under, ReadRows.HasEntries, ReadRows.non_empty}
-use Rattle.std.proofs.Common.{filter, get_or, length, length-append, mul-suc, subst, ◌-◌, ◌≤◌}
-use Rattle.std.proofs.Common.{Some, [], cond, option_and_then, slice_get, unwrap_or, ◌*◌, ◌∙◌}
-use Rattle.dwp_index.specs.Index.{Index, Ranges, column_place, contribution, range_in, row_in}
-use Rattle.dwp_table.specs.{Columns.contribution_kinds, Table.AreDistinct, Table.signature_of}
-use Rattle.thorin_index.specs.IndexText.{is_used, rows_bytes, signatures_bytes, used_sections}
-use Rattle.{dwp_base.proofs.Bools.by-bool, std.proofs.lemmas.Nat.from_le_bytes-to_le_bytes_8}
-use Rattle.dwp_table.specs.{Columns.column_of, Columns.kind_of_column, Objects.identifier_of}
-use Rattle.std.proofs.lemmas.{List.Sums.count_by-le-length, Nat.from_le_bytes-to_le_bytes_4}
-use Rattle.std.proofs.lemmas.{Bool.false_from_ne_true, Iterator.Adapters.position_from-zero}
-use Rattle.std.proofs.lemmas.Nat.{from_be_bytes-to_be_bytes_4, from_be_bytes-to_be_bytes_8}
-use Rattle.dwp_bytes.specs.{Encoding.index_version_of, declared.encoding.Encoding.Encoding}
-use Rattle.thorin_index.specs.{ReadBack.index_with, declared.entry.IndexEntry.IndexEntry}
-use Rattle.{dwp_table.specs.Table.IsHashTable, thorin_index.proofs.Held.by_contribution}
-use Rattle.dwp_base.specs.declared.section.SectionKind.{SectionKind, TheVariants.Info}
-use Rattle.std.proofs.lemmas.List.Folds.{flat_map-map, list_any-append, list_any_at}
-use Rattle.dwp_base.specs.{Numbers.number, Numbers.number_bytes, Sections.rank_of}
-use Rattle.std.proofs.lemmas.List.{Quantifiers.position-Some, Sums.length-filter}
-use Rattle.thorin_index.specs.IndexText.{column_numbers, entry_ids, index_bytes}
-use Rattle.dwp_index.specs.IndexBytes.{after, index_of, is_slot_count, numbers}
-use Rattle.thorin_index.specs.Entries.{contribution_to, offset_or_0, size_or_0}
 use Rattle.dwp_base.specs.declared.endian.Endianness.TheVariants.{Big, Little}
-use Rattle.std.proofs.lemmas.Option.{get_or_from_slice_get, slice_get_within}
+use Rattle.dwp_base.specs.declared.section.SectionKind.{SectionKind, TheVariants.Info}
+use Rattle.dwp_base.specs.{declared.endian.Endianness.Endianness, Numbers.number, Sections.rank_of}
+use Rattle.dwp_base.specs.{declared.section.Contribution.Contribution, Numbers.number_bytes}
 use Rattle.dwp_index.proofs.Indexes.{is_some-position, kind_of_number}
+use Rattle.dwp_index.specs.Index.{column_place, contribution, Index, range_in, Ranges, row_in}
+use Rattle.dwp_index.specs.IndexBytes.{after, counts_of, index_of, new_column, number_rows, numbers}
+use Rattle.dwp_index.specs.IndexBytes.{columns_at, is_slot_count, version_of}
+use Rattle.dwp_table.specs.Columns.{column_of, contribution_kinds, kind_of_column}
+use Rattle.dwp_table.specs.Table.{AreDistinct, IsHashTable, signature_of}
+use Rattle.std.proofs.Common.{All, drop, eqb-true, is_some, le-ltb, List, map, map-id, Ok, ◌+◌, ◌∙◌}
+use Rattle.std.proofs.Common.{ap, cond, filter, get_or, lt-ltb, option_and_then, ◌*◌, ◌-◌, ◌^◌, ◌∷◌}
+use Rattle.std.proofs.Common.{append-nil, arith, Bool, slice_get, Some, subst, sym, true, ◌&&◌, ◌<◌}
+use Rattle.std.proofs.Common.{append_assoc, drop_at, false, length-append, None, unwrap_or, ℕ, ◌++◌}
+use Rattle.std.proofs.Common.{eqb, flat_map, leb, length, ltb, mul-suc, Option, refl, suc, ◌≡◌, ◌≤◌}
+use Rattle.std.proofs.lemmas.List.Folds.{flat_map-map, list_any-append, list_any_at}
+use Rattle.std.proofs.lemmas.List.Sums.{count_by-le-length, length-filter}
+use Rattle.std.proofs.lemmas.List.{Elements.filter_passes, get_or-map, get_or_default, length-map}
+use Rattle.std.proofs.lemmas.Nat.{from_be_bytes-to_be_bytes_4, from_be_bytes-to_be_bytes_8}
+use Rattle.std.proofs.lemmas.Nat.{from_le_bytes-to_le_bytes_4, from_le_bytes-to_le_bytes_8}
+use Rattle.std.proofs.lemmas.Option.{get_or_from_slice_get, slice_get_within}
+use Rattle.std.proofs.lemmas.{Iterator.Adapters.position_from-zero, List.Quantifiers.position-Some}
+use Rattle.std.proofs.{Common.eq-eqb, lemmas.Bool.false_from_ne_true, Common.[]}
 use Rattle.std.specs.List.{list_any, position_from, range_with_len}
-use Rattle.std.proofs.Common.{ltb, map-id, refl, ◌+◌, ◌∷◌}
+use Rattle.thorin_index.proofs.Held.{by_contribution, has_number, HavePassed, number_of, used_known}
+use Rattle.thorin_index.specs.IndexText.{column_numbers, index_bytes, row_numbers, signatures_bytes}
+use Rattle.thorin_index.specs.IndexText.{entry_ids, is_used, IsIndexText, rows_bytes, used_sections}
+use Rattle.thorin_index.specs.{Entries.contribution_to, Entries.offset_or_0, EntryTests.tests_under}
+use Rattle.thorin_index.specs.{Entries.size_or_0, IndexText.numbers_bytes, IndexText.version_bytes}
+use Rattle.thorin_index.specs.{ReadBack.index_with, ReadRows.HasEntries, ReadRows.non_empty}
+use Rattle.thorin_index.{proofs.Held.have_passed, specs.declared.entry.IndexEntry.IndexEntry}
+use Rattle.{dwp_base.proofs.Bools.by-bool, dwp_bytes.specs.declared.encoding.Encoding.Encoding}
+use Rattle.{dwp_bytes.specs.Encoding.index_version_of, dwp_table.specs.Objects.identifier_of}
 
 -- items are put in so many bytes each, in which those that fit are read again as what they are
 pub record IsPut {X Y : Type 0} (put : X → List ℕ) (read : List ℕ → Y) (is : X → Y)

@@ -2,17 +2,16 @@
 use Rattle.dwp_base.specs.Sections.{all_kinds, kind_named}
 use Rattle.dwp_elf_read.specs.Elf.{Elf, has_name, SectionMeaning, SHT_NOBITS}
 use Rattle.dwp_elf_read.specs.View.{Placed, placed_sections}
-use Rattle.std.proofs.Common.{[], ap, Ok, sym, ℕ, ◌∙◌, ◌∷◌, ◌≡◌}
-use Rattle.std.proofs.Common.{arith, Bool, false, find, Option, option_and_then, Result}
-use Rattle.std.proofs.Common.{eqb, Err, is_some, List, map, None, not, refl, Some, true, ◌&&◌, ◌||◌}
-use Rattle.std.{proofs.Math.Bool.or-false, proofs.Math.Bool.or_assoc, specs.List.list_any}
-use Rattle.thorin_errors.specs.Errors.{error_of, ErrorValue}
-use Rattle.thorin_errors.specs.{Answers.Gives, Answers.MemoryAside, declared.error.Error.Error}
-use Rattle.thorin_input.specs.Encodings.{is_index, is_plain}
+use Rattle.std.proofs.Common.{ap, Bool, eqb, find, map, None, Option, refl, Result, Some, ◌&&◌, ◌∷◌}
+use Rattle.std.proofs.Common.{arith, Err, false, is_some, List, not, Ok, sym, true, [], ℕ, ◌∙◌, ◌≡◌}
+use Rattle.std.proofs.{Common.option_and_then, Math.Bool.or-false, Math.Bool.or_assoc, Common.◌||◌}
+use Rattle.std.{proofs.lemmas.Bool.false≢true, specs.List.list_any, specs.Result.result_err}
+use Rattle.thorin_errors.specs.Answers.{Gives, MemoryAside}
+use Rattle.thorin_errors.specs.{declared.error.Error.Error, Errors.error_of, Errors.ErrorValue}
 use Rattle.thorin_input.specs.Used.{has_kind, Used, used_from, used_kind, with_used}
 use Rattle.thorin_input.specs.declared.object.{InputObject.InputObject, UsedSection.UsedSection}
-use Rattle.{dwp_index.specs.Contents.is_of_kind, std.proofs.lemmas.Bool.false≢true}
-use Rattle.{std.specs.Result.result_err, thorin_input.specs.declared.walk.UsedSections.UsedSections}
+use Rattle.thorin_input.specs.{declared.walk.UsedSections.UsedSections, Encodings.is_plain}
+use Rattle.{dwp_index.specs.Contents.is_of_kind, thorin_input.specs.Encodings.is_index}
 use Rattle.dwp_base.specs.declared.section.SectionKind.TheVariants as kinds
 use Rattle.thorin_input.specs.View as view
 

@@ -1,27 +1,26 @@
 -- A package's string offsets, rewritten, read as they read before: one range is rewritten after
 -- another, and string offsets without a header, joined, are read in turn.
-use Rattle.dwp_base.specs.declared.{endian.Endianness.Endianness, section.Contribution.Contribution}
-use Rattle.std.proofs.Common.{Err, Ok, drop, ltb, refl, sym, ◌%◌, ◌*◌, ◌+◌, ◌-◌, ◌<◌, ◌∷◌, ◌≡◌, ◌≤◌}
-use Rattle.std.proofs.Common.{append_assoc, length-append, length-drop, length-take-le, slice_range}
-use Rattle.thorin_package_input.specs.PackagedOffsets.{offset_ranges, packaged_offsets, ranges_test}
+use Rattle.dwp_base.proofs.Steps.{bind-was, guard-ok, same-ok}
+use Rattle.dwp_base.specs.{declared.endian.Endianness.Endianness, Numbers.number, Reading.◌>>=◌}
 use Rattle.dwp_bytes.specs.StringOffsets.{entry_count, entry_in, header_size, string_at, string_in}
-use Rattle.std.proofs.Common.{List, None, Option, Some, [], arith, cond, length, take, ⊎_elim, ◌∙◌}
+use Rattle.dwp_bytes.specs.declared.encoding.{Encoding.Encoding, Format.Format}
+use Rattle.dwp_strings.specs.Strings.{data_of, IsTable}
+use Rattle.std.proofs.Common.{Err, ltb, Ok, sym, [], ⊎_elim, ◌%◌, ◌*◌, ◌+◌, ◌-◌, ◌<◌, ◌∙◌, ◌∷◌, ◌≡◌}
+use Rattle.std.proofs.Common.{add-mul, drop-drop, drop_at, get_or, length, Option, Result, take_all}
+use Rattle.std.proofs.Common.{append_assoc, length-append, length-drop, length-take-le, slice_range}
+use Rattle.std.proofs.Common.{arith, cond, drop, List, None, refl, Some, subst, take, take_at, ◌++◌}
+use Rattle.std.proofs.lemmas.Bool.{cases_eq, cases_lt, Decides.nat_tests, lt-leb}
 use Rattle.std.proofs.lemmas.List.{at_drop_all, at_drop_more, drop-append-le, get_or_append_left}
-use Rattle.{dwp_base.specs.Numbers.number, dwp_base.specs.Reading.◌>>=◌, std.proofs.Common.◌++◌}
-use Rattle.{thorin_errors.specs.Errors.ErrorValue, thorin_strings.specs.Rewritten.NamesTheSame}
-use Rattle.std.proofs.Common.{Result, add-mul, drop-drop, drop_at, get_or, subst, take_at, ℕ}
-use Rattle.{dwp_bytes.specs.declared.encoding.Encoding.Encoding, dwp_index.specs.Index.Index}
-use Rattle.{std.proofs.Common.ap, thorin_package_input.specs.PackagedOffsets.rewritten_from}
-use Rattle.thorin_package_input.specs.{PackagedReading.range_bytes, ReadStrings.ReadsAlike}
+use Rattle.std.proofs.{Common.ap, lemmas.Nat.row_fits, Math.Nat.div-add-mod, Common.ℕ, Common.◌≤◌}
+use Rattle.thorin_package_input.proofs.Rows.{compilation_there, IsIn, type_there}
+use Rattle.thorin_package_input.specs.PackagedOffsets.{offset_ranges, packaged_offsets, ranges_test}
 use Rattle.thorin_package_input.specs.PackagedReading.{PackageReadsAlike, RangeReadsAlike}
-use Rattle.dwp_bytes.specs.{Encoding.offset_size, declared.encoding.Format.Format}
-use Rattle.std.proofs.{Common.take_all, Math.Nat.div-add-mod, lemmas.Nat.row_fits}
-use Rattle.std.proofs.lemmas.Bool.{Decides.nat_tests, cases_eq, cases_lt, lt-leb}
-use Rattle.thorin_package_input.proofs.Rows.{IsIn, compilation_there, type_there}
+use Rattle.thorin_package_input.specs.{PackagedOffsets.rewritten_from, PackagedReading.range_bytes}
 use Rattle.thorin_strings.proofs.Remapping.{as_error_ok, kept_more, range_named}
 use Rattle.thorin_strings.specs.StringOffsets.{named_at, offset_at, remapped}
-use Rattle.dwp_base.proofs.Steps.{bind-was, guard-ok, same-ok}
-use Rattle.dwp_strings.specs.Strings.{IsTable, data_of}
+use Rattle.{dwp_base.specs.declared.section.Contribution.Contribution, dwp_index.specs.Index.Index}
+use Rattle.{dwp_bytes.specs.Encoding.offset_size, thorin_package_input.specs.ReadStrings.ReadsAlike}
+use Rattle.{thorin_errors.specs.Errors.ErrorValue, thorin_strings.specs.Rewritten.NamesTheSame}
 
 -- ---- what the tests say of the next range
 pub record IsNext (encoding : Encoding) (size last : ℕ) (r : Contribution)

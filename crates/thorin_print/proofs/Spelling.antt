@@ -14,5 +14,4 @@ spelled_text form bytes name same text = rw (same, is_utf8-from_IsUtf8 bytes tex
 pub spelled_bytes : (form : Form) (bytes : List ℕ) → ¬ (IsUtf8 bytes)
     → flat_map (spelled_byte form) bytes ≡ spelled form bytes
 unfolding spelled
-spelled_bytes form bytes n =
-    rw (false_from_ne_true _ (λ e. n (IsUtf8-from_is_utf8 bytes e))) refl
+spelled_bytes form bytes n = rw (false_from_ne_true _ (λ e. n (IsUtf8-from_is_utf8 bytes e))) refl

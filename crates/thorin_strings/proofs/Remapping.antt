@@ -1,35 +1,34 @@
 -- Strings that are read, what is remembered of them, and entries that are rewritten one after
 -- another, while more strings come. The header of a range of string offsets, and the bytes of its
 -- entries, as they are read; what rewritten entries name, and a range of them.
-use Rattle.dwp_strings.proofs.Named.{has, read_free, string_was, there_later, there_once_used, used}
-use Rattle.std.proofs.Common.{arith, codes, drop, List, None, refl, Some, take, true, zero, ⊎_elim}
-use Rattle.std.proofs.Common.{length-append, [], ◌*◌, ◌++◌, ◌+◌, ◌-◌, ◌/◌, ◌<◌, ◌∙◌, ◌∷◌, ◌≡◌, ◌≤◌}
-use Rattle.dwp_strings.{proofs.Named.has_Decides, proofs.Named.read_later, specs.Ends.IsFirstZero}
-use Rattle.std.proofs.Common.{add-one, drop_at, eq-eqb, get_or, length, Result, suc-mul, zero-mul}
-use Rattle.std.proofs.lemmas.{Bool.cases_eq, Bool.Decides.nat_tests, Bool.eqb-false, Nat.row_fits}
-use Rattle.thorin_strings.specs.StringOffsets.{entry_at, entry_bytes, fitting_offset, header_of}
-use Rattle.std.proofs.Common.{drop-drop, eqb-true, length-take, ltb-false, take-take, take_all}
-use Rattle.std.proofs.lemmas.List.{flat_map_more, get_or_append_left, get_or_push, take_rest}
-use Rattle.thorin_strings.specs.StringOffsets.{remapped_entries, remapped_entry, string_read}
-use Rattle.dwp_base.{proofs.Bools.by-bool, specs.Numbers.number, specs.Numbers.number_bytes}
-use Rattle.std.proofs.lemmas.Nat.{from_be_bytes-to_be_bytes_4, from_be_bytes-to_be_bytes_8}
-use Rattle.std.proofs.lemmas.Nat.{from_le_bytes-to_le_bytes_4, from_le_bytes-to_le_bytes_8}
-use Rattle.thorin_strings.specs.StringOffsets.{named_at, offset_at, offset_limit, remapped}
+use Rattle.dwp_base.proofs.Steps.{bind-was, by-choice, guard-ok, same-ok}
+use Rattle.dwp_base.specs.Numbers.{number, number_bytes}
+use Rattle.dwp_base.specs.declared.endian.Endianness.TheVariants.{Big, Little}
+use Rattle.dwp_base.{proofs.Bools.by-bool, specs.declared.endian.Endianness.Endianness}
 use Rattle.dwp_bytes.specs.StringOffsets.{entry_count, entry_in, header_size, string_at}
-use Rattle.{dwp_bytes.specs.Encoding.offset_size, thorin_errors.specs.Answers.as_error}
-use Rattle.thorin_strings.specs.Known.{AreKnown, fitting_read, IsKnown, offset_read}
-use Rattle.dwp_strings.proofs.Named.{ended_free, ended_front, front_string}
 use Rattle.dwp_bytes.specs.declared.encoding.Format.TheVariants.{Dwarf32, Dwarf64}
-use Rattle.thorin_errors.specs.Errors.{ErrorValue, NumberTooLarge, OffsetAtIndex}
 use Rattle.dwp_bytes.specs.declared.encoding.{Encoding.Encoding, Format.Format}
 use Rattle.dwp_bytes.specs.declared.error.ReadError.TheVariants.{UnexpectedEof}
+use Rattle.dwp_strings.proofs.Named.{ended_free, ended_front, front_string, has_Decides, read_later}
+use Rattle.dwp_strings.proofs.Named.{has, read_free, string_was, there_later, there_once_used, used}
 use Rattle.dwp_strings.specs.Strings.{IsPlaced, IsTable, IsZeroFree, offset_of}
-use Rattle.dwp_base.specs.declared.endian.Endianness.TheVariants.{Big, Little}
-use Rattle.thorin_strings.specs.{Rewritten.NamesTheSame, Written.AreWritten}
-use Rattle.dwp_base.proofs.Steps.{bind-was, by-choice, guard-ok, same-ok}
-use Rattle.std.proofs.Common.{ap, eqb, Err, ltb, not, Ok, suc, sym, ℕ}
-use Rattle.dwp_base.specs.declared.endian.Endianness.{Endianness}
-use Rattle.std.proofs.lemmas.List.Folds.{list_any_at}
+use Rattle.std.proofs.Common.{add-one, drop_at, eq-eqb, get_or, Result, suc-mul, take_all, zero-mul}
+use Rattle.std.proofs.Common.{ap, codes, Ok, [], ℕ, ◌≡◌, ◌≤◌}
+use Rattle.std.proofs.Common.{arith, drop, length, List, None, refl, Some, take, true, zero, ⊎_elim}
+use Rattle.std.proofs.Common.{drop-drop, eqb-true, length-append, length-take, ltb-false, take-take}
+use Rattle.std.proofs.Common.{eqb, Err, ltb, not, suc, sym, ◌*◌, ◌++◌, ◌+◌, ◌-◌, ◌/◌, ◌<◌, ◌∙◌, ◌∷◌}
+use Rattle.std.proofs.lemmas.List.{flat_map_more, get_or_append_left, get_or_push, take_rest}
+use Rattle.std.proofs.lemmas.Nat.{from_be_bytes-to_be_bytes_4, from_be_bytes-to_be_bytes_8}
+use Rattle.std.proofs.lemmas.Nat.{from_le_bytes-to_le_bytes_4, from_le_bytes-to_le_bytes_8}
+use Rattle.std.proofs.lemmas.{Bool.cases_eq, Bool.Decides.nat_tests, Bool.eqb-false, Nat.row_fits}
+use Rattle.thorin_errors.specs.Errors.{ErrorValue, NumberTooLarge, OffsetAtIndex}
+use Rattle.thorin_strings.specs.Known.{AreKnown, fitting_read, IsKnown, offset_read}
+use Rattle.thorin_strings.specs.StringOffsets.{entry_at, named_at, remapped_entries, remapped_entry}
+use Rattle.thorin_strings.specs.StringOffsets.{entry_bytes, fitting_offset, header_of, offset_limit}
+use Rattle.thorin_strings.specs.StringOffsets.{offset_at, remapped, string_read}
+use Rattle.{dwp_bytes.specs.Encoding.offset_size, thorin_strings.specs.Written.AreWritten}
+use Rattle.{dwp_strings.specs.Ends.IsFirstZero, thorin_errors.specs.Answers.as_error}
+use Rattle.{std.proofs.lemmas.List.Folds.list_any_at, thorin_strings.specs.Rewritten.NamesTheSame}
 
 -- what keeps the strings before it keeps those before them
 pub kept_more : (old now new : List (List ℕ)) → take (length old) now ≡ old → take (length now) new

@@ -8,5 +8,4 @@ returns-then-len-gt16 c =
     grind (arith, mixed_first bytes, mixed_more bytes 0 16, mixed_all bytes 16)
 
 pub returns-then-len-gt8 : goal.returns-then-len-gt8
-returns-then-len-gt8 c =
-    grind (arith, mixed_first c.args.string.now, mixed_all c.args.string.now 0)
+returns-then-len-gt8 c = grind (arith, mixed_first c.args.string.now, mixed_all c.args.string.now 0)

@@ -1,6 +1,5 @@
-use Rattle.thorin_package_input.proofs.ReadAlike.{strings_again}
 use Rattle.thorin_strings.proofs.Remapping.{range_named}
-use Rattle.std.proofs.Common.{length}
+use Rattle.{std.proofs.Common.length, thorin_package_input.proofs.ReadAlike.strings_again}
 use Rattle.thorin_package_input.proofs.laws.rewritten_strings_are_read_alike.Goals as goal
 
 pub returns : goal.returns

@@ -1,5 +1,4 @@
-use Rattle.std.specs.Slice.Iter.{chunks_rest}
-use Rattle.std.proofs.Common.{◌++◌, ◌≡◌}
+use Rattle.std.{specs.Slice.Iter.chunks_rest, proofs.Common.◌++◌, proofs.Common.◌≡◌}
 use Rattle.thorin_strings.proofs.words.append_by_pieces.Given as goal
 
 abbrev pub invariant-loop-piece : goal.invariant-loop-piece

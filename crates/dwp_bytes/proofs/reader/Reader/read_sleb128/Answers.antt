@@ -91,5 +91,4 @@ overflow_add-value g c =
     omega (arith, fits c.loop.invariant.1 c.from-in-loop.result c.loop-test.true (omega arith))
 
 pub overflow_mul-scale : goal.overflow_mul-scale
-overflow_mul-scale g c =
-    omega (arith, fits c.loop.invariant.1 127 c.loop-test.true (omega arith))
+overflow_mul-scale g c = omega (arith, fits c.loop.invariant.1 127 c.loop-test.true (omega arith))
