@@ -246,9 +246,6 @@ looked_more ids old new looked x l stays last few looks = record {
   ];
 }
 
-pub none_looked : (rows looked : List ℕ) → looked ≡ [] → IsLooked [] rows looked
-none_looked rows looked e = record { length_is = ap length e; each = λ r h. absurd (omega arith) }
-
 pub one_piece : {A : Type 0} (f : A → List ℕ) (xs : List A) (i : ℕ) (d : A)
     (start old new : List ℕ) → i < length xs → old ≡ start ++ flat_map f (take i xs)
     → new ≡ old ++ f (get_or xs i d) → new ≡ start ++ flat_map f (take (i + 1) xs)

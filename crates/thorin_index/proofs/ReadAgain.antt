@@ -1,38 +1,39 @@
 -- What was written is read again: numbers, items that are written alike, one after the other, the
 -- columns of an index, the whole of one whose entries passed the tests, and its rows.
-use Rattle.dwp_base.specs.declared.endian.Endianness.TheVariants.{Big, Little}
-use Rattle.dwp_base.specs.declared.section.SectionKind.{SectionKind, TheVariants.Info}
-use Rattle.dwp_base.specs.{declared.endian.Endianness.Endianness, Numbers.number, Sections.rank_of}
-use Rattle.dwp_base.specs.{declared.section.Contribution.Contribution, Numbers.number_bytes}
-use Rattle.dwp_index.proofs.Indexes.{is_some-position, kind_of_number}
-use Rattle.dwp_index.specs.Index.{column_place, contribution, Index, range_in, Ranges, row_in}
-use Rattle.dwp_index.specs.IndexBytes.{after, counts_of, index_of, new_column, number_rows, numbers}
-use Rattle.dwp_index.specs.IndexBytes.{columns_at, is_slot_count, version_of}
-use Rattle.dwp_table.specs.Columns.{column_of, contribution_kinds, kind_of_column}
-use Rattle.dwp_table.specs.Table.{AreDistinct, IsHashTable, signature_of}
-use Rattle.std.proofs.Common.{All, drop, eqb-true, is_some, le-ltb, List, map, map-id, Ok, ◌+◌, ◌∙◌}
-use Rattle.std.proofs.Common.{ap, cond, filter, get_or, lt-ltb, option_and_then, ◌*◌, ◌-◌, ◌^◌, ◌∷◌}
-use Rattle.std.proofs.Common.{append-nil, arith, Bool, slice_get, Some, subst, sym, true, ◌&&◌, ◌<◌}
-use Rattle.std.proofs.Common.{append_assoc, drop_at, false, length-append, None, unwrap_or, ℕ, ◌++◌}
-use Rattle.std.proofs.Common.{eqb, flat_map, leb, length, ltb, mul-suc, Option, refl, suc, ◌≡◌, ◌≤◌}
-use Rattle.std.proofs.lemmas.List.Folds.{flat_map-map, list_any-append, list_any_at}
-use Rattle.std.proofs.lemmas.List.Sums.{count_by-le-length, length-filter}
-use Rattle.std.proofs.lemmas.List.{Elements.filter_passes, get_or-map, get_or_default, length-map}
-use Rattle.std.proofs.lemmas.Nat.{from_be_bytes-to_be_bytes_4, from_be_bytes-to_be_bytes_8}
-use Rattle.std.proofs.lemmas.Nat.{from_le_bytes-to_le_bytes_4, from_le_bytes-to_le_bytes_8}
-use Rattle.std.proofs.lemmas.Option.{get_or_from_slice_get, slice_get_within}
+use Rattle.dwp_base.specs.declared.{endian.Endianness.Endianness, section.Contribution.Contribution}
+use Rattle.thorin_index.specs.IndexText.{column_numbers, entry_ids, numbers_bytes, signatures_bytes}
+use Rattle.std.proofs.Common.{All, eqb, leb, ltb, suc, sym, ◌*◌, ◌+◌, ◌-◌, ◌^◌, ◌∙◌, ◌∷◌, ◌≡◌, ◌≤◌}
+use Rattle.std.proofs.Common.{Option, ap, drop_at, eqb-true, flat_map, is_some, mul-suc, unwrap_or}
+use Rattle.std.proofs.Common.{arith, eq-eqb, false, filter, get_or, le-ltb, length, lt-ltb, map-id}
+use Rattle.std.proofs.lemmas.List.{Folds.flat_map-map, Sums.count_by-le-length, Sums.length-filter}
 use Rattle.std.proofs.lemmas.{Iterator.Adapters.position_from-zero, List.Quantifiers.position-Some}
-use Rattle.std.proofs.{Common.eq-eqb, lemmas.Bool.false_from_ne_true, Common.[]}
+use Rattle.std.proofs.Common.{append-nil, append_assoc, length-append, option_and_then, slice_get}
+use Rattle.std.proofs.lemmas.List.{Elements.filter_passes, get_or-map, get_or_default, length-map}
+use Rattle.std.proofs.{Common.ℕ, lemmas.List.Folds.list_any-append, lemmas.List.Folds.list_any_at}
+use Rattle.thorin_index.{proofs.Held.has_number, proofs.Held.number_of, specs.ReadBack.index_with}
+use Rattle.{dwp_base.proofs.Bools.by-bool, dwp_base.specs.Sections.rank_of, std.proofs.Common.◌<◌}
+use Rattle.std.proofs.Common.{Bool, List, None, Some, cond, drop, refl, subst, true, ◌&&◌, ◌++◌}
+use Rattle.dwp_index.specs.Index.{Index, Ranges, column_place, contribution, range_in, row_in}
+use Rattle.dwp_index.specs.IndexBytes.{after, counts_of, is_slot_count, new_column, numbers}
+use Rattle.thorin_index.specs.{EntryTests.tests_under, declared.entry.IndexEntry.IndexEntry}
+use Rattle.dwp_bytes.specs.{Encoding.index_version_of, declared.encoding.Encoding.Encoding}
+use Rattle.std.proofs.lemmas.Nat.{from_be_bytes-to_be_bytes_4, from_le_bytes-to_le_bytes_8}
+use Rattle.std.proofs.lemmas.Nat.{from_be_bytes-to_be_bytes_8, from_le_bytes-to_le_bytes_4}
+use Rattle.thorin_index.proofs.Held.{HavePassed, by_contribution, have_passed, used_known}
+use Rattle.dwp_table.specs.{Objects.identifier_of, Table.AreDistinct, Table.signature_of}
+use Rattle.thorin_index.specs.IndexText.{IsIndexText, is_used, rows_bytes, used_sections}
+use Rattle.std.proofs.{Common.Ok, Common.[], Common.map, lemmas.Bool.false_from_ne_true}
+use Rattle.dwp_base.specs.declared.section.SectionKind.{SectionKind, TheVariants.Info}
+use Rattle.dwp_index.specs.IndexBytes.{columns_at, index_of, number_rows, version_of}
+use Rattle.dwp_table.specs.Columns.{column_of, contribution_kinds, kind_of_column}
+use Rattle.thorin_index.specs.IndexText.{index_bytes, row_numbers, version_bytes}
+use Rattle.thorin_index.specs.ReadRows.{HasContributions, HasEntries, non_empty}
+use Rattle.thorin_index.specs.Entries.{contribution_to, offset_or_0, size_or_0}
+use Rattle.dwp_base.specs.declared.endian.Endianness.TheVariants.{Big, Little}
+use Rattle.std.proofs.lemmas.Option.{get_or_from_slice_get, slice_get_within}
+use Rattle.dwp_index.proofs.Indexes.{is_some-position, kind_of_number}
 use Rattle.std.specs.List.{list_any, position_from, range_with_len}
-use Rattle.thorin_index.proofs.Held.{by_contribution, has_number, HavePassed, number_of, used_known}
-use Rattle.thorin_index.specs.IndexText.{column_numbers, index_bytes, row_numbers, signatures_bytes}
-use Rattle.thorin_index.specs.IndexText.{entry_ids, is_used, IsIndexText, rows_bytes, used_sections}
-use Rattle.thorin_index.specs.{Entries.contribution_to, Entries.offset_or_0, EntryTests.tests_under}
-use Rattle.thorin_index.specs.{Entries.size_or_0, IndexText.numbers_bytes, IndexText.version_bytes}
-use Rattle.thorin_index.specs.{ReadBack.index_with, ReadRows.HasEntries, ReadRows.non_empty}
-use Rattle.thorin_index.{proofs.Held.have_passed, specs.declared.entry.IndexEntry.IndexEntry}
-use Rattle.{dwp_base.proofs.Bools.by-bool, dwp_bytes.specs.declared.encoding.Encoding.Encoding}
-use Rattle.{dwp_bytes.specs.Encoding.index_version_of, dwp_table.specs.Objects.identifier_of}
+use Rattle.dwp_base.specs.Numbers.{number, number_bytes}
 
 -- items are put in so many bytes each, in which those that fit are read again as what they are
 pub record IsPut {X Y : Type 0} (put : X → List ℕ) (read : List ℕ → Y) (is : X → Y)
@@ -108,10 +109,6 @@ put_row order columns f = record {
 
 -- ---- columns
 
--- the numbers of columns fit their four bytes
-number_small : (version : ℕ) (kind : SectionKind) → number_of version kind < 2 ^ 32
-number_small version kind = grind arith
-
 -- a section that has a column is the one that its number names
 kind_again : (version : ℕ) (kind : SectionKind) → has_number version kind ≡ true
     → kind_of_column version (number_of version kind) ≡ Some kind
@@ -155,7 +152,7 @@ module _ (order : Endianness) (version : ℕ) (p : SectionKind → Bool)
       let one = put_4 order (number_of version) in rw (
         append_assoc,
         after_front 4 (number_bytes order 4 n) tail (one.len kind),
-        one.again kind tail (number_small version kind),
+        one.again kind tail (grind arith),
         kind_again version kind has,
         new kind has (omega arith),
       ) (later ∙ ap (λ (l : List ℕ). Ok (l, rest)) (append_assoc before (n ∷ []) _))
@@ -303,12 +300,6 @@ range_of_numbers range = grind arith
 no_range : (range : Option Contribution) → is_some range ≡ false → non_empty range ≡ None
 no_range range is = grind arith
 
--- what stands at the position that was found passes
-found_at : (p : ℕ → Bool) (xs : List ℕ) (i : ℕ) → position_from p 0 xs ≡ Some i
-    → (i < length xs) × (p (get_or xs i 0) ≡ true)
-found_at p xs i at =
-    let found = position-Some p xs i 0 (position_from-zero p xs ∙ at) in (found.0, found.1)
-
 -- a test of what is made of those of a list that pass another
 any-made : {X Y : Type 0} (p : X → Bool) (f : X → Y) (q : Y → Bool) (xs : List X)
     → list_any q (map f (filter p xs)) ≡ list_any (λ x. p x && q (f x)) xs
@@ -372,7 +363,9 @@ module _ (version : ℕ) (entries : List IndexEntry) (passed : HavePassed versio
             let absent = sym (is_some-position (λ n. eqb n c) 0 (column_numbers version kinds))
             ∙ ap is_some at in cc)))
         by (Some i) at =
-            let found = found_at (λ n. eqb n c) (column_numbers version kinds) i at in
+            let numbers = column_numbers version kinds in
+            let found = position-Some (λ n. eqb n c) numbers i 0
+            (position_from-zero (λ n. eqb n c) numbers ∙ at) in
             let less : i < length kinds =
             omega (arith, found.0, length-map kinds (number_of version)) in
             let k = get_or kinds i Info in
@@ -386,42 +379,25 @@ module _ (version : ℕ) (entries : List IndexEntry) (passed : HavePassed versio
               same,
             ) (range_of_numbers (contribution_to kind entry))
 
-    range_again : (kind : SectionKind)
-        → range_in (row_of entry) kind ≡ non_empty (contribution_to kind entry)
-    unfolding range_in column_place
-    range_again kind = range_by (column_of version kind) kind refl
-
-    row_there : (rows : List ℕ) → row_in (index_with version kinds entries rows) (r + 1) ≡ Ok
-        (row_of entry)
-    unfolding row_in
-    row_there rows =
+    entry_again : (rows : List ℕ) → HasContributions (index_with version kinds entries rows)
+        (r + 1) entry
+    unfolding row_in range_in column_place
+    entry_again rows =
         let counted : r + 1 - 1 ≡ r = omega arith in
-        let count = length-map entries (row_numbers offset_or_0 kinds) in rw (
-          counted,
-          lt-ltb 0 (r + 1) (omega arith),
-          lt-ltb r (length (map (row_numbers offset_or_0 kinds) entries))
-              (omega (arith, within, count)),
-          get_or-map (row_numbers offset_or_0 kinds) entries r entry [] within,
-          get_or-map (row_numbers size_or_0 kinds) entries r entry [] within,
-          here,
-        ) refl
-
-  entries_again : (rows : List ℕ) → IsHashTable (entry_ids entries) rows → AreDistinct
-      (entry_ids entries) → HasEntries version entries (index_with version kinds entries rows)
-  entries_again rows table distinct = record {
-    version_is = refl;
-    count = length-map entries (row_numbers offset_or_0 kinds);
-    slots = record {
-      table = table;
-      distinct = distinct;
-      beside = λ k within. get_or-map (signature_of (entry_ids entries)) rows k 0 0 within;
-    };
-    each = λ r entry at. record {
-      row = row_of entry;
-      there = row_there r entry at rows;
-      contributions = range_again r entry at;
-    };
-  }
+        let count = length-map entries (row_numbers offset_or_0 kinds) in
+        record {
+          row = row_of entry;
+          there = rw (
+            counted,
+            lt-ltb 0 (r + 1) (omega arith),
+            lt-ltb r (length (map (row_numbers offset_or_0 kinds) entries))
+                (omega (arith, within, count)),
+            get_or-map (row_numbers offset_or_0 kinds) entries r entry [] within,
+            get_or-map (row_numbers size_or_0 kinds) entries r entry [] within,
+            here,
+          ) refl;
+          contributions = λ kind. range_by (column_of version kind) kind refl;
+        }
 
 pub written_rows : (order : Endianness) (encoding : Encoding) (entries : List IndexEntry)
     (bytes : List ℕ) → tests_under encoding entries ≡ Ok tt
@@ -430,8 +406,19 @@ pub written_rows : (order : Endianness) (encoding : Encoding) (entries : List In
     → index_of order bytes ≡ Ok index → HasEntries (index_version_of encoding.version) entries index
 written_rows order encoding entries bytes tests distinct ids text index read =
     let version = index_version_of encoding.version in
-    let whole : Ok (index_with version (used_sections entries) entries text.rows) ≡ Ok index =
+    let kinds = used_sections entries in
+    let whole : Ok (index_with version kinds entries text.rows) ≡ Ok index =
     sym (index_is_read order encoding entries bytes tests ids text) ∙ read in
-    let same : index_with version (used_sections entries) entries text.rows ≡ index = cc in
-    subst (HasEntries version entries) same (entries_again version entries
-    (have_passed encoding entries tests) text.rows text.table distinct)
+    let same : index_with version kinds entries text.rows ≡ index = cc in
+    subst (HasEntries version entries) same (record {
+      version_is = refl;
+      count = length-map entries (row_numbers offset_or_0 kinds);
+      slots = record {
+        table = text.table;
+        distinct = distinct;
+        beside = λ k within.
+            get_or-map (signature_of (entry_ids entries)) text.rows k 0 0 within;
+      };
+      each = λ r entry at. entry_again version entries (have_passed encoding entries tests) r entry
+          at text.rows;
+    })

@@ -1,7 +1,7 @@
 use Rattle.std.proofs.Common.{[], arith, drop, map, refl, rules, take, ◌++◌, ◌+◌, ◌∙◌, ◌∷◌, ◌≡◌}
 use Rattle.std.proofs.Common.{length, length-take-le, replicate, take_all, take_at}
 use Rattle.std.proofs.lemmas.{Grind.common_steps, List.length-map, List.map_more}
-use Rattle.thorin_index.proofs.Held.{looked_more, none_looked}
+use Rattle.thorin_index.proofs.Held.{looked_more}
 use Rattle.dwp_table.proofs.Placing.{empty_table}
 use Rattle.thorin_index.proofs.index_writer.bucket.Goals as goal
 
@@ -13,7 +13,8 @@ loop-i-init g c =
     record {
       table = rw (c.as_mut_slice-table.ensures.value, items)
           (empty_table size c.slot_count.ensures.power c.slot_count.type_inv);
-      looked = none_looked _ _ c.in_ok-looked.ensures.items;
+      looked = rw c.in_ok-looked.ensures.items
+          (record { length_is = refl; each = λ r h. absurd (omega arith) });
     }
 
 pub loop-i-preserved : goal.loop-i-preserved
