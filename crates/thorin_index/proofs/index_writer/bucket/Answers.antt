@@ -1,8 +1,7 @@
-use Rattle.std.proofs.Common.{[], arith, drop, map, refl, rules, take, ◌++◌, ◌+◌, ◌∙◌, ◌∷◌, ◌≡◌}
-use Rattle.std.proofs.Common.{length, length-take-le, replicate, take_all, take_at}
+use Rattle.std.proofs.Common.{arith, drop, length, length-take-le, refl, replicate, rules, take_all}
+use Rattle.std.proofs.Common.{map, take, take_at, [], ◌++◌, ◌+◌, ◌∙◌, ◌∷◌, ◌≡◌}
 use Rattle.std.proofs.lemmas.{Grind.common_steps, List.length-map, List.map_more}
-use Rattle.thorin_index.proofs.Held.{looked_more}
-use Rattle.dwp_table.proofs.Placing.{empty_table}
+use Rattle.{dwp_table.proofs.Placing.empty_table, thorin_index.proofs.Held.looked_more}
 use Rattle.thorin_index.proofs.index_writer.bucket.Goals as goal
 
 pub loop-i-init : goal.loop-i-init
