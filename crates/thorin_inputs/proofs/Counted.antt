@@ -1,26 +1,27 @@
 -- What is counted of inputs: sizes of sections that are added up; places of strings, one after
 -- another, and what their strings have together; the sections that strings are named by, met one
 -- after another; and files, looked up among those that were read.
-use Rattle.std.proofs.Common.{drop, Err, leb, List, min, refl, true, zero, ◌-◌, ◌<◌, ◌^◌, ◌||◌, ◌≤◌}
-use Rattle.std.proofs.Common.{length-drop, length-take, nat_lt, Option, option_map, slice_get, ◌&&◌}
-use Rattle.std.specs.{List.position_or_len, List.range_with_len, Option.option_or, Ordering.nat_cmp}
-use Rattle.{dwp_decompress.proofs.Sections.drop_step, thorin_inputs.specs.RepetitionFields.file_cmp}
-use Rattle.thorin_inputs.specs.InnerStrings.{has_word, names, plain_content, sizes_at, string_size}
-use Rattle.thorin_inputs.specs.{InnerStrings.most_inner, UsedSections.AreBetween, UsedSections.met}
-use Rattle.std.proofs.Common.{arith, Bool, cond, false, length, None, Result, Some, subst, sum_by}
-use Rattle.thorin_inputs.specs.{InnerStrings.first_content, Repetitions.File, Repetitions.is_file}
-use Rattle.thorin_inputs.specs.{declared.overlaps.InnerStrings.InnerStrings, Overlaps.each_size}
-use Rattle.dwp_base.specs.declared.section.SectionKind.{SectionKind, TheVariants.StrOffsets}
-use Rattle.{dwp_base.proofs.Bools.by-bool, std.specs.List.list_any, std.specs.Map.lookup}
+use Rattle.std.proofs.Common.{Bool, cond, Err, leb, min, None, Some, ◌&&◌, ◌-◌, ◌<◌, ◌^◌, ◌||◌, ◌≤◌}
+use Rattle.std.proofs.Common.{drop, length-drop, length-take, nat_lt, Option, option_map, slice_get}
+use Rattle.std.proofs.lemmas.{Bool.Decides.nat_tests, Bool.eqb-true, Bool.ltb-false, List.drop_all}
+use Rattle.thorin_inputs.specs.InnerStrings.{begins_inside, first_content, has_word, plain_content}
+use Rattle.std.proofs.Common.{arith, false, length, List, refl, Result, subst, sum_by, true, zero}
+use Rattle.thorin_inputs.specs.InnerStrings.{most_inner, names, sizes_at, string_size, word_count}
+use Rattle.{std.specs.Map.lookup, thorin_inputs.specs.declared.overlaps.InnerStrings.InnerStrings}
+use Rattle.std.specs.{List.list_any, List.position_or_len, List.range_with_len, Ordering.nat_cmp}
+use Rattle.thorin_inputs.specs.{Overlaps.each_size, RepetitionFields.file_cmp, Repetitions.File}
+use Rattle.dwp_base.specs.{declared.section.SectionKind.TheVariants.StrOffsets, Numbers.number}
+use Rattle.thorin_inputs.specs.{Repetitions.is_file, UsedSections.AreBetween, UsedSections.met}
+use Rattle.{dwp_base.specs.declared.endian.Endianness.Endianness, std.specs.Option.option_or}
+use Rattle.dwp_base.{proofs.Finds.find_at, specs.declared.section.SectionKind.SectionKind}
+use Rattle.std.proofs.Common.{[], ap, eqb, ltb, Ok, suc, sym, ℕ, ◌*◌, ◌+◌, ◌∙◌, ◌∷◌, ◌≡◌}
 use Rattle.dwp_bytes.specs.{declared.error.ReadError.ReadError, StringOffsets.string_at}
-use Rattle.dwp_base.{proofs.Finds.find_at, specs.declared.endian.Endianness.Endianness}
-use Rattle.std.proofs.lemmas.List.{drop_all, Sums.sum_by-cons, Sums.sum_by-le-sum_by}
-use Rattle.std.proofs.Common.{[], ap, eqb, ltb, Ok, suc, sym, ℕ, ◌+◌, ◌∙◌, ◌∷◌, ◌≡◌}
+use Rattle.{dwp_base.proofs.Bools.by-bool, dwp_decompress.proofs.Sections.drop_step}
 use Rattle.thorin_inputs.specs.InnerPlaces.{Counts, is_counted, IsSummed, IsWithin}
-use Rattle.std.proofs.lemmas.Bool.{Decides.nat_tests, eqb-true, ltb-false}
-use Rattle.std.specs.BTreeMap.{BTreeMap, is_at, Updates as MapUpdates}
+use Rattle.std.proofs.lemmas.List.Sums.{sum_by-cons, sum_by-le-sum_by}
 use Rattle.dwp_elf_read.specs.Elf.{Elf, holds, SectionMeaning}
 use Rattle.std.specs.BTreeSet.{BTreeSet, contains, Updates}
+use Rattle.std.specs.BTreeMap.{BTreeMap, is_at, Updates as MapUpdates}
 
 abbrev left : List SectionMeaning → ℕ → ℕ
 left sections i = sum_by each_size (drop i sections)
@@ -115,12 +116,12 @@ pub record Left (it : InnerStrings) (strings : List ℕ) (size : ℕ) (rest all 
     pub file : it.file_size ≡ size
     pub both : (at : ℕ) → (is_counted it at || rest at) ≡ all at
 
-module _ (it : InnerStrings) (strings : List ℕ) (size : ℕ) (rest all : ℕ → Bool)
+module _ {it : InnerStrings} {strings : List ℕ} {size : ℕ} {rest all : ℕ → Bool}
     (left : Left it strings size rest all) where
   -- the same is left
-  pub left_same : (rest' : ℕ → Bool) → ((at : ℕ) → rest at ≡ rest' at)
+  pub left_same : {rest' : ℕ → Bool} → ((at : ℕ) → rest at ≡ rest' at)
       → Left it strings size rest' all
-  left_same rest' same = subst (λ r. Left it strings size r all) (λ i at. same at i) left
+  left_same same = subst (λ r. Left it strings size r all) (λ i at. same at i) left
 
   -- once nothing is left
   pub not_too_large : ((at : ℕ) → rest at ≡ false)
@@ -132,7 +133,7 @@ module _ (it : InnerStrings) (strings : List ℕ) (size : ℕ) (rest all : ℕ �
       grind (arith, nat_tests, rw left.same at left.within.summed, same, left.within.few, left.file)
 
   -- once some of these are counted
-  module _ (new : InnerStrings) (named rest' : ℕ → Bool) (is_past : Bool)
+  module _ {new : InnerStrings} {named : ℕ → Bool} (rest' : ℕ → Bool) {is_past : Bool}
       (more : Counts it new named is_past) (split : (at : ℕ) → rest at ≡ (named at || rest' at))
     where
       pub left_more : is_past ≡ false → Left new strings size rest' all
@@ -156,12 +157,12 @@ module _ (it : InnerStrings) (strings : List ℕ) (size : ℕ) (rest all : ℕ �
           grind (arith, nat_tests, grown, summed, past, more.past, left.file)
 
 -- one place is counted
-pub counted_one : (it new : InnerStrings) (place : ℕ) (is_past : Bool)
+pub counted_one : {it new : InnerStrings} (place : ℕ) {is_past : Bool}
     → new.strings.now ≡ it.strings.now → new.file_size ≡ it.file_size → IsSummed new
     → is_past ≡ nat_lt (most_inner it.file_size) new.size
     → ((at : ℕ) → is_counted new at ≡ (is_counted it at || eqb place at))
     → Counts it new (eqb place) is_past
-counted_one it new place is_past same file summed past all = record {
+counted_one place same file summed past all = record {
   strings = same;
   file = file;
   summed = summed;
@@ -172,21 +173,28 @@ counted_one it new place is_past same file summed past all = record {
 
 -- ---- words, one after another
 
-module _ (word : ℕ → ℕ) (inside : ℕ → Bool) (n k place at : ℕ) (below : k < n)
-    (is : place ≡ word k) where
-  abbrev Rest : Bool
-  Rest = list_any (λ i. eqb (word i) at) (range_with_len (k + 1) (n - (k + 1)))
+-- those from a number on that name a place inside a string
+abbrev pub named_from : Endianness → (step : ℕ) → (bytes strings : List ℕ) → ℕ → ℕ → Bool
+named_from order step bytes strings k at =
+    list_any (λ i. eqb (number order 4 (drop (i * step) bytes)) at)
+    (range_with_len k (word_count step (length bytes) - k)) && begins_inside strings at
 
-  abbrev From : Bool
-  From = list_any (λ i. eqb (word i) at) (range_with_len k (n - k)) && inside at
+module _ (order : Endianness) (step : ℕ) (bytes strings : List ℕ) {k place : ℕ}
+    (is : place ≡ number order 4 (drop (k * step) bytes)) (below : k < word_count
+    step (length bytes))
+  where
+    -- one that names a place inside a string
+    pub word_counted : begins_inside strings place ≡ true → (at : ℕ)
+        → named_from order step bytes strings k at
+        ≡ (eqb place at || named_from order step bytes strings (k + 1) at)
+    word_counted begins at = rw (range_step (word_count step (length bytes)) k below, ← is)
+        (grind (arith, nat_tests, begins))
 
-  -- one that names a place inside a string
-  pub word_counted : inside place ≡ true → From ≡ (eqb place at || (Rest && inside at))
-  word_counted begins = rw (range_step n k below, ← is) (grind (arith, nat_tests, begins))
-
-  -- another
-  pub word_passed : inside place ≡ false → From ≡ (Rest && inside at)
-  word_passed begins = rw (range_step n k below, ← is) (grind (arith, nat_tests, begins))
+    -- another
+    pub word_passed : begins_inside strings place ≡ false → (at : ℕ)
+        → named_from order step bytes strings k at ≡ named_from order step bytes strings (k + 1) at
+    word_passed begins at = rw (range_step (word_count step (length bytes)) k below, ← is)
+        (grind (arith, nat_tests, begins))
 
 -- ---- rows, one after another
 
@@ -199,14 +207,14 @@ row_passed p n k all below other h = rw other at (rw (range_step n k below) at h
 -- ---- sections, one after another
 
 module _ (order : Endianness) (step at : ℕ) (sections : List SectionMeaning) (i : ℕ)
-    (section : SectionMeaning) (is : slice_get sections i ≡ Some section) where
+    {section : SectionMeaning} (is : slice_get sections i ≡ Some section) where
   -- one whose words are counted
-  pub section_counted : (content : List ℕ) → holds StrOffsets section ≡ true
-      → content ≡ plain_content section → (inside : Bool)
+  pub section_counted : {content : List ℕ} (inside : Bool) → holds StrOffsets section ≡ true
+      → content ≡ plain_content section
       → (list_any (names order step at) (drop i sections) && inside)
       ≡ ((has_word order step content at && inside)
       || (list_any (names order step at) (drop (i + 1) sections) && inside))
-  section_counted content filled same inside = rw (drop_step sections i section is, filled, same)
+  section_counted inside filled same = rw (drop_step sections i section is, filled, same)
       (grind arith)
 
   -- another
@@ -255,40 +263,36 @@ met_next kind xs i s None at h =
     (λ none. rw none (sym (rw none at here) ∙ h))
 
 -- the first section of string offsets, and the last, once one more section is met
-pub between_next : (file : Elf) (i : ℕ) (s : SectionMeaning) (first behind : ℕ)
+pub between_next : {file : Elf} {i : ℕ} {s : SectionMeaning} {first behind : ℕ}
     → slice_get file.sections i ≡ Some s → AreBetween file first behind i
     → AreBetween file (cond (holds StrOffsets s && eqb behind 0) i first)
     (cond (holds StrOffsets s) (i + 1) behind) (i + 1)
-between_next file i s first behind is was =
+between_next {file = file} {i = i} {s = s} {first = first} {behind = behind} is was =
     by-bool _ (holds StrOffsets s)
-    (λ yes. by-bool _ (eqb behind 0)
-    (λ none_behind. rw (yes, none_behind) (record {
-      low = omega arith;
+    (λ yes. rw yes (record {
+      low = by-bool (cond (eqb behind 0) i first ≤ i + 1) (eqb behind 0)
+          (λ none. rw none (omega arith)) (λ some. rw some (omega (arith, was.low, was.high)));
       high = omega arith;
-      before = λ step at. sym (rw (eqb-true behind 0 none_behind) at (was.left step at));
+      before = λ step at. by-bool _ (eqb behind 0)
+          (λ none. rw none (sym (rw (eqb-true behind 0 none) at (was.left step at))))
+          (λ some. rw some (was.before step at));
       left = λ step at. refl;
     }))
-    (λ some. rw (yes, some) (record {
-      low = omega (arith, was.low, was.high);
-      high = omega arith;
-      before = was.before;
-      left = λ step at. refl;
-    })))
     (λ other. rw other (record {
       low = was.low;
       high = omega (arith, was.high);
       before = was.before;
-      left = λ step at. was.left step at
-          ∙ section_passed file.order step at file.sections i s is other;
+      left = λ step at. was.left step at ∙ section_passed file.order step at
+          file.sections i is other;
     }))
 
 -- ---- files that were read
 
-file_test : (x y : File) → is_at (file_cmp x) y ≡ is_file x y
-file_test x y = grind (arith, nat_tests)
-
 pub file_tests : (λ (x : File). is_at (file_cmp x)) ≡ is_file
-file_tests = λ i x y. file_test x y i
+file_tests =
+    let test : (x y : File) → is_at (file_cmp x) y ≡ is_file x y = λ x y.
+    grind (arith, nat_tests) in
+    λ i x y. test x y i
 
 -- one more
 pub noted_at : (old new : BTreeMap File ℕ) (key : File) (input : ℕ)

@@ -126,10 +126,10 @@ parted es ordered text i j d le lt h =
     upto-trans (From es i d) (From es j d) text (rising es ordered i j d le lt) h
 
 -- one more
-pub nested-more : (es : Entries) (inner : List ℕ) (count place : ℕ) (e : Entry)
+pub nested-more : {es : Entries} {inner : List ℕ} {count place : ℕ} (e : Entry)
     → AreNested es inner count → length inner ≡ count → count < length es
     → IsPastLast es count (From es count e) place → AreNested es (inner ++ place ∷ []) (count + 1)
-nested-more es inner count place e nested long short past = record {
+nested-more {es} {inner} {count} {place} e nested long short past = record {
   known = omega (arith, long, length_push inner place);
   past = λ i d lt. by-bool _ (eqb i count)
       (λ same. rw (
@@ -299,8 +299,8 @@ module _ (path : List ℕ) where
       rw (missed, longer-none best)
       (none-fits es best (λ k d lt. h (suc k) d (omega (arith, lt))))
 
-  module _ (words : List (Bor (List ℕ))) (es : Entries) (are : AreOf words es)
-      (ordered : IsOrdered es) (count place : ℕ) (inside : count ≤ length es)
+  module _ {words : List (Bor (List ℕ))} {es : Entries} (are : AreOf words es)
+      (ordered : IsOrdered es) {count place : ℕ} (inside : count ≤ length es)
       (above : AllWithin (λ e. is_upto e.0.now path ≡ false) es count (length es))
       (past : IsPastLast es count path place) where
     others : AllWithin (λ e. begins e.0.now path ≡ false) es place (length es)
@@ -342,7 +342,7 @@ module _ (path : List ℕ) where
 
 -- ---- a word more
 
-module _ (words : List (Bor (List ℕ))) (word : Bor (List ℕ)) (entries : Entries)
+module _ {words : List (Bor (List ℕ))} (word : Bor (List ℕ)) {entries : Entries}
     (are : AreOf words entries) where
   more : (path : List ℕ) → longest (words ++ word ∷ []) path
       ≡ longer (longest words path) (replaced path word.now)
@@ -355,11 +355,11 @@ module _ (words : List (Bor (List ℕ))) (word : Bor (List ℕ)) (entries : Entr
     alike = λ path. more path ∙ rw none (longer-none (longest words path)) ∙ are.alike path;
   }
 
-  pub put : (from to : Bor (List ℕ)) (new : Entries) → has_equals word.now ≡ true
+  pub put : (from to : Bor (List ℕ)) {new : Entries} → has_equals word.now ≡ true
       → from.now ≡ from_of word.now → to.now ≡ to_of word.now → IsOrdered entries
       → new ≡ insert_entry order entries from to → AreOf (words ++ word ∷ []) new
   unfolding replaced
-  put from to new equals is_from is_to ordered is = record {
+  put from to equals is_from is_to ordered is = record {
     alike = λ path.
         let same : replaced path word.now ≡ by_entry path (from, to) =
         rw (equals, ← is_from, ← is_to) refl in

@@ -8,8 +8,7 @@ use Rattle.thorin_inputs.proofs.overlaps.UsedSections.of.Goals as goal
 
 pub loop-i-preserved : goal.loop-i-preserved
 loop-i-preserved c =
-    let file = elf c.args.file.now in
-    let xs = file.sections in
+    let xs = (elf c.args.file.now).sections in
     let i = c.loop-i.i in
     let old = c.loop-i.used in
     let was = c.loop-i.invariant in
@@ -25,7 +24,7 @@ loop-i-preserved c =
             types = rw (← w.add.ensures.types) at
                 (met_next TuIndex xs i s (option_copied old.types) at was.types);
             offsets = rw (← w.add.ensures.first, ← w.add.ensures.behind) at
-                (between_next file i s old.first_offsets old.behind_offsets at was.offsets);
+                (between_next at was.offsets);
           })
           )
       | in_default w ↦ absurd (slice_get_none xs i (omega arith) (sym w.in_default.ensures.found))

@@ -19,8 +19,8 @@ past_last-place-requires-clause-before c =
 pub returns-in_err-checked_sub : goal.returns-in_err-checked_sub
 returns-in_err-checked_sub c =
     let it = c.args.self.now in
-    rw c.from_residual.ensures (none c.args.path.now it.words.now it.last.items it.are it.ordered
-    _ _ (rw c.deref.ensures.value at c.count_upto-count.ensures.bound)
+    rw c.from_residual.ensures (none c.args.path.now it.are it.ordered
+    (rw c.deref.ensures.value at c.count_upto-count.ensures.bound)
     (rw c.deref.ensures.value at c.count_upto-count.ensures.point).1
     (rw c.deref-2.ensures.value at c.past_last-place.ensures)
     (omega (arith, c.in_err-checked_sub.ensures)))
@@ -44,7 +44,7 @@ returns c =
     let at : slice_get it.last.items (c.past_last-place.result - 1) ≡ Some entry =
     grind (arith, common_steps, gets) in
     let cases = c.in_ok-strip_prefix.ensures.cases in
-    last c.args.path.now it.words.now it.last.items it.are it.ordered _ _
+    last c.args.path.now it.are it.ordered
     (rw c.deref.ensures.value at c.count_upto-count.ensures.bound)
     (rw c.deref.ensures.value at c.count_upto-count.ensures.point).1
     (rw c.deref-2.ensures.value at c.past_last-place.ensures) entry

@@ -11,12 +11,12 @@ pub loop-word-preserved : goal.loop-word-preserved
 loop-word-preserved c =
     rw (add-one, take-suc c.args.words.now c.loop-word.word-index none (omega arith))
     (elim c.match-parts.branch [
-      | in-Some+in_ok-insert w ↦ rw w.sorted-is (put _ _ c.loop-word.sorted.entries
-          c.loop-word.invariant w.in-Some.from w.in-Some.to _ w.in-Some.ensures.0
-          w.in-Some.ensures.1 w.in-Some.ensures.2 w.in_ok-insert.ensures.was_ordered
+      | in-Some+in_ok-insert w ↦ rw w.sorted-is (put _ c.loop-word.invariant
+          w.in-Some.from w.in-Some.to
+          w.in-Some.ensures.0 w.in-Some.ensures.1 w.in-Some.ensures.2
+          w.in_ok-insert.ensures.was_ordered
           w.in_ok-insert.ensures.entries)
-      | in_default w ↦ rw w.sorted-is (passed _ _ c.loop-word.sorted.entries c.loop-word.invariant
-          w.in_default.ensures)
+      | in_default w ↦ rw w.sorted-is (passed _ c.loop-word.invariant w.in_default.ensures)
     ])
 
 pub loop-place-init : goal.loop-place-init
@@ -43,8 +43,7 @@ loop-place-preserved c =
     rw c.in_ok-push.ensures.items (record {
       ordered = was.ordered;
       long = omega (arith, was.long, length_push c.loop-place.inner.items c.past_last-past.result);
-      nested = nested-more c.in_ok-last.last.items c.loop-place.inner.items c.loop-place.place
-          c.past_last-past.result c.index.result.now was.nested was.long (omega arith) past;
+      nested = nested-more _ was.nested was.long (omega arith) past;
     })
 
 pub invariant_of-result-clause-ordered : goal.invariant_of-result-clause-ordered
