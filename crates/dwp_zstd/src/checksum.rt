@@ -49,6 +49,7 @@ fn behind_stripe(four: Accumulators, bytes: &[u8]) -> Accumulators
     }
 }
 
+#[tactic(auto, unfolding(crate::specs::Checksum::behind_stripes), using(crate::proofs::Loops::rounds))]
 fn behind_stripes(four: Accumulators, bytes: &[u8]) -> Accumulators
     ensures { result ≡ behind_stripes (length bytes.now / 32) four bytes.now }
 {
