@@ -346,8 +346,7 @@ module _ {words : List (Bor (List ℕ))} (word : Bor (List ℕ)) {entries : Entr
     (are : AreOf words entries) where
   more : (path : List ℕ) → longest (words ++ word ∷ []) path
       ≡ longer (longest words path) (replaced path word.now)
-  more path =
-      fold-append (λ best word. longer best (replaced path word.now)) None words (word ∷ [])
+  more path = fold-append (λ best word. longer best (replaced path word.now)) None words (word ∷ [])
 
   pub passed : has_equals word.now ≡ false → AreOf (words ++ word ∷ []) entries
   unfolding replaced
