@@ -2,37 +2,34 @@
 -- package means the units that stand in the ranges of its rows: the row of a name is found, or the
 -- name has none.
 use Rattle.thorin_join.proofs.Terms
-use Terms.{another_kind, ap, AreDistinct, AreRowsOf, arith, Bool, by-bool, codes, cond, content_of}
-use Terms.{Contents, Contribution, contribution_to, count_of, data_of, DwarfObject, elf_of}
-use Terms.{Endianness, entry_ids, Err, false, File, file_text, filter, GivesNone, HasContent}
-use Terms.{held_content, identifier_of, IdentifiersFit, Index, index_for, index_tests}
-use Terms.{index_version_of, IndexEntry, inl, InProgress, inr, is-same, is_chosen, is_compilation}
-use Terms.{IsFinished, IsIndexOf, IsRowOf, IsSound, IsSoundBegun, IsTable, kind_of, KindsDiffer}
-use Terms.{length, length-KindsDiffer, length-map, List, lookup, map, MatchOption, Meaning}
-use Terms.{meaning_at, Members, nat_tests, nil_from_length, None, not, Ok, Option, Package, part_of}
-use Terms.{range_in, refl, row_bytes, rows_of, same_kind, same_name, SectionKind, sections_of}
-use Terms.{slice_get, slice_index, Some, suc, sym, take-length, true, units_in, units_of}
-use Terms.{UnitSection, with_bytes, zero, [], ℕ, ◌++◌, ◌+◌, ◌<◌, ◌^◌, ◌∙◌, ◌∷◌, ◌≡◌, ◌≤◌}
-use Rattle.dwp_base.specs.declared.class.Class.{Class, TheVariants.Elf32, TheVariants.Elf64}
+use Terms.{Contribution, contribution_to, count_of, data_of, DwarfObject, elf_of, Endianness, ◌∷◌}
+use Terms.{Index, index_for, index_tests, index_version_of, IndexEntry, inl, InProgress, inr}
+use Terms.{IsSoundBegun, IsTable, kind_of, KindsDiffer, length, length-KindsDiffer, length-map}
+use Terms.{List, lookup, map, MatchOption, Meaning, meaning_at, Members, nat_tests, nil_from_length}
+use Terms.{None, not, Ok, Option, Package, part_of, range_in, refl, row_bytes, rows_of, same_kind}
+use Terms.{ap, AreDistinct, AreRowsOf, arith, Bool, by-bool, codes, cond, content_of, Contents}
+use Terms.{entry_ids, Err, false, File, file_text, filter, GivesNone, identifier_of, IdentifiersFit}
+use Terms.{is-same, is_chosen, is_compilation, IsFinished, IsIndexOf, IsRowOf, IsSound, ◌≡◌, ◌≤◌}
+use Terms.{same_name, SectionKind, sections_of, slice_get, slice_index, Some, suc, sym, take-length}
+use Terms.{true, units_in, units_of, UnitSection, with_bytes, zero, [], ℕ, ◌++◌, ◌+◌, ◌<◌, ◌^◌, ◌∙◌}
 use Rattle.dwp_bytes.specs.declared.error.ReadError.TheVariants.{UnexpectedEof}
-use Rattle.dwp_elf.specs.FileText.{headers_place, name_table, Object}
-use Rattle.dwp_elf.specs.{Numbers.Fits, Written.written_sections}
-use Rattle.dwp_elf.{proofs.ReadingBack.elf_of-file_text, specs.Written.written_elf}
-use Rattle.dwp_elf_read.specs.Layout.{word_size}
-use Rattle.dwp_index.proofs.Packages.{empty, foreign, index_missing, package_is}
-use Rattle.dwp_index.proofs.Packages.{absent_unit, no_index, present_unit}
-use Rattle.dwp_index.specs.Finding.{IsNotNamed, own_place, unit_of}
-use Rattle.dwp_index.specs.{Contents.content, Finding.IsUnitOf, IndexBytes.version_of}
-use Rattle.dwp_index.specs.{Finding.own_bytes, Package.index_in_section, Package.package_of}
-use Rattle.dwp_index.{proofs.Indexes.entries_once, specs.IndexBytes.index_of}
 use Rattle.thorin_index.proofs.ReadAgain.{index_is_read, written_rows}
+use Rattle.thorin_join.specs.WrittenPackage.{IsIndexIn, package_with}
+use Rattle.{dwp_index.proofs.Indexes.entries_once, thorin_join.proofs.Parts.content-with_bytes}
+use Rattle.{dwp_elf.proofs.ReadingBack.elf_of-file_text, dwp_elf_read.specs.Layout.word_size}
 use Rattle.thorin_index.specs.ReadRows.{HasContributions, HasEntries, non_empty}
-use Rattle.thorin_join.proofs.Rows.{Grows, grows-trans, grows-with_bytes, keep-rows}
+use Rattle.dwp_base.specs.declared.class.Class.{Class, TheVariants.Elf32, TheVariants.Elf64}
+use Rattle.dwp_elf.specs.FileText.{headers_place, name_table, Object}
+use Rattle.dwp_index.specs.{Holding.HasContent, Package.index_in_section, Package.package_of}
+use Rattle.dwp_elf.specs.{Numbers.Fits, Written.written_elf, Written.written_sections}
+use Rattle.dwp_index.specs.{Contents.content, IndexBytes.index_of, IndexBytes.version_of}
 use Rattle.thorin_join.proofs.Units.{chosen-sort, distinct_chosen, same-sort, same_name-true}
-use Rattle.thorin_join.specs.Builder.{finish_test, indexes_test, IsFinishedState}
-use Rattle.thorin_join.specs.Join.{GivesUnit, IsPackageOnceWritten, limit_of, same_sort}
-use Rattle.thorin_join.specs.{Builder.State, Join.IsUnit, WrittenPackage.package_with}
-use Rattle.thorin_join.{proofs.Parts.content-with_bytes, specs.WrittenPackage.IsIndexIn}
+use Rattle.dwp_index.proofs.Packages.{index_missing, no_index, package_is, present_unit}
+use Rattle.thorin_join.specs.Builder.{finish_test, indexes_test, IsFinishedState, State}
+use Rattle.thorin_join.proofs.Rows.{Grows, grows-trans, grows-with_bytes, keep-rows}
+use Rattle.dwp_index.proofs.Packages.{absent_unit, another_kind, empty, foreign, held_content}
+use Rattle.thorin_join.specs.Join.{GivesUnit, IsPackageOnceWritten, IsUnit, limit_of, same_sort}
+use Rattle.dwp_index.specs.Finding.{IsNotNamed, IsUnitOf, own_bytes, own_place, unit_of}
 use Rattle.dwp_base.specs.declared.section.SectionKind.TheVariants as kinds
 
 -- the headers' place
@@ -57,9 +54,7 @@ held_from : (kind : SectionKind) (number : ℕ) (names : List ℕ) (cs : List (S
 held_from kind number names [] h = inr (foreign _ kind (codes ".shstrtab") refl refl, refl)
 held_from kind number names ((k, []) ∷ cs) h =
     let rest = held_from kind (number + 1) names cs (omega (arith, h)) in
-    by-bool _ (same_kind k kind) (λ same. let one = rw same at h in
-    rw same (inr (empty _ kind refl, rw (nothing kind cs (omega arith)) at rest)))
-    (λ apart. rw apart (inr (empty _ kind refl, rest)))
+    inr (empty _ kind refl, grind (arith, rest, nothing kind cs))
 held_from kind number names ((k, b ∷ bs) ∷ cs) h =
     let rest = held_from kind (number + 1) names cs (omega (arith, h)) in
     by-bool _ (same_kind k kind) (λ same. let is = is-same k kind same in rw same
@@ -90,30 +85,24 @@ abbrev pub HasRows : Option Index → List IndexEntry → Type 0
 HasRows None rows = rows ≡ []
 HasRows (Some index) rows = (version : ℕ) × HasEntries version rows index × (0 < length rows)
 
-pub record IndexRead (order : Endianness) (rows : List IndexEntry) (bytes : List ℕ) : Type 0 where
-  pub index : Option Index
-  pub read : index_in_section order bytes ≡ Ok index
-  pub has : HasRows index rows
-
 pub no-bytes : (order : Endianness) → index_of order [] ≡ Err UnexpectedEof
 unfolding index_of version_of
 no-bytes order = refl
 
 pub index-read : (order : Endianness) (rows : List IndexEntry) (bytes : List ℕ)
     → IsIndexOf order rows bytes → index_tests rows ≡ Ok tt → AreDistinct (entry_ids rows)
-    → ((r : ℕ) → slice_index (entry_ids rows) r < 2 ^ 64) → IndexRead order rows bytes
+    → ((r : ℕ) → slice_index (entry_ids rows) r < 2 ^ 64)
+    → (index : Option Index) × (index_in_section order bytes ≡ Ok index) × HasRows index rows
 unfolding index_in_section
-index-read order [] bytes text tested distinct fit =
-    record { index = None; read = index_missing order bytes text; has = refl }
+index-read order [] bytes text tested distinct fit = (None, index_missing order bytes text, refl)
 index-read order (row ∷ rows) bytes text tested distinct fit =
     let read = index_is_read order row.encoding (row ∷ rows) bytes tested fit text in
     let entries = written_rows order row.encoding (row ∷ rows) bytes tested distinct fit text _
-    read in
-    record {
-      index = Some _;
-      read = grind (arith, nat_tests, read, no-bytes order, nil_from_length bytes);
-      has = (index_version_of row.encoding.version, entries, omega arith);
-    }
+    read in (
+      Some _,
+      grind (arith, nat_tests, read, no-bytes order, nil_from_length bytes),
+      (index_version_of row.encoding.version, entries, omega arith),
+    )
 
 -- the identifiers of chosen rows have 64 bits
 pub chosen-fit : (b : Bool) (rows : List IndexEntry) → IdentifiersFit rows → (r : ℕ)
@@ -341,15 +330,15 @@ module _ (made : InProgress) (file : File) (f : IsFinished made file) where
       units.rows) in
       record {
         pack = _;
-        parsed = package_held (file_text file) file differ back c.index t.index
+        parsed = package_held (file_text file) file differ back c.0 t.0
             (rw (finished-order, rw units.no_compilations at (finished-content kinds.CuIndex))
-            c.read)
-            (rw (finished-order, rw units.no_types at (finished-content kinds.TuIndex)) t.read);
+            c.1)
+            (rw (finished-order, rw units.no_types at (finished-content kinds.TuIndex)) t.1);
         named = let types = ids (λ name. not (is_compilation name)) made.rows in
             rw (← ids is_compilation made.rows, ← types)
-            (entries_once c.index t.index _ _ (grind (arith, c.has)) (grind (arith, t.has)));
-        finds = λ name. package-finds file.order file.contents c.index t.index made.strings
-            (finished-strings units.no_strings) units.table made.rows name of rows c.has t.has;
+            (entries_once c.0 t.0 _ _ (grind (arith, c.2)) (grind (arith, t.2)));
+        finds = λ name. package-finds file.order file.contents c.0 t.0 made.strings
+            (finished-strings units.no_strings) units.table made.rows name of rows c.2 t.2;
       }
 
 -- so is that of a finished state
@@ -359,3 +348,6 @@ pub finished-is : (state : State) (file : File) → IsSoundBegun state.begun
 finished-is state file sound tested f =
     rw f.begun (package-is f.made file f.finished (rw f.begun at sound)
     (tested-state state f.made f.begun tested) f.identifiers)
+
+-- the laws that are one of these lemmas as it stands
+pub ruleset laws = (finished-is, package_read)

@@ -3,33 +3,31 @@
 -- them can be found and read. Its strings are those that its inputs name. The ranges of an input's
 -- units lie behind those of the inputs before it.
 use Rattle.thorin_join.proofs.Terms
+use Terms.{Contents, Endianness, false, filter-append, first, has_info, IndexEntry, indexes_of, inl}
+use Terms.{Each, InProgress, input_file_of, InputFile, inr, IsSound, IsSoundBegun, IsTable, IsWhole}
+use Terms.{Elf, joined_parts, joining, Joins, keys, kind_of, length, length-append, LieInside, List}
+use Terms.{None, Ok, opened, Option, order_test, package_or_new, parts_of, place_for, refl, row_at}
 use Terms.{adding, All-append, ap, append-nil, append_assoc, AreRowsOf, arith, begun_by, bind-ok}
-use Terms.{can_join, Compilation, content_of, Contents, contribution_to, DwarfObject, Each, Elf}
-use Terms.{Endianness, false, filter-append, first, has_info, IndexEntry, indexes_of, inl}
-use Terms.{InProgress, input_file_of, InputFile, inr, IsSound, IsSoundBegun, IsTable, IsWhole}
-use Terms.{joined_parts, joining, Joins, keys, kind_of, length, length-append, LieInside, List, map}
-use Terms.{list_any, map-append, map-map, Meaning, Members, names_of, New, new_units, NewUnit, None}
-use Terms.{offsets_used, Ok, opened, Option, order_test, package_or_new, parts_of, place_for, refl}
-use Terms.{Represents, row_at, same_kind, same_name, same_Some, SectionKind, Some, Source, Str}
-use Terms.{source_units, subst, sum_by, sym, take-length, true, TypeUnit, UnitRead, units_begun}
-use Terms.{units_of, UnitSection, with_bytes, with_input, with_new_unit, with_new_units, with_parts}
-use Terms.{with_source, with_unit_added, [], ℕ, ◌++◌, ◌+◌, ◌∙◌, ◌∷◌, ◌≡◌, ◌⊎◌}
-use Rattle.thorin_input.specs.Encodings.{encoding_of}
-use Rattle.thorin_join.proofs.Parts.{Brings, parts-follow, parts-none, units-strings}
-use Rattle.thorin_join.proofs.Parts.{content-with_bytes, content-with_parts, each-brings, each-unit}
-use Rattle.thorin_join.proofs.Rows.{CanLie, grows-trans, grows-with_bytes, is-unit_row, keep-shares}
-use Rattle.thorin_join.proofs.Rows.{Grows, keep-rows, lies-whole, own-place, place-put, row-behind}
-use Rattle.thorin_join.proofs.Rows.{front-long, not-shared, row-shares, unit-added, whole-else}
-use Rattle.thorin_join.proofs.Rows.{keep-lie, row-name, row-other, row-own, row-part, rows-next}
-use Rattle.thorin_join.proofs.Units.{added-keys, apart-none, AreAdded, Goes, IsAdded, units-go}
-use Rattle.thorin_join.proofs.Units.{joined_distinct, keys-units, News, Reads, units-are}
+use Terms.{can_join, Compilation, content_of, contribution_to, DwarfObject, ◌+◌, ◌∙◌, ◌∷◌, ◌≡◌, ◌⊎◌}
+use Terms.{list_any, map, map-append, map-map, Meaning, Members, names_of, New, new_units, NewUnit}
+use Terms.{same_kind, same_name, SectionKind, Some, Source, source_units, subst, sym, take-length}
+use Terms.{true, TypeUnit, UnitRead, units_begun, units_of, UnitSection, with_bytes, with_input}
+use Terms.{with_new_unit, with_new_units, with_parts, with_source, with_unit_added, [], ℕ, ◌++◌}
+use Rattle.{thorin_input.specs.Encodings.encoding_of, thorin_join.specs.Represents.Represents}
+use Rattle.thorin_join.proofs.{Parts.parts-none, Units.units-joined}
+use Rattle.thorin_join.proofs.Parts.{content-with_bytes, content-with_parts, each-brings}
+use Rattle.thorin_join.specs.{FirstUse.with_strings, State.held_units, State.with_all}
 use Rattle.thorin_join.specs.Builder.{order_of, source_for, with_source_or_new, with_units}
+use Rattle.thorin_join.specs.Meaning.{input_meaning, meant, object_meaning, source_meaning}
+use Rattle.thorin_join.proofs.Rows.{row-shares, rows-next, unit-added, whole-else}
+use Rattle.thorin_join.proofs.Rows.{CanLie, front-long, Grows, grows-trans, grows-with_bytes}
+use Rattle.thorin_join.proofs.Rows.{is-unit_row, keep-rows, lies-whole, not-shared, own-place}
 use Rattle.thorin_join.specs.FirstUse.{named_in, named_in_file, strings_begun, used_by, UsesStrings}
-use Rattle.thorin_join.specs.Laid.{HaveOneRange, is_at, IsLaid, Lie, rows_at, same_place}
 use Rattle.thorin_join.specs.StandApart.{contents_begun, EachRow, LieBehind, rows_begun, StandApart}
-use Rattle.thorin_join.specs.{FirstUse.with_strings, Meaning.input_meaning, Meaning.meant}
-use Rattle.thorin_join.specs.{Meaning.object_meaning, Meaning.source_meaning, State.held_units}
-use Rattle.thorin_join.{proofs.Units.each-joining, proofs.Units.units-joined, specs.State.with_all}
+use Rattle.thorin_join.proofs.Rows.{place-put, row-behind, row-name, row-other, row-own, row-part}
+use Rattle.thorin_join.proofs.Units.{added-keys, apart-none, AreAdded, each-joining, Goes, IsAdded}
+use Rattle.thorin_join.proofs.Units.{joined_distinct, keys-units, News, Reads, units-are, units-go}
+use Rattle.thorin_join.specs.Laid.{HaveOneRange, is_at, IsLaid, Lie, rows_at, same_place}
 use Rattle.dwp_units.specs.declared.unit.UnitSection.TheVariants as places
 
 -- one more unit behind the others
@@ -45,12 +43,11 @@ module _ (order : Endianness) (place : UnitSection) (row : IndexEntry) (own : Li
       (record { own = own; rest = []; are = are; range = rw same at range; is = is }, refl)
   lie-append offset (r ∷ rs) bytes e h =
       let head = h.0 in
-      let next : at ≡ offset + length head.own + length head.rest =
-      omega (arith, ap length head.are, length-append head.own head.rest) in
       let rest = head.rest ++ own in
+      let long = ap length head.are ∙ length-append head.own head.rest in
       let are : bytes ++ own ≡ head.own ++ rest = rw (head.are, append_assoc) in (
         record { own = head.own; rest = rest; are = are; range = head.range; is = head.is },
-        lie-append (offset + length head.own) rs head.rest next h.1,
+        lie-append (offset + length head.own) rs head.rest (omega arith) h.1,
       )
 
 -- how the rows of a package lie
@@ -151,6 +148,28 @@ pub record Added (read : Endianness) (table : List (List ℕ)) (p now : InProgre
   pub names : names_of now ≡ names_of p ++ keys us
   pub lie : RowsLie read now.rows now.file.contents
 
+pub grows-with_parts : (parts c : Contents) → Grows c (with_parts parts c)
+grows-with_parts parts c kind =
+    record { rest = joined_parts kind parts; is = content-with_parts kind parts c }
+
+-- rows that lie behind contents are added to others
+abbrev Appended : Contents → (rows now : List IndexEntry) → Type 0
+Appended base rows now =
+    (added : List IndexEntry) × (now ≡ rows ++ added) × EachRow (LieBehind base) added
+
+module _ (source : Source) (before : InProgress) (parts : Contents) where
+  -- the ranges of a unit that is added lie behind the contents before
+  unit-behind : (c : Contents) (u : DwarfObject × NewUnit) (r : DwarfObject × UnitRead)
+      → IsAdded (adding source before parts) u r → Grows (with_parts parts before.file.contents) c
+      → LieBehind before.file.contents (row_at u.1.row c u.0 u.1.bytes u.1.place)
+  unit-behind c u r is grows kind range at =
+      let base = before.file.contents in
+      let shared = row-behind source base parts r u.1.row (is-unit_row source.indexes _ r.0 u.1.row
+      is.row) is.tested kind range in
+      let own = (lies-whole (content_of (kind_of u.1.place) c) u.1.bytes).behind range in
+      let long = front-long (grows-trans base _ c (grows-with_parts parts base) grows kind) in
+      grind (arith, shared, own, long, row-part u.1.row c u.0 u.1.bytes u.1.place kind)
+
 module _ (source : Source) (before : InProgress) (parts : Contents) (after : List (List ℕ))
     (table : IsTable before.strings) (h : parts_of source before.strings ≡ Ok (parts, after)) where
   pub units-added : (p : InProgress) (us : News) (rs : Reads) (ms : Members)
@@ -161,33 +180,43 @@ module _ (source : Source) (before : InProgress) (parts : Contents) (after : Lis
       → RowsLie source.object.order p.rows p.file.contents
       → (members : Members) × (all_meant source rs ≡ all_there members)
       × Added source.object.order after p (with_new_units p us) us (ms ++ members)
+      × Appended before.file.contents p.rows (with_new_units p us).rows
   unfolding with_new_units with_new_unit
-  units-added p [] [] ms are go grows new rows lie =
-      ([], refl, rw (append-nil ms) (assumption (sym (append-nil (names_of p)))))
+  units-added p [] [] ms are go grows new rows lie = (
+    [],
+    refl,
+    rw (append-nil ms) (assumption (sym (append-nil (names_of p)))),
+    ([], sym (append-nil p.rows), tt),
+  )
   units-added p (u ∷ us) (r ∷ rs) ms are go grows new rows lie =
       let order = source.object.order in
       let base = with_parts parts before.file.contents in
       let c = p.file.contents in
       let q = with_unit_added p u in
       let more = grows-with_bytes (kind_of u.1.place) u.1.bytes c in
-      let same = take-length after in
       let s = row-shares source before.file.contents parts r u.1.row (is-unit_row source.indexes _
       r.0 u.1.row are.0.row) before.strings after table h are.0.tested in
       let m : DwarfObject × Meaning = (u.0, s.unit) in
       let can = can-lie source before parts u r are.0 go.0 in
-      let row = unit-added u.1.row c u.0 u.1.bytes u.1.place order after s.unit
-      (are.0.bytes ∙ sym s.bytes_are) s.encoding (keep-lie base c u.1.row grows s.lie)
-      (keep-shares order base c after after u.1.row s.unit grows same s.lie s.shares) can in
-      let old = keep-rows order c q.file.contents after after p.rows ms more same rows in
+      let row = unit-added u.1.row c u.0 u.1.bytes u.1.place base grows order after s.unit
+      (are.0.bytes ∙ sym s.bytes_are) s.encoding s.lie s.shares can in
+      let old = keep-rows order c q.file.contents after after p.rows ms more (take-length after)
+      rows in
       let names = names-added p u in
       let a = units-added q us rs (ms ++ m ∷ []) are.1 go.1 (grows-trans base c q.file.contents
       grows more) (rw names new.1) (rows-next order q.file.contents after p.rows ms _ m old row)
       (unit-lies order c p.rows u can lie) in
       let named = append_assoc (names_of p) (u.0 ∷ []) (keys us) in
-      let all = append_assoc ms (m ∷ []) a.0 in (
+      let all = append_assoc ms (m ∷ []) a.0 in
+      let same : with_new_units q us ≡ with_new_units p (u ∷ us) = rw new.0 in (
         m ∷ a.0,
         λ i. (sym are.0.name i, s.meaning_is i) ∷ a.1 i,
         rw new.0 (grind (arith, a.2, all, names, named, content-with_bytes)),
+        subst (λ (n : InProgress). Appended before.file.contents p.rows n.rows) same (
+          row_at u.1.row c u.0 u.1.bytes u.1.place ∷ a.3.0,
+          a.3.1 ∙ append_assoc p.rows _ a.3.0,
+          (unit-behind source before parts c u r are.0 grows, a.3.2),
+        ),
       )
   units-added p _ _ ms are go grows new rows lie = absurd are
 
@@ -230,17 +259,18 @@ source-made source before now h = grind arith
 pub record InputKeeps (bytes : List ℕ) (begun now : Option InProgress) : Type 0 where
   pub sound : IsSoundBegun now
   pub joins : Joins bytes (units_begun begun) (units_begun now)
-
-pub grows-with_parts : (parts c : Contents) → Grows c (with_parts parts c)
-grows-with_parts parts c kind =
-    record { rest = joined_parts kind parts; is = content-with_parts kind parts c }
+  pub used : List (List ℕ)
+  pub named : used_by bytes ≡ Ok used
+  pub strings : strings_begun now ≡ with_strings (strings_begun begun) used
+  pub behind : Appended (contents_begun begun) (rows_begun begun) (rows_begun now)
 
 -- its units are joined to those of the package
 pub source-joins : (bytes : List ℕ) (source : Source) (before now : InProgress) → IsSound before
     → source.object.order ≡ before.file.order → input_meaning bytes ≡ source_meaning source
+    → used_by bytes ≡ Ok (named_in source source.object.sections)
     → with_source source before ≡ Ok now → InputKeeps bytes (Some before) (Some now)
 unfolding source_meaning
-source-joins bytes source before now sound same meaning h =
+source-joins bytes source before now sound same meaning named h =
     let m = source-made source before now h in
     let old = before.file.contents in
     let parts = m.parts in
@@ -250,7 +280,8 @@ source-joins bytes source before now sound same meaning h =
     let ms = units_of before in
     let rep = sound.units in
     let names : held ≡ keys ms = keys-held before ∙ sym (keys-units before) in
-    let kept = parts-follow source before.strings parts m.after rep.table m.parts_are in
+    let brought = (each-brings source _ _ _ m.parts_are).0 in
+    let kept = brought.follows rep.table in
     let none = parts-none source before.strings parts m.after m.parts_are in
     let q = with_all_parts before parts m.after (before.differing ++ m.new.differing) in
     let new = joining held j.all in
@@ -289,6 +320,10 @@ source-joins bytes source before now sound same meaning h =
             (joined_distinct (names_of before) j.all sound.apart);
         laid = grind (arith, order, a.lie.lies places.Info, a.lie.lies places.Types, a.lie.once);
       };
+      used = named_in source source.object.sections;
+      named = named;
+      strings = a.strings ∙ brought.are;
+      behind = s.3;
     })
 
 -- what is read of an input with units, and the package with them
@@ -312,15 +347,6 @@ pub takes : (bytes : List ℕ) (begun now : Option InProgress) → with_input by
     → Takes bytes begun now
 unfolding with_input with_units source_for with_source_or_new
 takes bytes begun now h = grind arith
-
--- strings
-pub source-brings : (source : Source) (before now : InProgress) → Made source before now → Brings
-    (first Str source.object.sections) before.strings (named_in source source.object.sections)
-    (sum_by offsets_used source.object.sections) now.strings
-source-brings source before now m =
-    rw (ap (λ (n : InProgress). n.strings) (sym m.is) ∙ units-strings _ m.new.units)
-    (each-brings source source.object.sections ([], before.strings) (m.parts, m.after)
-    m.parts_are).0
 
 -- what is the same of a package that a file begins as of none, is so of the package before
 pub same-begun : {X : Type 0} (measure : Option InProgress → X) (file : Elf)
@@ -347,20 +373,34 @@ pub new-units : (file : Elf) (begun : Option InProgress) → units_of (package_o
     units_begun begun
 new-units file = same-begun units_begun file refl
 
+-- a package that a file begins has no more than none
+keeps-begun : (bytes : List ℕ) (file : Elf) (begun now : Option InProgress)
+    → InputKeeps bytes (Some (package_or_new file begun)) now → InputKeeps bytes begun now
+keeps-begun bytes file None now k = record {
+  sound = k.sound;
+  joins = k.joins;
+  used = k.used;
+  named = k.named;
+  strings = k.strings;
+  behind = k.behind;
+}
+keeps-begun bytes file (Some made) now k = k
+
 pub input-keeps : (bytes : List ℕ) (begun now : Option InProgress) → IsSoundBegun begun
     → with_input bytes begun ≡ Ok now → InputKeeps bytes begun now
-unfolding input_meaning object_meaning
+unfolding input_meaning object_meaning used_by named_in_file
 input-keeps bytes begun now sound h =
     let t = takes bytes begun now h in
+    let before = package_or_new t.file begun in
     let fine = new-sound t.file begun sound in
     elim t.does [
       | inl taken ↦
           let u = taken.1 in
-          let j = source-joins bytes u.source (package_or_new t.file begun) u.made fine
-          (made-order t.file u.source.object begun u.object_is u.order_is)
-          (rw (t.opens, taken.0, u.object_is, u.encoding_is, u.indexes_are) refl) u.with in
-          rw (← u.is) (record { sound = j.sound; joins = rw (← new-units t.file begun) j.joins })
-      | inr none ↦ rw (← none.1) (record {
+          rw (← u.is) (keeps-begun bytes t.file begun (Some u.made) (source-joins bytes u.source
+          before u.made fine (made-order t.file u.source.object begun u.object_is u.order_is)
+          (rw (t.opens, taken.0, u.object_is, u.encoding_is, u.indexes_are) refl)
+          (rw (t.opens, taken.0, u.object_is, u.encoding_is, u.indexes_are) refl) u.with))
+      | inr none ↦ rw (← none.1) (keeps-begun bytes t.file begun (Some before) (record {
         sound = fine;
         joins = record {
           units = [];
@@ -368,64 +408,27 @@ input-keeps bytes begun now sound h =
           defined = refl;
           added = [];
           joined = refl;
-          is = new-units t.file begun ∙ sym (append-nil (units_begun begun));
+          is = sym (append-nil (units_of before));
         };
-      })
+        used = [];
+        named = rw (t.opens, none.0) refl;
+        strings = refl;
+        behind = ([], sym (append-nil before.rows), tt);
+      }))
     ]
 
 -- its strings
 pub uses-strings : (bytes : List ℕ) (begun : Option InProgress) (now : InProgress)
     → IsSoundBegun begun → with_input bytes begun ≡ Ok (Some now) → UsesStrings bytes begun now
-unfolding used_by named_in_file
 uses-strings bytes begun now sound h =
-    let fine : IsSound now = (input-keeps bytes begun (Some now) sound h).sound in
-    let t = takes bytes begun (Some now) h in
-    let start = same-begun strings_begun t.file refl begun in
-    let said : (used : List (List ℕ)) × (used_by bytes ≡ Ok used)
-    × (now.strings ≡ with_strings (strings_begun begun) used) = elim t.does [
-      | inl u ↦
-          let v = u.1 in
-          let brings = source-brings v.source _ v.made (source-made v.source _ v.made v.with) in (
-            named_in v.source v.source.object.sections,
-            rw (t.opens, u.0, v.object_is, v.encoding_is, v.indexes_are) refl,
-            cc (v.is, brings.are, start),
-          )
-      | inr n ↦ ([], rw (t.opens, n.0) refl, cc (n.1, start))
-    ] in
-    record { used = said.0; named = said.1; strings = said.2; distinct = fine.units.table.distinct }
-
--- units that are added
-abbrev EachNew : Contents → News → Type 0
-EachNew base us = EachRow (LieBehind base) (map (λ u. u.1.row) us)
-
-added-behind : (source : Source) (before : InProgress) (parts : Contents) (ns : News) (rs : Reads)
-    → AreAdded (adding source before parts) ns rs → EachNew before.file.contents ns
-added-behind source before parts [] [] are = tt
-added-behind source before parts (n ∷ ns) (r ∷ rs) are =
-    let row = is-unit_row source.indexes _ r.0 n.1.row are.0.row in
-    let here = row-behind source before.file.contents parts r n.1.row row are.0.tested in
-    (here, added-behind source before parts ns rs are.1)
-added-behind source before parts _ _ are = absurd are
-
--- rows that lie behind those before
-abbrev Appended : Contents → (rows now : List IndexEntry) → Type 0
-Appended base rows now =
-    (added : List IndexEntry) × (now ≡ rows ++ added) × EachRow (LieBehind base) added
-
-units-behind : (base : Contents) (p : InProgress) (us : News) → Grows base p.file.contents
-    → EachNew base us → Appended base p.rows (with_new_units p us).rows
-units-behind base = each-unit (λ p us now. Grows base p.file.contents → EachNew base us
-    → Appended base p.rows now.rows) (λ p grows all. ([], sym (append-nil p.rows), tt))
-    (λ p u us now later grows all. later grows all.1)
-    (λ p u us now later grows all. let c = p.file.contents in
-    let more = later (grows-trans base c (with_unit_added p u).file.contents grows
-    (grows-with_bytes (kind_of u.1.place) u.1.bytes c)) all.1 in
-    let row = row_at u.1.row c u.0 u.1.bytes u.1.place in
-    let own = (lies-whole (content_of (kind_of u.1.place) c) u.1.bytes).behind in
-    let part = row-part u.1.row c u.0 u.1.bytes u.1.place in
-    let here : LieBehind base row = λ kind range is.
-    grind (arith, all.0 kind range, own range, front-long (grows kind), part kind) in
-    (row ∷ more.0, more.1 ∙ append_assoc p.rows (row ∷ []) more.0, (here, more.2)))
+    let k = input-keeps bytes begun (Some now) sound h in
+    let fine : IsSound now = k.sound in
+    record {
+      used = k.used;
+      named = k.named;
+      strings = k.strings;
+      distinct = fine.units.table.distinct;
+    }
 
 -- an input
 each-inside : (order : Endianness) (c : Contents) (strings : List (List ℕ)) (rows : List IndexEntry)
@@ -440,28 +443,22 @@ pub sound-inside : (made : InProgress) → IsSound made
 sound-inside made sound = each-inside made.file.order made.file.contents made.strings made.rows _
     sound.units.rows
 
+begun-inside : (begun : Option InProgress) → IsSoundBegun begun
+    → EachRow (LieInside (contents_begun begun)) (rows_begun begun)
+begun-inside None sound = tt
+begun-inside (Some made) sound = sound-inside made sound
+
 pub stand-apart : (bytes : List ℕ) (begun : Option InProgress) (now : InProgress)
     → IsSoundBegun begun → with_input bytes begun ≡ Ok (Some now) → StandApart begun now
 stand-apart bytes begun now sound h =
-    let fine : IsSound now = (input-keeps bytes begun (Some now) sound h).sound in
-    let t = takes bytes begun (Some now) h in
-    let before = package_or_new t.file begun in
-    let from = λ (n : InProgress). Appended before.file.contents before.rows n.rows in
-    let contents = same-begun contents_begun t.file refl begun in
-    let rows = same-begun rows_begun t.file refl begun in
-    let a : Appended before.file.contents before.rows now.rows = elim t.does [
-      | inl u ↦
-          let m = source-made u.1.source before u.1.made u.1.with in
-          let c = before.file.contents in
-          subst from (m.is ∙ same_Some _ _ u.1.is) (units-behind c _ m.new.units
-          (grows-with_parts m.parts c) (added-behind u.1.source before m.parts m.new.units _
-          (units-joined (adding u.1.source before m.parts) m.new m.new_are).are))
-      | inr n ↦ subst from (same_Some _ _ n.1) ([], sym (append-nil before.rows), tt)
-    ] in
+    let k = input-keeps bytes begun (Some now) sound h in
     record {
-      added = a.0;
-      rows = rw (← rows) a.1;
-      first = rw (← contents, ← rows) (sound-inside before (new-sound t.file begun sound));
-      behind = rw (← contents) a.2;
-      inside = sound-inside now fine;
+      added = k.behind.0;
+      rows = k.behind.1;
+      first = begun-inside begun sound;
+      behind = k.behind.2;
+      inside = sound-inside now k.sound;
     }
+
+-- the laws that are one of these lemmas as it stands
+pub ruleset laws = (stand-apart, uses-strings)

@@ -1,25 +1,24 @@
 -- What is read of bytes is read alike wherever they stand, and a unit whatever follows it.
 use Rattle.thorin_join.proofs.Terms
-use Terms.{after, ap, arith, Bool, cond, drop, drop-append-le, Encoding, Endianness, entry_identity}
 use Terms.{Err, first_identifier, Format, Header, identity, Input, is_address_size, is_some, length}
+use Terms.{UnitSection, zero, [], ℕ, ◌++◌, ◌+◌, ◌-◌, ◌>>=◌, ◌∙◌, ◌∷◌, ◌≡◌, ◌⊎◌}
+use Terms.{after, ap, arith, Bool, cond, drop, drop-append-le, Encoding, Endianness, entry_identity}
 use Terms.{length-append, List, nat_tests, number_front, Ok, ReadError, refl, Result, root_identity}
 use Terms.{suc, sym, take-append-drop, take-append-le, true, type_signature, unit_takes}
-use Terms.{UnitSection, zero, [], ℕ, ◌++◌, ◌+◌, ◌-◌, ◌>>=◌, ◌∙◌, ◌∷◌, ◌≡◌, ◌⊎◌}
-use Rattle.dwp_bytes.specs.Input.{byte_at, number_at, offset_at, relocated_at, skip_at, split_at}
-use Rattle.dwp_bytes.specs.Leb.{sleb_at, uleb_at}
-use Rattle.dwp_bytes.specs.declared.encoding.Format.TheVariants.{Dwarf32, Dwarf64}
 use Rattle.dwp_bytes.specs.declared.error.ReadError.TheVariants.{AddressSize, UnknownForm}
-use Rattle.dwp_dwarf.specs.Entries.{attribute_at, attributes, DebugAttribute, number_of}
-use Rattle.dwp_dwarf.specs.Forms.{block_length_at, named_form_at, named_within, past_value, text_at}
-use Rattle.dwp_dwarf.specs.{Forms.layout_of, Forms.value_at, Abbreviations.Specification}
-use Rattle.dwp_units.proofs.Readings.{Answer, by-result, more, Reads}
-use Rattle.dwp_units.proofs.Readings.{bind-bind, bind_alike, reads_byte, reads_sleb, reads_uleb}
+use Rattle.dwp_bytes.specs.declared.encoding.Format.TheVariants.{Dwarf32, Dwarf64}
+use Rattle.{dwp_units.specs.declared.unit.UnitSection.TheVariants.Types, std.specs.Prelude.is_ok}
 use Rattle.dwp_units.specs.AbbreviationCodes.{code_at, root_code_at}
-use Rattle.dwp_units.specs.Units.{address_size_at, initial_length_at, older_type_at, unit_code_at}
-use Rattle.dwp_units.specs.Units.{header_at, newer_at, older_at, type_at, unit_at, unit_type_at}
-use Rattle.dwp_units.specs.declared.unit.{UnitSection.TheVariants.Types, UnitType.UnitType}
 use Rattle.std.proofs.Common.{add_assoc, length-take-le, ℤ}
-use Rattle.std.specs.{Option.ok_or, Prelude.is_ok}
+use Rattle.dwp_dwarf.specs.{Abbreviations.Specification, Forms.layout_of, Forms.past_value}
+use Rattle.{dwp_bytes.specs.Leb.sleb_at, dwp_bytes.specs.Leb.uleb_at, std.specs.Option.ok_or}
+use Rattle.dwp_dwarf.specs.Entries.{attribute_at, attributes, DebugAttribute, number_of}
+use Rattle.dwp_units.proofs.Readings.{Answer, by-result, more, reads_sleb}
+use Rattle.dwp_units.specs.Units.{header_at, initial_length_at, older_at, unit_at, unit_code_at}
+use Rattle.dwp_dwarf.specs.Forms.{block_length_at, named_form_at, named_within, text_at, value_at}
+use Rattle.dwp_units.proofs.Readings.{bind-bind, bind_alike, Reads, reads_byte, reads_uleb}
+use Rattle.dwp_units.specs.Units.{address_size_at, newer_at, older_type_at, type_at, unit_type_at}
+use Rattle.dwp_bytes.specs.Input.{byte_at, number_at, offset_at, relocated_at, skip_at, split_at}
 pub use Rattle.dwp_index.proofs.UnitBytes.{plain}
 
 -- what was read, moved
@@ -133,19 +132,13 @@ module _ (d : ℕ) where
   first-same encoding [] i = refl
   first-same encoding (s ∷ ss) i = grind (arith, readings, attribute-shifts, first-same encoding ss)
 
-  -- the identity in a root entry
-  root-same : (section : Input) (unit other : Header) → IsShifted d unit other
-      → root_identity section other ≡ root_identity section unit
-  unfolding root_identity root_code_at code_at entry_identity
-  root-same section unit other h =
-      rw (h.offset, h.encoding, h.entries, ← there-is d same unit.entries)
-      (grind (arith, there-is, readings, first-same))
-
 -- both have one identity
 pub identity-shifted : (section : Input) (d : ℕ) (unit other : Header) → IsShifted d unit other
     → identity section other ≡ identity section unit
-unfolding identity
-identity-shifted section d unit other h = grind (arith, root-same d section unit other h)
+unfolding identity root_identity root_code_at code_at entry_identity
+identity-shifted section d unit other h =
+    rw (h.offset, h.encoding, h.entries, h.type, ← there-is d (same d) unit.entries)
+    (grind (arith, there-is, readings, first-same))
 
 -- behind others
 module _ (d : ℕ) where
@@ -177,10 +170,6 @@ module _ (d : ℕ) where
   unfolding address_size_at
   address_size-shifts = tested-shifts is_address_size AddressSize
 
-  unit_type-shifts : (code : ℕ) (format : Format) → Shifts d by UnitType (unit_type_at code format)
-  unfolding unit_type_at type_at
-  unit_type-shifts code format i = grind (arith, readings, offset-shifts)
-
   older-shifts : (place : UnitSection) (format : Format) (version : ℕ)
       → ShiftsHeader (older_at place format version)
   unfolding older_at older_type_at type_at
@@ -188,9 +177,8 @@ module _ (d : ℕ) where
       grind (arith, readings, address_size-shifts, offset-shifts)
 
   newer-shifts : (format : Format) → ShiftsHeader (newer_at format)
-  unfolding newer_at unit_code_at
-  newer-shifts format whole i =
-      grind (arith, readings, address_size-shifts, offset-shifts, unit_type-shifts)
+  unfolding newer_at unit_code_at unit_type_at type_at
+  newer-shifts format whole i = grind (arith, readings, address_size-shifts, offset-shifts)
 
   unit-shifts : (place : UnitSection) (i : Input) → unit_at place (there d by i)
       ≡ moved (λ x. (unit_there x.0, there d by x.1)) (unit_at place i)

@@ -3,33 +3,33 @@
 -- have, and the parts. The string offsets of the parts read alike: of a plain input those of the
 -- object, of a package those of each row, where each kind of section has one part at most.
 use Rattle.thorin_join.proofs.Terms
-use Terms.{ap, append-nil, append_assoc, appended, arith, bind-was, Bool, by-bool, bytes_of_strings}
-use Terms.{bytes_of_contents, cond, content_of, Contents, Contribution, data_of, drop, DwarfObject}
-use Terms.{Encoding, Endianness, entry_count, eqb, ErrorValue, false, first, fitting_offset}
-use Terms.{has_part, header_size, if◌then◌else◌, Index, inl, InProgress, InputFile, inr, is-same}
-use Terms.{is_copied, is_package, is_some, IsTable, IsZeroFree, joined_content, joined_offsets}
-use Terms.{joined_parts, joined_read, kept_more, length, length-append, length-drop, length-take}
-use Terms.{List, list_any, list_any-append, named_at, nat_tests, NewUnit, nil_from_length}
-use Terms.{no_header, offset_size, offsets_used, Ok, packaged_offsets, Parts, parts_of, range_named}
-use Terms.{position_or_len, range_in, Ranges, ReadsAlike, refl, remapped, result_unwrap_or, same-ok}
-use Terms.{rewritten, row_in, same-self, same_kind, SectionKind, slice_range, Some, Source, Str}
-use Terms.{stands_once, string_at, strings_again, strings_of, StrOffsets, subst, suc, sum_by, sym}
-use Terms.{take, take-length, true, unit_section, Used, whole_entries, with_bytes, with_each_part}
-use Terms.{with_new_unit, with_new_units, with_offsets, with_part, with_parts, with_string, zero}
-use Terms.{with_unit_added, [], ℕ, ◌&&◌, ◌*◌, ◌++◌, ◌+◌, ◌-◌, ◌<◌, ◌||◌, ◌∙◌, ◌∷◌, ◌≡◌, ◌≤◌, ◌⊎◌}
-use Rattle.dwp_strings.proofs.Named.{read_free, string_was, used}
-use Rattle.std.proofs.Math.Nat.{mul-le-mul_right}
-use Rattle.std.proofs.{Common.leb, Common.true≢false, Common.⊎_elim, lemmas.List.Sums.sum_by-append}
-use Rattle.std.proofs.{Common.leb-false, lemmas.List.Sums.sum_by-cons, lemmas.List.Sums.sum_by_push}
-use Rattle.thorin_join.proofs.Ranges.{count-fits, count-none, empty-alike, range-of, whole-long}
-use Rattle.thorin_join.specs.FirstUse.{named_by_ranges, named_by_section, named_in, with_strings}
-use Rattle.thorin_join.specs.Strings.{each_from, offset_of_entry, strings_at}
-use Rattle.thorin_join.{proofs.Ranges.whole-read, proofs.Units.News, specs.Sizes.carried}
-use Rattle.thorin_package_input.proofs.ReadAlike.{package_reads_alike}
+use Terms.{Parts, result_unwrap_or, rewritten, row_in, same-ok, same-self, same_kind, SectionKind}
+use Terms.{StrOffsets, subst, suc, sum_by, sym, take, take-length, true, unit_section, Used}
+use Terms.{ap, append-nil, append_assoc, arith, bind-was, Bool, by-bool, bytes_of_strings, cond}
+use Terms.{content_of, Contents, Contribution, data_of, drop, DwarfObject, Encoding, Endianness, Ok}
+use Terms.{entry_count, eqb, ErrorValue, false, first, fitting_offset, has_part, header_size, Index}
+use Terms.{inl, InProgress, InputFile, inr, is-same, is_copied, is_package, is_some, IsTable}
+use Terms.{joined_content, joined_offsets, joined_parts, kept_more, length, length-append, parts_of}
+use Terms.{length-drop, length-take, List, list_any, list_any-append, named_at, nat_tests, NewUnit}
+use Terms.{nil_from_length, no_header, packaged_offsets, ◌-◌, ◌<◌, ◌||◌, ◌∙◌, ◌∷◌, ◌≡◌, ◌≤◌, ◌⊎◌}
+use Terms.{offset_size, position_or_len, range_in, range_named, Ranges, ReadsAlike, refl, remapped}
+use Terms.{slice_range, Some, Source, stands_once, Str, string_at, strings_again, strings_of}
+use Terms.{whole_entries, with_bytes, with_each_part, with_new_unit, with_new_units, with_offsets}
+use Terms.{with_part, with_parts, with_string, with_unit_added, zero, [], ℕ, ◌&&◌, ◌*◌, ◌++◌, ◌+◌}
 use Rattle.thorin_package_input.specs.PackagedOffsets.{ranges_test, rewritten_from}
-use Rattle.thorin_package_input.{proofs.ReadAlike.next_passed, specs.PackagedReading.range_bytes}
 use Rattle.thorin_strings.proofs.Remapping.{entries_long, header_long}
+use Rattle.{dwp_elf.specs.Contents.appended, thorin_package_input.specs.PackagedReading.range_bytes}
+use Rattle.{std.proofs.Math.Nat.mul-le-mul_right, thorin_join.proofs.Ranges.whole-read}
+use Rattle.{dwp_strings.specs.Strings.IsZeroFree, thorin_join.proofs.Units.News}
+use Rattle.thorin_package_input.proofs.ReadAlike.{joined_read, next_passed, package_reads_alike}
 use Rattle.thorin_strings.specs.StringOffsets.{offset_at, remapped_entries, remapped_entry}
+use Rattle.std.proofs.lemmas.List.Sums.{sum_by-append, sum_by-cons, sum_by_push}
+use Rattle.thorin_join.specs.Sizes.{bytes_of_contents, carried, offsets_used}
+use Rattle.thorin_join.specs.Strings.{each_from, offset_of_entry, strings_at}
+use Rattle.dwp_strings.proofs.Named.{read_free, string_was, used}
+use Rattle.thorin_join.specs.FirstUse.{named_by_ranges, named_by_section, named_in, with_strings}
+use Rattle.thorin_join.proofs.Ranges.{count-fits, count-none, empty-alike, range-of, whole-long}
+use Rattle.std.proofs.Common.{if◌then◌else◌, leb, leb-false, true≢false, ⊎_elim}
 
 -- bytes that are added to a section
 pub content-appended : (kind k : SectionKind) (bytes : List ℕ) (c : Contents) → content_of kind
@@ -61,8 +61,7 @@ pub joined_parts-more : (kind : SectionKind) (a : Contents) (k : SectionKind) (b
     (same_kind k kind) bytes []
 joined_parts-more kind [] k bytes = ap (λ v. cond (same_kind k kind) v []) (append-nil bytes)
 joined_parts-more kind (p ∷ ps) k bytes =
-    rw (joined_parts-more kind ps k bytes) (by-bool _ (same_kind p.0 kind)
-    (λ same. rw same (sym (append_assoc p.1 (joined_parts kind ps) _))) (λ other. rw other))
+    rw (joined_parts-more kind ps k bytes) (grind (arith, append_assoc {A = ℕ}))
 
 pub joined_parts-other : (kind : SectionKind) (a : Contents) (k : SectionKind) (bytes : List ℕ)
     → same_kind k kind ≡ false → joined_parts kind (a ++ (k, bytes) ∷ []) ≡ joined_parts kind a
@@ -163,15 +162,8 @@ with-append strings [] b = refl
 with-append strings (x ∷ a) b = with-append (with_string strings x) a b
 
 -- the bytes of a string with the zero byte that ends it
-abbrev ended_long : List ℕ → ℕ
+abbrev pub ended_long : List ℕ → ℕ
 ended_long string = length string + 1
-
-pub used-most : (strings used : List (List ℕ)) → bytes_of_strings
-    (with_strings strings used) ≤ bytes_of_strings strings + bytes_of_strings used
-used-most strings [] = omega arith
-used-most strings (s ∷ ss) =
-    let more = used-most (strings ++ s ∷ []) ss in
-    grind (arith, sum_by-cons ended_long, sum_by_push ended_long, used-most strings ss, more)
 
 -- a table of strings, with the one before in front
 pub record Follows (before after : List (List ℕ)) : Type 0 where
@@ -226,25 +218,21 @@ pub no-entries : (encoding : Encoding) → entry_count encoding 0 ≡ 0
 no-entries encoding = count-none encoding.format 0 (header_size encoding) (omega arith)
 
 module _ (order : Endianness) (encoding : Encoding) (section bytes : List ℕ) where
-  -- an entry that is rewritten names a string, which is used
-  entry-was : (n : ℕ) (strings : List (List ℕ)) (entry : ℕ × List (List ℕ))
-      → remapped_entry order encoding section bytes n strings ≡ Ok entry → (string : List ℕ)
-      × (string_at section (offset_of_entry order encoding bytes n) ≡ Ok string)
-      × (entry.1 ≡ with_string strings string)
-  unfolding remapped_entry named_at offset_at fitting_offset
-  entry-was n strings entry h = grind arith
-
+  -- each entry that is rewritten names a string, which is used
   entries-named : (n : ℕ) (strings : List (List ℕ)) (out : List ℕ × List (List ℕ))
       → remapped_entries order encoding section bytes n strings ≡ Ok out
       → (named : List (List ℕ)) × (length out.0 ≡ n) × Brings section strings named (n * 4) out.1
       × (strings_at section (each_from (offset_of_entry order encoding bytes) 0 n) ≡ Ok named)
-  unfolding remapped_entries strings_at
+  unfolding remapped_entries strings_at remapped_entry named_at offset_at fitting_offset
   entries-named zero strings out h = grind (arith, take-length strings)
   entries-named (suc n) strings out h =
       let first = bind-was _ _ out h in
       let before = entries-named n strings first.0 first.1 in
-      let entry = bind-was _ _ out first.2 in
-      let s = entry-was n first.0.1 entry.0 entry.1 in
+      let entry = bind-was (remapped_entry order encoding section bytes n first.0.1) _ out
+      first.2 in
+      let s : (string : List ℕ)
+      × (string_at section (offset_of_entry order encoding bytes n) ≡ Ok string)
+      × (entry.0.1 ≡ with_string first.0.1 string) = grind (arith, entry.1) in
       let both = both-bring before.2 (string-brings section s.0 _ first.0.1 s.1) (omega arith) in
       let all = string-more section _ 0 n n before.0 s.0 (omega arith) before.3 s.1 in
       rw (← same-ok {E = ErrorValue} _ out entry.2, s.2)
@@ -344,11 +332,6 @@ module _ (source : Source) where
         both-bring here.0 later.0 (omega arith),
         omega (arith, sum_by-cons placed_bytes s ss, sum_by-cons carried s ss),
       ))
-
-  -- the table of strings goes on from the one before
-  pub parts-follow : (strings : List (List ℕ)) (parts : Contents) (after : List (List ℕ))
-      → IsTable strings → parts_of source strings ≡ Ok (parts, after) → Follows strings after
-  parts-follow strings parts after table h = (each-brings _ _ _ h).0.follows table
 
 -- what holds of no units, and with one more that is added or passed over, holds of those of an
 -- input

@@ -1,14 +1,14 @@
 -- What is read of ranges of string offsets: of their whole entries alone, of none, and of joined
 -- ones; and the strings that a range names, one by one.
 use Rattle.thorin_join.proofs.Terms
-use Terms.{ap, arith, cond, drop-append-le, Encoding, Endianness, entry_count, entry_in, eqb, false}
 use Terms.{Format, header_size, length, length-drop, length-take, List, nat_tests, None}
+use Terms.{ap, arith, cond, drop-append-le, Encoding, Endianness, entry_count, entry_in, eqb, false}
 use Terms.{number_front, offset_size, Ok, ReadsAlike, refl, remapped, slice_get, Some, string_at}
 use Terms.{string_for, string_in, strings_of, suc, take-append-drop, whole_entries, zero, [], ℕ}
 use Terms.{◌*◌, ◌++◌, ◌+◌, ◌-◌, ◌∙◌, ◌∷◌, ◌≡◌, ◌≤◌, ◌⊎◌}
-use Rattle.std.proofs.{Common.IsOk, Common.nat_lt, Common.take_all, Common.◌/◌, lemmas.Nat.row_fits}
-use Rattle.thorin_join.specs.Strings.{each_from, offset_of_entry, offsets_in, strings_at}
 use Rattle.thorin_strings.specs.StringOffsets.{entry_bytes, header_of, remapped_entries}
+use Rattle.thorin_join.specs.Strings.{each_from, offset_of_entry, offsets_in, strings_at}
+use Rattle.std.proofs.{Common.IsOk, Common.nat_lt, Common.take_all, Common.◌/◌, lemmas.Nat.row_fits}
 
 -- a range without the bytes past its last whole entry
 pub count-again : (format : Format) (l h n : ℕ) → l ≡ h + n * offset_size format

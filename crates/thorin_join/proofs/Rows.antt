@@ -3,32 +3,30 @@
 -- input's indexes, the row that it gets, and what this row means, where each of its ranges was put
 -- behind the contents before: a unit that passed the tests stands in its row.
 use Rattle.thorin_join.proofs.Terms
-use Terms.{all_kinds, ap, append-nil, append_assoc, AreRowsOf, arith, bind-was, Bool, by-bool}
-use Terms.{column_place, cond, content_of, Contents, Contribution, contribution_put}
-use Terms.{contribution_to, data_of, drop, drop-append-le, DwarfObject, Encoding, encoding_in}
-use Terms.{Endianness, entry_by, eqb, false, first, HasFront, identifier_of, if◌then◌else◌, Index}
-use Terms.{IndexEntry, Indexes, is-same, is_copied, is_none, is_outside, is_package, is_shared}
-use Terms.{is_some, IsRowOf, IsTable, IsWhole, joined_parts, kept_more, kind_of, le-leb, length}
-use Terms.{length-append, length-drop, LieInside, List, Meaning, nat_tests, ne_eqb, NewUnit}
-use Terms.{nil_from_length, None, Ok, Option, Owns, part_of, parts_of, place_of, range_in, Ranges}
-use Terms.{read_each, ReadsAlike, refl, row_at, row_in, same-each, same-self, same_kind}
+use Terms.{Endianness, IsRowOf, IsTable, IsWhole, joined_parts, kept_more, kind_of, le-leb, length}
+use Terms.{HasFront, with_parts, [], ℕ, ◌&&◌, ◌++◌, ◌+◌, ◌-◌, ◌<◌, ◌||◌, ◌∙◌, ◌∷◌, ◌≡◌, ◌≤◌, ◌⊎◌}
+use Terms.{Index, nil_from_length, None, Ok, Option, part_of, parts_of, place_of, range_in, Ranges}
+use Terms.{IndexEntry, read_each, ReadsAlike, refl, row_at, row_in, same-each, same-self, same_kind}
 use Terms.{SectionKind, Shares, slice_range, Some, Source, Str, string_in, StrOffsets, sym, take}
-use Terms.{take-append-le, take-length, true, TypeUnit, UnitRead, UnitSection, with_bytes}
-use Terms.{with_parts, [], ℕ, ◌&&◌, ◌++◌, ◌+◌, ◌-◌, ◌<◌, ◌||◌, ◌∙◌, ◌∷◌, ◌≡◌, ◌≤◌, ◌⊎◌}
+use Terms.{all_kinds, ap, append-nil, append_assoc, AreRowsOf, arith, bind-was, Bool, by-bool}
+use Terms.{column_place, cond, content_of, Contents, Contribution, contribution_put, identifier_of}
+use Terms.{contribution_to, data_of, drop, drop-append-le, DwarfObject, Encoding, encoding_in, eqb}
+use Terms.{entry_by, take-append-le, take-length, true, TypeUnit, UnitRead, UnitSection, with_bytes}
+use Terms.{false, Indexes, is-same, is_copied, is_none, is_outside, is_package, is_shared, is_some}
+use Terms.{first, length-append, length-drop, LieInside, List, Meaning, nat_tests, ne_eqb, NewUnit}
+use Rattle.{dwp_base.specs.ByKind.value_of, thorin_input.specs.Adjusting.adjusted}
+use Rattle.{dwp_base.proofs.KindsRead.read-kind, thorin_join.specs.StandApart.LieBehind}
 use Rattle.dwp_base.specs.declared.section.SectionKind.TheVariants.{Abbrev, Info, Types}
-use Rattle.dwp_base.{proofs.KindsRead.read-kind, specs.ByKind.value_of}
-use Rattle.std.proofs.Math.Seq.{drop-append-add, drop-append_seam}
-use Rattle.thorin_input.specs.Adjusting.{adjusted, Adjustor, moved, moved_range, own_index, row_of}
-use Rattle.thorin_input.specs.Adjusting.{contribution_by_row, has_column_for, other_index}
-use Rattle.thorin_input.specs.Rows.{adjusted_contribution, row_test, unit_row}
-use Rattle.thorin_input.specs.{Adjusting.without_column, Rows.own_contribution, Rows.whole_row}
-use Rattle.thorin_input.specs.{Indexes.index_for, Rows.unit_contribution}
-use Rattle.thorin_join.proofs.Parts.{content-with_bytes, content-with_parts}
-use Rattle.thorin_join.proofs.Parts.{parts-copied, parts-first, parts-follow, rows-read}
-use Rattle.thorin_join.proofs.{Parts.copied-or-offsets, Ranges.empty-alike, Ranges.strings-there}
-use Rattle.thorin_join.specs.Meaning.{contribution_by, contributions_by, placed_row, unit_meaning}
-use Rattle.thorin_join.specs.{Meaning.lie_inside, Meaning.meaning_by, StandApart.LieBehind}
-use Rattle.thorin_join.{proofs.Parts.parts-read, proofs.Parts.RowsRead, specs.Meaning.offsets_by}
+use Rattle.thorin_join.specs.Meaning.{lie_inside, meaning_by, unit_meaning}
+use Rattle.std.proofs.{Common.if◌then◌else◌, Math.Seq.drop-append-add, Math.Seq.drop-append_seam}
+use Rattle.thorin_join.proofs.{Parts.rows-read, Ranges.empty-alike, Ranges.strings-there}
+use Rattle.thorin_input.specs.{Indexes.index_for, Rows.own_contribution, Rows.row_test}
+use Rattle.thorin_input.specs.Adjusting.{contribution_by_row, moved, own_index, without_column}
+use Rattle.thorin_join.proofs.Parts.{content-with_bytes, each-brings, parts-first, parts-read}
+use Rattle.thorin_join.proofs.Parts.{content-with_parts, copied-or-offsets, parts-copied, RowsRead}
+use Rattle.thorin_join.specs.Meaning.{contribution_by, contributions_by, offsets_by, placed_row}
+use Rattle.thorin_input.specs.Rows.{adjusted_contribution, unit_contribution, unit_row, whole_row}
+use Rattle.thorin_input.specs.Adjusting.{Adjustor, has_column_for, moved_range, other_index, row_of}
 use Rattle.dwp_base.specs.declared.section.SectionKind.TheVariants as kinds
 use Rattle.dwp_units.specs.declared.unit.UnitSection.TheVariants as places
 
@@ -88,12 +86,10 @@ pub keep-rows : (order : Endianness) (c d : Contents) (s t : List (List ℕ)) (r
     → AreRowsOf order c s rows members → AreRowsOf order d t rows members
 keep-rows order c d s t [] [] grows longer are = tt
 keep-rows order c d s t (r ∷ rs) (m ∷ ms) grows longer are =
-    let is = are.0 in
-    let bytes = keep-part c d r grows is.lie (kind_of is.owns.place) ∙ is.owns.bytes in
-    let owns : Owns order d m.0 r m.1 = grind (arith, bytes) in
-    let shares = keep-shares order c d s t r m.1 grows longer is.lie is.shares in
-    let lie = keep-lie c d r grows is.lie in
-    (assumption (owns, shares, lie), keep-rows order c d s t rs ms grows longer are.1)
+    let part = keep-part c d r grows are.0.lie (kind_of are.0.owns.place) in
+    let shares = keep-shares order c d s t r m.1 grows longer are.0.lie are.0.shares in
+    let rest = keep-rows order c d s t rs ms grows longer are.1 in
+    grind (arith, part, shares, keep-lie c d r grows are.0.lie, rest)
 keep-rows order c d s t _ _ grows longer are = absurd are
 
 -- one more row
@@ -237,32 +233,37 @@ module _ (shared : IndexEntry) (c : Contents) (name : DwarfObject) (x : List ℕ
         ((kind ≡ kind_of place) × (contribution_to kind row ≡ contribution_put (kind_of place) x c))
     row-part kind = grind (arith, is-same (kind_of place) kind, row-own, row-other kind)
 
-    row-lies : LieInside c shared → LieInside (with_bytes (kind_of place) x c) row
-    row-lies lie =
-        let k = kind_of place in
-        let there = keep-lie c (with_bytes k x c) shared (grows-with_bytes k x c) lie in
-        let own = lies-whole (content_of k c) x in
-        grind (arith, row-part, there.inside, there.some, own.inside, own.some, content-put k x c)
-
     -- a unit whose row shares what belongs to it is the one of its row, once its bytes are added
-    pub unit-added : (order : Endianness) (s : List (List ℕ)) (unit : Meaning) → x ≡ unit.bytes
-        → shared.encoding ≡ unit.encoding → LieInside c shared → Shares order c s shared unit
+    pub unit-added : (base : Contents) → Grows base c → (order : Endianness) (s : List (List ℕ))
+        (unit : Meaning) → x ≡ unit.bytes → shared.encoding ≡ unit.encoding → LieInside base shared
+        → Shares order base s shared unit
         → CanLie order (name, record { place = place; bytes = x; row = shared })
         → IsRowOf order (with_bytes (kind_of place) x c) s row (name, unit)
     unfolding encoding_in
-    unit-added order s unit bytes encoded lie shares can =
-        let kept = keep-shares order c (with_bytes (kind_of place) x c) s s shared unit
-        (grows-with_bytes (kind_of place) x c) (take-length s) lie shares in
+    unit-added base grows order s unit bytes encoded lie shares can =
+        let k = kind_of place in
+        let d = with_bytes k x c in
+        let more = grows-trans base c d grows (grows-with_bytes k x c) in
+        let kept = keep-shares order base d s s shared unit more (take-length s) lie shares in
+        let there = keep-lie base d shared more lie in
+        let own = lies-whole (content_of k c) x in
         record {
           name = row-name place;
           encoding = grind (arith, encoded);
-          lie = row-lies lie;
+          lie = grind (
+            arith,
+            row-part,
+            there.inside,
+            there.some,
+            own.inside,
+            own.some,
+            content-put k x c,
+          );
           shares = grind (arith, is-same, not-shared place, row-other, kept.content, kept.string);
           owns = record {
             place = place;
             place_is = own-place place can;
-            bytes = rw (row-own, content-put (kind_of place) x c)
-                ((lies-whole (content_of (kind_of place) c) x).part_is ∙ bytes);
+            bytes = rw (row-own, content-put k x c) (own.part_is ∙ bytes);
             encoding = can.whole.unit.encoding;
             header = grind (arith, bytes, can.whole.read);
           };
@@ -453,21 +454,15 @@ module _ (source : Source) (before parts : Contents) (read : DwarfObject × Unit
         (first StrOffsets source.object.sections) (joined_parts StrOffsets parts) after
         → OffsetsRead source (Some own.row) after
         (part_of (joined_parts StrOffsets parts) (range_in own.row StrOffsets))
-    packed-reads after reads final table kept i = by-range (range_in own.row StrOffsets) refl
-      where
-        by-range : (range : Option Contribution) → range_in own.row StrOffsets ≡ range
-            → ReadsAlike source.object.order source.encoding (first Str source.object.sections)
-            (part_of (first StrOffsets source.object.sections) range) (data_of final)
-            (part_of (joined_parts StrOffsets parts) range) i
-        by-range None is = empty-alike source.object.order source.encoding
-            (first Str source.object.sections) (data_of final) i
-        by-range (Some range) is =
-            let there = (each-placed StrOffsets refl).within range is in
-            let inside : range.offset.0 + range.size
-            ≤ length (first StrOffsets source.object.sections) = omega (arith, reads.size) in
-            rw (part-inside _ range inside, part-inside _ range there)
-            (reads.rows own.index (grind (arith, own.is)) own.number own.row
-            range own.there is inside (range-some own.row StrOffsets range is) final table kept i)
+    packed-reads after reads final table kept i =
+        let none = empty-alike source.object.order source.encoding
+        (first Str source.object.sections) (data_of final) i in
+        let placed = each-placed StrOffsets refl in
+        let some = λ (range : Contribution) (is : range_in own.row StrOffsets ≡ Some range).
+        reads.rows own.index (grind (arith, own.is)) own.number own.row range own.there is
+        (omega (arith, reads.size, placed.within range is)) (range-some own.row StrOffsets range is)
+        final table kept i in
+        grind (arith, none, some, placed.within, reads.size, part-inside)
 
   -- the ranges of a unit that passed the tests lie behind the contents before
   pub row-behind : row_test source.indexes read.1.from name read.1.unit ≡ Ok tt
@@ -485,7 +480,7 @@ module _ (source : Source) (before parts : Contents) (read : DwarfObject × Unit
   unfolding unit_meaning
   row-shares strings after table h test =
       let by = λ (ranges : Option Ranges) (part : SectionKind → List ℕ). shares-by after ranges part
-      (parts-follow source strings parts after table h).table in
+      ((each-brings source _ _ _ h).0.follows table).table in
       by-bool _ (is_package source.indexes) (λ packed. let has = own test packed in
       let placed = each-placed test packed in
       let firsts = parts-first source packed strings parts after h in

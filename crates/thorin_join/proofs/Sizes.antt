@@ -1,26 +1,26 @@
 -- How large a package becomes: inputs add to its contents at most the bytes of their used sections,
 -- and finishing adds the strings and both indexes.
 use Rattle.thorin_join.proofs.Terms
-use Terms.{Adding, adding, All, ap, appended, arith, begun_by, bind-was, bytes_of_contents}
-use Terms.{bytes_of_strings, bytes_of_unit, cond, Contents, data_of, DwarfObject, Elf, Endianness}
-use Terms.{ErrorValue, every, File, file_text, first, flat_map-map, Header, IndexEntry, InProgress}
-use Terms.{is_some, IsFinished, IsIndexOf, joining, KindsDiffer, leb-true, length, length-append}
-use Terms.{length-KindsDiffer, length-map, List, map, name_of, nat_le, nat_tests, NewUnit, None}
-use Terms.{offsets_used, Ok, Option, refl, same-ok, SectionKind, Some, Source, Str, suc, sum_by}
-use Terms.{sym, unit_section, UnitRead, units_whole, UnitSection, Used, with_bytes, with_input}
-use Terms.{with_new_units, with_parts, with_source, [], ℕ, ◌*◌, ◌++◌, ◌+◌, ◌∙◌, ◌∷◌, ◌≡◌, ◌≤◌}
+use Terms.{Adding, adding, All, ap, arith, begun_by, bind-was, bytes_of_strings, bytes_of_unit}
+use Terms.{IsIndexOf, joining, KindsDiffer, leb-true, length, length-append, length-KindsDiffer}
+use Terms.{cond, Contents, data_of, DwarfObject, Elf, Endianness, ErrorValue, every, File}
+use Terms.{file_text, first, flat_map-map, Header, IndexEntry, InProgress, is_some, IsFinished}
+use Terms.{length-map, List, map, name_of, nat_le, nat_tests, NewUnit, None, Ok, Option, refl}
+use Terms.{same-ok, SectionKind, Some, Source, Str, suc, sum_by, sym, unit_section, UnitRead}
+use Terms.{units_whole, UnitSection, Used, with_bytes, with_input, with_new_units, with_parts}
+use Terms.{with_source, [], ℕ, ◌*◌, ◌++◌, ◌+◌, ◌∙◌, ◌∷◌, ◌≡◌, ◌≤◌}
 use Rattle.dwp_elf.proofs.ReadingBack.{length-file_text, length-number_bytes}
-use Rattle.dwp_elf.specs.FileText.{content_bytes, names_of}
-use Rattle.std.proofs.lemmas.List.Sums.{sum_by-append, sum_by-le-sum_by}
-use Rattle.std.proofs.lemmas.List.{Concat.length-flat_map, Sums.sum_by-cons}
-use Rattle.thorin_index.specs.IndexText.{index_bytes}
-use Rattle.thorin_join.proofs.Joined.{same-begun, source-brings, source-made, takes}
-use Rattle.thorin_join.proofs.Parts.{each-brings, each-unit, long, placed_bytes, used-most}
+use Rattle.{std.proofs.lemmas.List.Concat.length-flat_map, thorin_index.specs.IndexText.index_bytes}
+use Rattle.thorin_join.specs.{FirstUse.strings_begun, FirstUse.with_strings, Meaning.named_sections}
+use Rattle.thorin_join.{proofs.Parts.units-strings, specs.Meaning.named_at, specs.Sizes.with_inputs}
+use Rattle.thorin_join.proofs.Joined.{same-begun, source-made, takes}
+use Rattle.dwp_elf.specs.{Contents.appended, FileText.content_bytes, FileText.names_of}
+use Rattle.thorin_join.specs.Sizes.{bytes_begun, bytes_of_contents, bytes_of_index, carried}
+use Rattle.thorin_join.specs.Sizes.{carried_size, container_most, IsSizeFinished, IsSizeOfIndex}
+use Rattle.thorin_join.specs.Sizes.{offsets_used, sections_in, sections_of_input, used_size}
+use Rattle.std.proofs.lemmas.List.Sums.{sum_by-append, sum_by-cons, sum_by-le-sum_by, sum_by_push}
+use Rattle.thorin_join.proofs.Parts.{each-brings, each-unit, ended_long, long, placed_bytes}
 use Rattle.thorin_join.proofs.Units.{AreAdded, each-named, News, Reads, units-joined}
-use Rattle.thorin_join.specs.Sizes.{bytes_begun, carried_size, sections_of_input, with_inputs}
-use Rattle.thorin_join.specs.Sizes.{bytes_of_index, carried, container_most, used_size}
-use Rattle.thorin_join.specs.{FirstUse.strings_begun, Meaning.named_sections, Sizes.sections_in}
-use Rattle.thorin_join.specs.{Meaning.named_at, Sizes.IsSizeFinished, Sizes.IsSizeOfIndex}
 
 -- bytes that are added to a kind's
 appended-long : (k : SectionKind) (bytes : List ℕ) (c : Contents)
@@ -111,14 +111,23 @@ bytes-grow = record {
       grind (arith, m.is, units-within, with_parts-long, brought.1);
 }
 
+used-most : (strings used : List (List ℕ)) → bytes_of_strings
+    (with_strings strings used) ≤ bytes_of_strings strings + bytes_of_strings used
+used-most strings [] = omega arith
+used-most strings (s ∷ ss) =
+    let more = used-most (strings ++ s ∷ []) ss in
+    grind (arith, sum_by-cons ended_long, sum_by_push ended_long, used-most strings ss, more)
+
 -- the strings are those that its string offsets name
 pub strings-grow : Grows (λ begun. 4 * bytes_of_strings (strings_begun begun))
     (λ sections. sum_by offsets_used sections * length (first Str sections))
 strings-grow = record {
   begins = λ file. refl;
   source = λ source before now h.
-      let b = source-brings source before now (source-made source before now h) in
-      grind (arith, b.are, b.most, used-most before.strings);
+      let m = source-made source before now h in
+      let b = (each-brings source _ _ _ m.parts_are).0 in
+      let same = ap (λ (n : InProgress). n.strings) (sym m.is) ∙ units-strings _ m.new.units in
+      grind (arith, same, b.are, b.most, used-most before.strings);
 }
 
 -- inputs, one after another
@@ -201,3 +210,6 @@ file-within file differ =
     let few = length-KindsDiffer file.contents differ in
     let parts = contents-within file.contents in
     grind (arith, length-file_text file, parts, length-append {A = ℕ})
+
+-- the laws that are one of these lemmas as it stands
+pub ruleset laws = (file-within, finished-size)

@@ -1,84 +1,78 @@
 -- The names that proofs of this crate cite most, passed on from one place; and the rows of
 -- compilation units or those of type units, for proofs that go by which.
 use Rattle.std.proofs.Common
-pub use Common.{All, AllPairs, ap, append-nil, append_assoc, arith, Bool, codes, cond, drop, eqb}
-pub use Common.{Err, false, filter, if◌then◌else◌, inl, inr, is_none, is_some, le-leb, leb-true}
-pub use Common.{length, length-append, length-drop, length-take, List, map, MatchOption, nat_eq}
-pub use Common.{nat_le, ne_eqb, None, not, Ok, Option, refl, Result, slice_get, slice_index}
-pub use Common.{slice_range, Some, subst, suc, sym, take, take-append-drop, true, zero, [], ℕ, ◌&&◌}
-pub use Common.{◌*◌, ◌++◌, ◌+◌, ◌-◌, ◌<◌, ◌^◌, ◌||◌, ◌∙◌, ◌∷◌, ◌≡◌, ◌≤◌, ◌⊎◌}
-pub use Rattle.dwp_base.proofs.EveryKind.{every, is-same, same-each, same-self}
-pub use Rattle.dwp_base.proofs.{Bools.by-bool, Steps.bind-ok, Steps.bind-was, Steps.same-ok}
-pub use Rattle.dwp_base.specs.Sections.{all_kinds, name_of, same_kind}
-pub use Rattle.dwp_base.specs.declared.endian.Endianness.{Endianness}
-pub use Rattle.dwp_base.specs.declared.section.SectionKind.TheVariants.{Str, StrOffsets}
-pub use Rattle.dwp_base.specs.{Reading.read_each, declared.section.SectionKind.SectionKind}
-pub use Rattle.dwp_base.specs.{Reading.◌>>=◌, declared.section.Contribution.Contribution}
-pub use Rattle.dwp_bytes.specs.Encoding.{index_version_of, offset_size}
-pub use Rattle.dwp_bytes.specs.Input.{after, Input, is_address_size, section}
-pub use Rattle.dwp_bytes.specs.StringOffsets.{entry_count, header_size, string_for}
-pub use Rattle.dwp_bytes.specs.declared.encoding.Format.{Format}
-pub use Rattle.dwp_bytes.specs.declared.{encoding.Encoding.Encoding, error.ReadError.ReadError}
-pub use Rattle.dwp_elf.specs.Contents.{appended, content_of, count_of, KindsDiffer}
-pub use Rattle.dwp_elf.specs.FileText.{file_text, Object as File}
-pub use Rattle.dwp_elf.specs.Growing.{contribution_put, HasFront, with_bytes}
-pub use Rattle.dwp_elf.{proofs.Changes.length-KindsDiffer, specs.Growing.Contents}
-pub use Rattle.dwp_elf_read.specs.Elf.{Elf, elf_of}
-pub use Rattle.dwp_index.proofs.Packages.{another_kind, held_content}
-pub use Rattle.dwp_index.specs.Package.{is_outside, kind_of, Package, part_of, place_of}
-pub use Rattle.dwp_index.specs.{Holding.HasContent, Holding.sections_of, Index.Index}
-pub use Rattle.dwp_index.specs.{Index.column_place, Index.Ranges, Package.index_for}
-pub use Rattle.dwp_strings.specs.Strings.{data_of, IsTable, IsZeroFree, with_string}
+pub use Common.{All, ap, append-nil, append_assoc, arith, Bool, codes, cond, drop, eqb, Err, false}
+pub use Common.{Ok, Option, refl, Result, slice_get, slice_index, slice_range, Some, subst, suc}
+pub use Common.{filter, inl, inr, is_none, is_some, le-leb, leb-true, length, length-append}
+pub use Common.{length-drop, length-take, List, map, MatchOption, nat_eq, nat_le, ne_eqb, None, not}
+pub use Common.{sym, take, take-append-drop, true, zero, [], ℕ, ◌&&◌, ◌*◌, ◌++◌, ◌+◌, ◌-◌, ◌<◌, ◌^◌}
+pub use Common.{◌||◌, ◌∙◌, ◌∷◌, ◌≡◌, ◌≤◌, ◌⊎◌}
 pub use Rattle.dwp_table.specs.declared.object.DwarfObject.TheVariants.{Compilation, TypeUnit}
-pub use Rattle.dwp_table.specs.declared.object.DwarfObject.{DwarfObject}
-pub use Rattle.dwp_table.specs.{Objects.identifier_of, Table.AreDistinct}
-pub use Rattle.dwp_units.proofs.Units.{unit_taken, units_whole}
+pub use Rattle.dwp_base.specs.declared.section.SectionKind.TheVariants.{Str, StrOffsets}
 pub use Rattle.dwp_units.specs.Units.{Unit as Header, unit_bytes as bytes_of_unit}
-pub use Rattle.dwp_units.{proofs.Units.unit_takes, specs.declared.unit.UnitSection.UnitSection}
 pub use Rattle.std.proofs.lemmas.List.Elements.{filter-append, filter_passes}
-pub use Rattle.std.proofs.lemmas.List.Folds.{flat_map-map, list_any-append, list_any_at}
-pub use Rattle.std.proofs.lemmas.List.{drop-append-le, get_or-map as get_or-at}
-pub use Rattle.std.proofs.lemmas.List.{length-map, map-append, nil_from_length, take-append-le}
-pub use Rattle.std.proofs.lemmas.{Bool.Decides.nat_tests, Option.none-some, Option.same_Some}
-pub use Rattle.std.proofs.{ByRecursion.All-append, ByRecursion.All-weaker, Math.Seq.take-length}
-pub use Rattle.std.specs.List.{AllByRecursion as Each, list_all, list_any, position_or_len, sum_by}
-pub use Rattle.std.{proofs.lemmas.Simd.map-map, specs.Map.lookup, specs.Result.result_unwrap_or}
-pub use Rattle.thorin_errors.specs.{Answers.as_error, Errors.ErrorValue, Errors.ParseUnitHeader}
-pub use Rattle.thorin_identity.specs.Identity.{first_identifier}
+pub use Rattle.dwp_base.specs.declared.section.{Contribution.Contribution, SectionKind.SectionKind}
+pub use Rattle.dwp_table.specs.{declared.object.DwarfObject.DwarfObject, Objects.identifier_of}
+pub use Rattle.thorin_index.specs.{declared.entry.IndexEntry.IndexEntry, EntryTests.index_tests}
+pub use Rattle.dwp_bytes.specs.Encoding.{index_version_of, offset_size}
+pub use Rattle.thorin_strings.proofs.Remapping.{kept_more, range_named}
+pub use Rattle.{dwp_units.specs.declared.unit.UnitSection.UnitSection, std.specs.Map.lookup}
 pub use Rattle.thorin_index.specs.Entries.{contribution_to, entry_by}
+pub use Rattle.dwp_base.{proofs.Bools.by-bool, specs.declared.endian.Endianness.Endianness}
+pub use Rattle.dwp_bytes.specs.declared.{encoding.Encoding.Encoding, error.ReadError.ReadError}
 pub use Rattle.thorin_index.specs.IndexText.{entry_ids, IsIndexOf}
-pub use Rattle.thorin_index.specs.{EntryTests.index_tests, declared.entry.IndexEntry.IndexEntry}
+pub use Rattle.{std.proofs.Math.Seq.take-length, thorin_package_input.specs.ReadStrings.ReadsAlike}
+pub use Rattle.dwp_elf.specs.FileText.{file_text, Object as File}
+pub use Rattle.{std.specs.Result.result_unwrap_or, thorin_identity.specs.Identity.first_identifier}
+pub use Rattle.{dwp_bytes.specs.declared.encoding.Format.Format, dwp_table.specs.Table.AreDistinct}
+pub use Rattle.dwp_units.proofs.Units.{unit_takes, units_whole}
+pub use Rattle.std.proofs.ByRecursion.{All-append, All-weaker}
+pub use Rattle.{dwp_elf.proofs.Changes.length-KindsDiffer, thorin_join.specs.Sizes.bytes_of_strings}
+pub use Rattle.dwp_base.specs.Reading.{read_each, ◌>>=◌}
+pub use Rattle.{thorin_errors.specs.Errors.ErrorValue, thorin_join.specs.Strings.strings_of}
+pub use Rattle.{std.proofs.lemmas.Simd.map-map, thorin_errors.specs.Answers.as_error}
+pub use Rattle.dwp_elf_read.specs.Elf.{Elf, elf_of}
+pub use Rattle.std.proofs.lemmas.List.{drop-append-le, length-map}
+pub use Rattle.thorin_package_input.proofs.ReadAlike.{no_header, number_front, strings_again}
+pub use Rattle.std.proofs.lemmas.List.Folds.{flat_map-map, list_any-append, list_any_at}
+pub use Rattle.std.proofs.lemmas.List.{map-append, nil_from_length, take-append-le}
+pub use Rattle.dwp_bytes.specs.StringOffsets.{entry_count, header_size, string_for}
+pub use Rattle.thorin_join.specs.Laid.{IsWhole, name_signature, type_signature}
+pub use Rattle.dwp_elf.specs.Contents.{content_of, count_of, KindsDiffer}
+pub use Rattle.dwp_strings.specs.Strings.{data_of, IsTable, with_string}
+pub use Rattle.dwp_base.specs.Sections.{all_kinds, name_of, same_kind}
+pub use Rattle.thorin_input.specs.{Names.is_compilation, Names.same_name, NewUnits.unit_section}
+pub use Rattle.dwp_base.proofs.Steps.{bind-ok, bind-was, same-ok}
+pub use Rattle.thorin_input.specs.{Format.is_copied, Format.is_shared, Held.unit_bytes}
+pub use Rattle.std.proofs.lemmas.{Bool.Decides.nat_tests, Option.none-some, Option.same_Some}
+pub use Rattle.thorin_join.specs.{Join.GivesNone, Join.Joins, Represents.units_of}
+pub use Rattle.thorin_join.specs.Builder.{begun_by, IdentifiersFit, IsFinished, package_or_new}
+pub use Rattle.dwp_elf.specs.Growing.{Contents, contribution_put, HasFront, with_bytes}
 pub use Rattle.thorin_input.specs.Indexes.{Indexes, indexes_of, is_package, Source}
+pub use Rattle.dwp_base.proofs.EveryKind.{every, is-same, same-each, same-self}
+pub use Rattle.dwp_bytes.specs.Input.{after, Input, is_address_size, section}
+pub use Rattle.dwp_index.specs.{Holding.sections_of, Index.column_place, Index.Index, Index.Ranges}
+pub use Rattle.thorin_join.specs.Represents.{AreApart, AreRowsOf, IsRowOf, IsSound, IsSoundBegun}
+pub use Rattle.thorin_join.specs.Represents.{LieInside, meaning_at, Shares, units_begun, units_in}
+pub use Rattle.thorin_join.specs.Meaning.{can_join, joined_content, joined_offsets, joining, keys}
 pub use Rattle.thorin_input.specs.NewUnits.{Adding, kept_bytes, New, NewUnit, place_for}
+pub use Rattle.std.specs.List.{AllByRecursion as Each, list_all, list_any, position_or_len, sum_by}
+pub use Rattle.thorin_join.specs.Meaning.{Meaning, Members, source_units, UnitRead, whole_entries}
+pub use Rattle.thorin_join.specs.State.{adding, InProgress, names_of, row_at, with_unit_added}
 pub use Rattle.thorin_input.specs.Parts.{has_part, joined_parts, Parts, parts_of, stands_once}
 pub use Rattle.thorin_input.specs.Used.{first, has_info, InputFile, opened, Used}
-pub use Rattle.thorin_input.specs.{Format.is_copied, Held.unit_bytes, NewUnits.unit_section}
-pub use Rattle.thorin_input.specs.{Format.is_shared, Names.is_compilation, Names.same_name}
-pub use Rattle.thorin_join.specs.Builder.{begun_by, IdentifiersFit, IsFinished, package_or_new}
-pub use Rattle.thorin_join.specs.Laid.{IsWhole, name_signature, type_signature}
-pub use Rattle.thorin_join.specs.Meaning.{Meaning, Members, source_units, UnitRead, whole_entries}
-pub use Rattle.thorin_join.specs.Meaning.{can_join, joined_content, joined_offsets, joining}
-pub use Rattle.thorin_join.specs.Represents.{AreApart, AreRowsOf, IsRowOf, IsSoundBegun}
-pub use Rattle.thorin_join.specs.Represents.{IsSound, Shares, units_begun, units_in, units_of}
-pub use Rattle.thorin_join.specs.Represents.{LieInside, meaning_at, Owns, Represents}
-pub use Rattle.thorin_join.specs.Sizes.{bytes_of_contents, bytes_of_strings, offsets_used}
-pub use Rattle.thorin_join.specs.State.{adding, InProgress, names_of, row_at, with_unit_added}
-pub use Rattle.thorin_join.specs.{Join.GivesNone, Join.Joins, Meaning.keys, Strings.strings_of}
-pub use Rattle.thorin_package_input.proofs.ReadAlike.{joined_read, number_front, strings_again}
-pub use Rattle.thorin_package_input.{proofs.ReadAlike.no_header, specs.ReadStrings.ReadsAlike}
-pub use Rattle.thorin_strings.proofs.Remapping.{kept_more, range_named}
-unfoldable pub use Rattle.thorin_input.specs.Parts.{with_each_part, with_offsets, with_parts}
-unfoldable pub use Rattle.dwp_bytes.specs.StringOffsets.{entry_in, string_at, string_in}
-unfoldable pub use Rattle.dwp_index.specs.Index.{range_in, row_in}
-unfoldable pub use Rattle.dwp_index.specs.Package.{encoding_in, row_bytes}
-unfoldable pub use Rattle.thorin_identity.specs.Identity.{entry_identity, identity, root_identity}
-unfoldable pub use Rattle.thorin_input.specs.{InputStrings.rewritten, Parts.with_part}
-unfoldable pub use Rattle.thorin_input.specs.NewUnits.{name_for, new_units, with_unit}
-unfoldable pub use Rattle.thorin_input.specs.Used.{input_file_of}
-unfoldable pub use Rattle.thorin_join.specs.Builder.{order_test, with_input}
-unfoldable pub use Rattle.thorin_join.specs.State.{with_new_unit, with_new_units, with_source}
+pub use Rattle.dwp_index.specs.Package.{index_for, is_outside, kind_of, Package, part_of, place_of}
 unfoldable pub use Rattle.thorin_package_input.specs.PackagedOffsets.{packaged_offsets}
+unfoldable pub use Rattle.{dwp_index.specs.Package.row_bytes, thorin_input.specs.Parts.with_parts}
+unfoldable pub use Rattle.thorin_join.specs.Builder.{order_test, with_input}
+unfoldable pub use Rattle.thorin_input.specs.{InputStrings.rewritten, Used.input_file_of}
+unfoldable pub use Rattle.dwp_index.specs.{Index.range_in, Index.row_in, Package.encoding_in}
+unfoldable pub use Rattle.thorin_input.specs.Parts.{with_each_part, with_offsets, with_part}
+unfoldable pub use Rattle.thorin_identity.specs.Identity.{entry_identity, identity, root_identity}
 unfoldable pub use Rattle.thorin_strings.specs.StringOffsets.{fitting_offset, named_at, remapped}
+unfoldable pub use Rattle.thorin_join.specs.State.{with_new_unit, with_new_units, with_source}
+unfoldable pub use Rattle.dwp_bytes.specs.StringOffsets.{entry_in, string_at, string_in}
+unfoldable pub use Rattle.thorin_input.specs.NewUnits.{name_for, new_units, with_unit}
 
 -- whether a row is one of them
 abbrev pub is_chosen : Bool → IndexEntry → Bool

@@ -5,29 +5,28 @@
 -- are apart: no two places have one name. The units that a package represents are those that stand
 -- in the ranges of its rows.
 use Rattle.thorin_join.proofs.Terms
-use Terms.{Adding, All, All-append, All-weaker, AllPairs, ap, append-nil, append_assoc, AreApart}
-use Terms.{AreDistinct, AreRowsOf, arith, as_error, bind-was, Bool, can_join, Contents, data_of}
-use Terms.{drop, DwarfObject, Each, encoding_in, Endianness, entry_identity, entry_ids, ErrorValue}
-use Terms.{false, filter_passes, first_identifier, get_or-at, Header, identifier_of, identity}
-use Terms.{IndexEntry, InProgress, Input, is_chosen, is_compilation, is_some, IsRowOf, IsTable}
-use Terms.{IsWhole, joining, kept_bytes, keys, kind_of, length, length-map, List, list_any}
-use Terms.{list_any-append, list_any_at, map, map-append, map-map, Meaning, meaning_at, Members}
-use Terms.{name_for, name_signature, names_of, New, new_units, NewUnit, None, Ok, Option}
-use Terms.{ParseUnitHeader, place_for, ReadError, refl, Represents, Result, root_identity, rows_of}
-use Terms.{same-ok, same_name, section, SectionKind, slice_get, Some, Source, source_units, suc}
-use Terms.{sym, take-append-drop, take-length, true, type_signature, unit_section, unit_taken}
-use Terms.{UnitRead, units_of, UnitSection, Used, with_unit, [], ℕ, ◌++◌, ◌+◌, ◌-◌, ◌∙◌, ◌∷◌, ◌≡◌}
-use Rattle.dwp_dwarf.specs.Entries.{DebugAttribute}
+use Terms.{Adding, All, All-append, All-weaker, ap, append-nil, append_assoc, AreApart, AreDistinct}
+use Terms.{AreRowsOf, arith, as_error, bind-was, Bool, can_join, Contents, data_of, drop}
+use Terms.{DwarfObject, Each, encoding_in, Endianness, entry_identity, entry_ids, ErrorValue, false}
+use Terms.{Input, is_chosen, is_compilation, IsRowOf, IsTable, IsWhole, joining, kept_bytes, keys}
+use Terms.{New, new_units, NewUnit, None, Ok, Option, place_for, ReadError, refl, Result}
+use Terms.{Source, source_units, suc, sym, take-append-drop, take-length, true, type_signature}
+use Terms.{filter_passes, first_identifier, Header, identifier_of, identity, IndexEntry, InProgress}
+use Terms.{kind_of, length, length-map, List, list_any, list_any-append, list_any_at, map, ◌∙◌, ◌∷◌}
+use Terms.{map-append, map-map, Meaning, meaning_at, Members, name_for, name_signature, names_of}
+use Terms.{root_identity, rows_of, same-ok, same_name, section, SectionKind, slice_get, Some, ◌≡◌}
+use Terms.{unit_section, UnitRead, units_of, UnitSection, Used, with_unit, [], ℕ, ◌++◌, ◌+◌, ◌-◌}
+use Rattle.thorin_input.specs.Rows.{row_test, unit_row}
+use Rattle.{std.proofs.lemmas.Map.Made.is_some-lookup, thorin_errors.specs.Errors.ParseUnitHeader}
+use Rattle.{dwp_dwarf.specs.Entries.DebugAttribute, thorin_join.specs.Represents.Represents}
+use Rattle.{dwp_units.proofs.Units.unit_taken, thorin_join.proofs.Ranges.strings-are}
 use Rattle.dwp_index.proofs.UnitBytes.{unit_anywhere, units_alone, within_at}
-use Rattle.dwp_units.specs.Units.{unit_at, units}
-use Rattle.std.proofs.lemmas.List.{Kept.AllPairs-filter, Quantifiers.all_pairs_push}
-use Rattle.std.proofs.lemmas.Map.Made.{is_some-lookup}
+use Rattle.std.proofs.lemmas.List.{get_or-map, Kept.AllPairs-filter, Quantifiers.all_pairs_push}
+use Rattle.{dwp_units.specs.Units.unit_at, dwp_units.specs.Units.units, std.proofs.Common.AllPairs}
 use Rattle.thorin_input.specs.NewUnits.{none_met, SeenSections, with_each_read, with_each_section}
 use Rattle.thorin_input.specs.NewUnits.{with_first, with_read, with_section, with_section_at}
-use Rattle.thorin_input.specs.{NewUnits.with_section_in, Rows.row_test, Rows.unit_row}
-use Rattle.thorin_join.proofs.Moved.{IsShifted, plain, unit-five, unit-moves}
-use Rattle.thorin_join.proofs.{Moved.FiveOrType, Ranges.strings-are}
 use Rattle.thorin_join.specs.Meaning.{named_at, named_each, named_sections, named_unit}
+use Rattle.thorin_join.proofs.Moved.{FiveOrType, IsShifted, plain, unit-five, unit-moves}
 use Rattle.dwp_units.specs.declared.unit.UnitSection.TheVariants as places
 
 abbrev pub Listed : Type 0
@@ -152,21 +151,15 @@ module _ (adding : Adding) where
         steps = (here.0, record { from = from; kind = refl; is = name.2 }, others.steps);
       }
 
-  section-read : (from : Used) (place : Option UnitSection) (before after : SeenSections × New)
-      → with_section_in adding from place before ≡ Ok after
-      → AreRead before.1 after.1 (named_at adding.source from place)
-  unfolding with_section_at
-  section-read from place before after h = grind (arith, each-read from before.1)
-
   sections-read : (before after : SeenSections × New) (sections : List Used)
       → with_each_section adding before sections ≡ Ok after
       → AreRead before.1 after.1 (named_sections adding.source sections)
-  unfolding with_section with_each_section named_sections
-  sections-read before after [] h =
-      rw (← same-ok _ after h) (record { all = []; is = refl; steps = refl })
+  unfolding with_section with_each_section named_sections with_section_at
+  sections-read before after [] h = grind arith
   sections-read before after (from ∷ rest) h =
       let here = bind-was (with_section adding before from) _ after h in
-      let one = section-read from (unit_section from.kind) before here.0 here.1 in
+      let one : AreRead before.1 here.0.1 (named_at adding.source from (unit_section from.kind)) =
+      grind (arith, each-read from before.1, here.1) in
       let others = sections-read here.0 after rest here.2 in
       grind (arith, one.is, others.is, one.steps, others.steps, steps-append)
 
@@ -217,29 +210,10 @@ steps-joined adding before after (u ∷ us) h =
     let there = is_some-lookup named before.units in
     let held = is_some-lookup named adding.held in
     let either = list_any-append named (keys adding.held) in
-    by (kept_bytes adding.held before.units u.0) (grind (arith, there, held, either)) h.1.is
-    (steps-joined adding h.0 after us h.2)
-  where
-    by : (kept : Option (List ℕ)) → is_some kept ≡ list_any (same_name u.0)
-        (before_names adding before) → with_unit kept adding h.1.from u.0 u.1.unit before ≡ Ok h.0
-        → AreJoined adding h.0 after us → AreJoined adding before after (u ∷ us)
-    by (Some bytes) e is later = record {
-      added = later.added;
-      units = grind (arith, is, later.units);
-      are = grind (arith, e, is, later.are);
-      defined = grind (arith, e, is, later.defined);
-    }
-    by None e is later =
-        let new : (new : DwarfObject × NewUnit) × (h.0.units ≡ before.units ++ new ∷ [])
-        × IsAdded adding new u = grind (arith, is, h.1.kind) in
-        let names : before_names adding h.0 ≡ before_names adding before ++ u.0 ∷ [] =
-        simp (new.1, new.2.name, map-append, append_assoc) in
-        record {
-          added = new.0 ∷ later.added;
-          units = rw (new.1, append_assoc) at later.units;
-          are = rw (← e) (new.2, rw names at later.are);
-          defined = rw (← e) (rw names at later.defined);
-        }
+    let later = steps-joined adding h.0 after us h.2 in
+    let names = append_assoc {A = DwarfObject} in
+    let units = append_assoc {A = DwarfObject × NewUnit} in
+    grind (arith, there, held, either, h.1, later, map-append, names, units)
 
 -- the units that an input adds are its units, joined to the names that are held
 pub record UnitsJoined (adding : Adding) (new : New) : Type 0 where
@@ -297,16 +271,17 @@ module _ (order : Endianness) (place : UnitSection) where
       (units_alone order place unit bytes k h) in
       let moved = unit-moves order place own more at.0 s.0.0 s.0.1 s.1 in
       let same : moved.unit ≡ unit = ap (λ (x : Header × Input). x.0)
-      (same-ok _ _ (sym (rw whole_is at moved.read) ∙ at.3)) in
-      let known : ReadsAlone order place unit = record {
-        alone = s.0.0;
-        rest = s.0.1;
-        read = s.1;
-        whole = sym (ap (λ (i : Input). i.bytes) (rw same at moved.whole));
-        behind = at.0;
-        shifted = rw same at moved.shifted;
-      } in
-      (known, λ is. unit-five i at.2 unit (ap (λ p. unit_at p i) (sym is) ∙ at.3))
+      (same-ok _ _ (sym (rw whole_is at moved.read) ∙ at.3)) in (
+        record {
+          alone = s.0.0;
+          rest = s.0.1;
+          read = s.1;
+          whole = sym (ap (λ (i : Input). i.bytes) (rw same at moved.whole));
+          behind = at.0;
+          shifted = rw same at moved.shifted;
+        },
+        λ is. unit-five i at.2 unit (ap (λ p. unit_at p i) (sym is) ∙ at.3),
+      )
 
 -- where a unit goes to it is read alone
 pub goes-alone : (order : Endianness) (place : UnitSection) (name : DwarfObject) (unit : Header)
@@ -368,7 +343,7 @@ chosen-distinct : (b : Bool) (rows : List IndexEntry) → All (λ r. is_chosen b
 chosen-distinct b [] chosen apart i j hi hj h = absurd (omega arith)
 chosen-distinct b (d ∷ rest) chosen apart i j hi hj h =
     let long = length-map rest (λ (r : IndexEntry). identifier_of r.id) in
-    let at = get_or-at (λ (r : IndexEntry). identifier_of r.id) (d ∷ rest) in
+    let at = get_or-map (λ (r : IndexEntry). identifier_of r.id) (d ∷ rest) in
     let sort = chosen-sort b in
     grind (arith, long, at i d 0, at j d 0, chosen, sort, same-sort, apart i j d, apart j i d)
 
@@ -378,7 +353,7 @@ pub distinct_chosen : (b : Bool) (rows : List IndexEntry) → AreApart (map (λ 
 distinct_chosen b rows apart =
     chosen-distinct b (rows_of b rows) (filter_passes (is_chosen b) rows)
     (AllPairs-filter (λ r s. same_name r.id s.id ≡ false) (is_chosen b) rows
-    (λ i j d before within. let at = get_or-at (λ (r : IndexEntry). r.id) rows in
+    (λ i j d before within. let at = get_or-map (λ (r : IndexEntry). r.id) rows in
     let long = length-map rows (λ (r : IndexEntry). r.id) in
     grind (arith, long, at i d d.id, at j d d.id, apart i j d.id)))
 

@@ -1,5 +1,5 @@
 //! What joining inputs means, as definitions and laws of them. No function of it does anything.
-#![tactic(auto)]
+#![tactic(auto, using(crate::proofs::Joined::laws, crate::proofs::Files::laws, crate::proofs::Sizes::laws))]
 
 mod laws;
 

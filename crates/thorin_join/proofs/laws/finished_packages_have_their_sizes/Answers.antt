@@ -1,5 +1,0 @@
-use Rattle.thorin_join.proofs.Sizes.{file-within, finished-size}
-use Rattle.thorin_join.proofs.laws.finished_packages_have_their_sizes.Goals as goal
-
-pub returns : goal.returns
-returns c = record { contents = finished-size; file = file-within }
