@@ -213,23 +213,16 @@ module _ (order : Endianness) (contents : Contents) (compilations types : Option
     own-are = rw (place-is, bytes-are (kind_of f.is.owns.place)) f.is.owns.bytes
 
     found-unit : IsUnitOf pack name (entry_ids own) index f.place parts.row f.is.owns.encoding
-    found-unit = record {
-      within = (id-at own f.place f.row f.at).0;
-      named = (id-at own f.place f.row f.at).1 ∙ ap identifier_of f.is.name;
-      row_is = parts.there;
-      inside = λ kind range h. rw (held-is kind)
-          (f.is.lie.inside kind range (sym (range-is kind) ∙ h));
-      header = rw (own-are, place-is) f.is.owns.header;
-    }
+    found-unit =
+        let at = id-at own f.place f.row f.at in
+        let is = f.is in
+        grind (arith, at, is.name, parts.there, held-is, range-is, is.lie, own-are, place-is, is.owns)
 
     found-is : IsUnit (unit_of pack name (f.place + 1) parts.row f.is.owns.encoding) unit
     unfolding row_bytes
-    found-is = record {
-      bytes = own-are;
-      content = λ kind copied. bytes-are kind ∙ f.is.shares.content kind copied;
-      string = λ same i. rw (held-is kinds.Str, strings_are, bytes-are kinds.StrOffsets, same)
-          (f.is.shares.string strings table (take-length strings) i);
-    }
+    found-is =
+        let string = f.is.shares.string strings table (take-length strings) in
+        grind (arith, own-are, bytes-are, f.is.shares.content, held-is, strings_are, string)
 
   module _ (of : IndexEntry → Meaning)
       (are : AreRowsOf order contents strings rows (members of rows))

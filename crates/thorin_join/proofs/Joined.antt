@@ -27,7 +27,7 @@ use Rattle.thorin_join.specs.StandApart.{contents_begun, EachRow, LieBehind, row
 use Rattle.thorin_join.proofs.Rows.{place-put, row-behind, row-name, row-other, row-own, row-part}
 use Rattle.thorin_join.proofs.Units.{added-keys, apart-none, AreAdded, each-joining, Goes, IsAdded}
 use Rattle.thorin_join.proofs.Units.{joined_distinct, keys-units, News, Reads, units-are, units-go}
-use Rattle.thorin_join.specs.Laid.{HaveOneRange, is_at, IsLaid, Lie, rows_at, same_place}
+use Rattle.thorin_join.specs.Laid.{HaveOneRange, is_at, Lie, rows_at, same_place}
 use Rattle.dwp_units.specs.declared.unit.UnitSection.TheVariants as places
 
 -- one more unit behind the others
@@ -107,13 +107,6 @@ can-lie source made parts n r is goes =
     let none = whole-else source.encoding made.file.contents parts in
     let types = types-only r.0 r.1.from in
     grind (arith, row.types, row.info, none, goes, types, is.name, is.place, is.bytes)
-
--- those of a package that is laid so, with parts, which have no units
-pub laid-lies : (made : InProgress) (parts : Contents)
-    → ((place : UnitSection) → joined_parts (kind_of place) parts ≡ []) → IsLaid made
-    → RowsLie made.file.order made.rows (with_parts parts made.file.contents)
-laid-lies made parts none laid =
-    grind (arith, content-with_parts, none, append-nil {A = ℕ}, laid.info, laid.types, laid.once)
 
 -- units whose names are new
 abbrev pub AllNew : List DwarfObject → List DwarfObject → Type 0
@@ -284,6 +277,9 @@ source-joins bytes source before now sound same meaning named h =
     let kept = brought.follows rep.table in
     let none = parts-none source before.strings parts m.after m.parts_are in
     let q = with_all_parts before parts m.after (before.differing ++ m.new.differing) in
+    let laid = sound.laid in
+    let lie : RowsLie before.file.order before.rows q.file.contents =
+    grind (arith, none, not-shared, content-with_parts, append-nil {A = ℕ}, laid) in
     let new = joining held j.all in
     let added = added-keys (adding source before parts) us new j.are in
     let s = units-added source before parts m.after rep.table m.parts_are q us new ms j.are
@@ -293,8 +289,7 @@ source-joins bytes source before now sound same meaning named h =
     (subst (λ o. AreRowsOf o q.file.contents m.after before.rows ms) (sym same) (keep-rows
     before.file.order old q.file.contents before.strings m.after before.rows ms
     (grows-with_parts parts old) kept.kept rep.rows))
-    (subst (λ o. RowsLie o before.rows q.file.contents) (sym same) (laid-lies before parts
-    (λ place. none (kind_of place) (not-shared place).0 (not-shared place).2) sound.laid)) in
+    (subst (λ o. RowsLie o before.rows q.file.contents) (sym same) lie) in
     let a = s.2 in
     let order : (with_new_units q us).file.order ≡ source.object.order = a.order ∙ sym same in
     let has : Represents (with_new_units q us) (ms ++ s.0) = record {
@@ -376,14 +371,7 @@ new-units file = same-begun units_begun file refl
 -- a package that a file begins has no more than none
 keeps-begun : (bytes : List ℕ) (file : Elf) (begun now : Option InProgress)
     → InputKeeps bytes (Some (package_or_new file begun)) now → InputKeeps bytes begun now
-keeps-begun bytes file None now k = record {
-  sound = k.sound;
-  joins = k.joins;
-  used = k.used;
-  named = k.named;
-  strings = k.strings;
-  behind = k.behind;
-}
+keeps-begun bytes file None now k = search (k.sound, k.joins, k.named, k.strings, k.behind)
 keeps-begun bytes file (Some made) now k = k
 
 pub input-keeps : (bytes : List ℕ) (begun now : Option InProgress) → IsSoundBegun begun
@@ -423,12 +411,7 @@ pub uses-strings : (bytes : List ℕ) (begun : Option InProgress) (now : InProgr
 uses-strings bytes begun now sound h =
     let k = input-keeps bytes begun (Some now) sound h in
     let fine : IsSound now = k.sound in
-    record {
-      used = k.used;
-      named = k.named;
-      strings = k.strings;
-      distinct = fine.units.table.distinct;
-    }
+    search (k.named, k.strings, fine.units.table.distinct)
 
 -- an input
 each-inside : (order : Endianness) (c : Contents) (strings : List (List ℕ)) (rows : List IndexEntry)
@@ -452,13 +435,7 @@ pub stand-apart : (bytes : List ℕ) (begun : Option InProgress) (now : InProgre
     → IsSoundBegun begun → with_input bytes begun ≡ Ok (Some now) → StandApart begun now
 stand-apart bytes begun now sound h =
     let k = input-keeps bytes begun (Some now) sound h in
-    record {
-      added = k.behind.0;
-      rows = k.behind.1;
-      first = begun-inside begun sound;
-      behind = k.behind.2;
-      inside = sound-inside now k.sound;
-    }
+    search (k.behind.1, k.behind.2, begun-inside begun sound, sound-inside now k.sound)
 
 -- the laws that are one of these lemmas as it stands
 pub ruleset laws = (stand-apart, uses-strings)

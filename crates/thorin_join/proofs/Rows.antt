@@ -407,13 +407,7 @@ module _ (source : Source) (before parts : Contents) (read : DwarfObject × Unit
         bytes_are = refl;
         encoding = made.encoding ∙ (whole-else source.encoding before parts).0;
         lie = grind (arith, has-shared, lies, content-with_parts);
-        shares = record {
-          content = λ kind copies. rw (content-with_parts kind parts before)
-              ((lies kind (rw copies refl)).part_is ∙ copied kind copies);
-          string = λ final final_table kept i.
-              rw (content-with_parts StrOffsets parts before, (lies StrOffsets refl).part_is)
-              ((reads final final_table kept i).same ∙ strings.2 i);
-        };
+        shares = grind (arith, content-with_parts, lies, copied, reads, strings.2);
       }
 
   -- a plain input
