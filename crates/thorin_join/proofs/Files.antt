@@ -215,8 +215,8 @@ module _ (order : Endianness) (contents : Contents) (compilations types : Option
     found-unit : IsUnitOf pack name (entry_ids own) index f.place parts.row f.is.owns.encoding
     found-unit =
         let at = id-at own f.place f.row f.at in
-        let is = f.is in
-        grind (arith, at, is.name, parts.there, held-is, range-is, is.lie, own-are, place-is, is.owns)
+        let r = f.is in
+        grind (arith, at, r.name, parts.there, held-is, range-is, r.lie, own-are, place-is, r.owns)
 
     found-is : IsUnit (unit_of pack name (f.place + 1) parts.row f.is.owns.encoding) unit
     unfolding row_bytes
