@@ -3,31 +3,31 @@
 -- them can be found and read. Its strings are those that its inputs name. The ranges of an input's
 -- units lie behind those of the inputs before it.
 use Rattle.thorin_join.proofs.Terms
-use Terms.{Contents, Endianness, false, filter-append, first, has_info, IndexEntry, indexes_of, inl}
-use Terms.{Each, InProgress, input_file_of, InputFile, inr, IsSound, IsSoundBegun, IsTable, IsWhole}
-use Terms.{Elf, joined_parts, joining, Joins, keys, kind_of, length, length-append, LieInside, List}
-use Terms.{None, Ok, opened, Option, order_test, package_or_new, parts_of, place_for, refl, row_at}
+use Terms.{Endianness, false, filter-append, has_info, IndexEntry, indexes_of, inl, InProgress, ◌∷◌}
+use Terms.{TypeUnit, UnitRead, units_begun, units_of, UnitSection, with_bytes, with_input, ◌+◌, ◌∙◌}
 use Terms.{adding, All-append, ap, append-nil, append_assoc, AreRowsOf, arith, begun_by, bind-ok}
-use Terms.{can_join, Compilation, content_of, contribution_to, DwarfObject, ◌+◌, ◌∙◌, ◌∷◌, ◌≡◌, ◌⊎◌}
-use Terms.{list_any, map, map-append, map-map, Meaning, Members, names_of, New, new_units, NewUnit}
-use Terms.{same_kind, same_name, SectionKind, Some, Source, source_units, subst, sym, take-length}
-use Terms.{true, TypeUnit, UnitRead, units_begun, units_of, UnitSection, with_bytes, with_input}
+use Terms.{can_join, Compilation, content_of, Contents, contribution_to, DwarfObject, Each, Elf}
+use Terms.{input_file_of, InputFile, inr, IsSound, IsSoundBegun, IsTable, IsWhole, joined_parts}
+use Terms.{joining, Joins, keys, kind_of, length, length-append, LieInside, List, list_any, map}
+use Terms.{map-append, map-map, Meaning, Members, names_of, New, new_units, NewUnit, None, Ok, ◌⊎◌}
+use Terms.{opened, Option, order_test, package_or_new, parts_of, place_for, refl, row_at, same_kind}
+use Terms.{same_name, SectionKind, Some, Source, source_units, subst, sym, take-length, true, ◌≡◌}
 use Terms.{with_new_unit, with_new_units, with_parts, with_source, with_unit_added, [], ℕ, ◌++◌}
 use Rattle.{thorin_input.specs.Encodings.encoding_of, thorin_join.specs.Represents.Represents}
 use Rattle.thorin_join.proofs.{Parts.parts-none, Units.units-joined}
 use Rattle.thorin_join.proofs.Parts.{content-with_bytes, content-with_parts, each-brings}
 use Rattle.thorin_join.specs.{FirstUse.with_strings, State.held_units, State.with_all}
-use Rattle.thorin_join.specs.Builder.{order_of, source_for, with_source_or_new, with_units}
 use Rattle.thorin_join.specs.Meaning.{input_meaning, meant, object_meaning, source_meaning}
+use Rattle.thorin_join.specs.Builder.{order_of, source_for, with_source_or_new, with_units}
 use Rattle.thorin_join.proofs.Rows.{row-shares, rows-next, unit-added, whole-else}
 use Rattle.thorin_join.proofs.Rows.{CanLie, front-long, Grows, grows-trans, grows-with_bytes}
 use Rattle.thorin_join.proofs.Rows.{is-unit_row, keep-rows, lies-whole, not-shared, own-place}
 use Rattle.thorin_join.specs.FirstUse.{named_in, named_in_file, strings_begun, used_by, UsesStrings}
 use Rattle.thorin_join.specs.StandApart.{contents_begun, EachRow, LieBehind, rows_begun, StandApart}
+use Rattle.thorin_join.specs.Laid.{HaveOneRange, is_at, Lie, rows_at, same_place}
 use Rattle.thorin_join.proofs.Rows.{place-put, row-behind, row-name, row-other, row-own, row-part}
 use Rattle.thorin_join.proofs.Units.{added-keys, apart-none, AreAdded, each-joining, Goes, IsAdded}
 use Rattle.thorin_join.proofs.Units.{joined_distinct, keys-units, News, Reads, units-are, units-go}
-use Rattle.thorin_join.specs.Laid.{HaveOneRange, is_at, Lie, rows_at, same_place}
 use Rattle.dwp_units.specs.declared.unit.UnitSection.TheVariants as places
 
 -- one more unit behind the others

@@ -1,24 +1,25 @@
 -- What is read of bytes is read alike wherever they stand, and a unit whatever follows it.
 use Rattle.thorin_join.proofs.Terms
-use Terms.{Err, first_identifier, Format, Header, identity, Input, is_address_size, is_some, length}
-use Terms.{UnitSection, zero, [], ℕ, ◌++◌, ◌+◌, ◌-◌, ◌>>=◌, ◌∙◌, ◌∷◌, ◌≡◌, ◌⊎◌}
+use Terms.{Err, first_identifier, Format, Header, identity, Input, is_some, length, length-append}
+use Terms.{List, nat_tests, number_front, Ok, ReadError, refl, Result, root_identity, suc, sym}
 use Terms.{after, ap, arith, Bool, cond, drop, drop-append-le, Encoding, Endianness, entry_identity}
-use Terms.{length-append, List, nat_tests, number_front, Ok, ReadError, refl, Result, root_identity}
-use Terms.{suc, sym, take-append-drop, take-append-le, true, type_signature, unit_takes}
+use Terms.{take-append-drop, take-append-le, true, type_signature, UnitSection, zero, [], ℕ, ◌++◌}
+use Terms.{◌+◌, ◌-◌, ◌>>=◌, ◌∙◌, ◌∷◌, ◌≡◌, ◌⊎◌}
 use Rattle.dwp_bytes.specs.declared.error.ReadError.TheVariants.{AddressSize, UnknownForm}
 use Rattle.dwp_bytes.specs.declared.encoding.Format.TheVariants.{Dwarf32, Dwarf64}
-use Rattle.{dwp_units.specs.declared.unit.UnitSection.TheVariants.Types, std.specs.Prelude.is_ok}
+use Rattle.dwp_units.{proofs.Units.unit_takes, specs.declared.unit.UnitSection.TheVariants.Types}
 use Rattle.dwp_units.specs.AbbreviationCodes.{code_at, root_code_at}
+use Rattle.{dwp_dwarf.specs.Abbreviations.Specification, std.specs.Prelude.is_ok}
+use Rattle.{dwp_dwarf.specs.Forms.past_value, dwp_dwarf.specs.Forms.text_at, std.specs.Option.ok_or}
+use Rattle.dwp_units.proofs.Readings.{reads_byte, reads_sleb, reads_uleb}
 use Rattle.std.proofs.Common.{add_assoc, length-take-le, ℤ}
-use Rattle.dwp_dwarf.specs.{Abbreviations.Specification, Forms.layout_of, Forms.past_value}
-use Rattle.{dwp_bytes.specs.Leb.sleb_at, dwp_bytes.specs.Leb.uleb_at, std.specs.Option.ok_or}
 use Rattle.dwp_dwarf.specs.Entries.{attribute_at, attributes, DebugAttribute, number_of}
-use Rattle.dwp_units.proofs.Readings.{Answer, by-result, more, reads_sleb}
-use Rattle.dwp_units.specs.Units.{header_at, initial_length_at, older_at, unit_at, unit_code_at}
-use Rattle.dwp_dwarf.specs.Forms.{block_length_at, named_form_at, named_within, text_at, value_at}
-use Rattle.dwp_units.proofs.Readings.{bind-bind, bind_alike, Reads, reads_byte, reads_uleb}
-use Rattle.dwp_units.specs.Units.{address_size_at, newer_at, older_type_at, type_at, unit_type_at}
-use Rattle.dwp_bytes.specs.Input.{byte_at, number_at, offset_at, relocated_at, skip_at, split_at}
+use Rattle.dwp_bytes.specs.{Input.skip_at, Input.split_at, Leb.sleb_at, Leb.uleb_at}
+use Rattle.dwp_dwarf.specs.Forms.{block_length_at, layout_of, named_form_at, named_within, value_at}
+use Rattle.dwp_units.specs.Units.{address_size_at, header_at, initial_length_at, newer_at, older_at}
+use Rattle.dwp_bytes.specs.Input.{byte_at, is_address_size, number_at, offset_at, relocated_at}
+use Rattle.dwp_units.specs.Units.{older_type_at, type_at, unit_at, unit_code_at, unit_type_at}
+use Rattle.dwp_units.proofs.Readings.{Answer, bind-bind, bind_alike, by-result, more, Reads}
 pub use Rattle.dwp_index.proofs.UnitBytes.{plain}
 
 -- what was read, moved

@@ -3,31 +3,31 @@
 -- have, and the parts. The string offsets of the parts read alike: of a plain input those of the
 -- object, of a package those of each row, where each kind of section has one part at most.
 use Rattle.thorin_join.proofs.Terms
-use Terms.{Parts, result_unwrap_or, rewritten, row_in, same-ok, same-self, same_kind, SectionKind}
-use Terms.{StrOffsets, subst, suc, sum_by, sym, take, take-length, true, unit_section, Used}
-use Terms.{ap, append-nil, append_assoc, arith, bind-was, Bool, by-bool, bytes_of_strings, cond}
-use Terms.{content_of, Contents, Contribution, data_of, drop, DwarfObject, Encoding, Endianness, Ok}
-use Terms.{entry_count, eqb, ErrorValue, false, first, fitting_offset, has_part, header_size, Index}
-use Terms.{inl, InProgress, InputFile, inr, is-same, is_copied, is_package, is_some, IsTable}
-use Terms.{joined_content, joined_offsets, joined_parts, kept_more, length, length-append, parts_of}
-use Terms.{length-drop, length-take, List, list_any, list_any-append, named_at, nat_tests, NewUnit}
-use Terms.{nil_from_length, no_header, packaged_offsets, ◌-◌, ◌<◌, ◌||◌, ◌∙◌, ◌∷◌, ◌≡◌, ◌≤◌, ◌⊎◌}
-use Terms.{offset_size, position_or_len, range_in, range_named, Ranges, ReadsAlike, refl, remapped}
-use Terms.{slice_range, Some, Source, stands_once, Str, string_at, strings_again, strings_of}
-use Terms.{whole_entries, with_bytes, with_each_part, with_new_unit, with_new_units, with_offsets}
-use Terms.{with_part, with_parts, with_string, with_unit_added, zero, [], ℕ, ◌&&◌, ◌*◌, ◌++◌, ◌+◌}
+use Terms.{Contribution, data_of, drop, DwarfObject, Encoding, Endianness, entry_count, eqb}
+use Terms.{ErrorValue, false, first, fitting_offset, has_part, header_size, Index, inl, InProgress}
+use Terms.{InputFile, inr, is-same, is_copied, is_package, is_some, IsTable, joined_content}
+use Terms.{Ok, packaged_offsets, Parts, parts_of, position_or_len, range_in, range_named, Ranges}
+use Terms.{ReadsAlike, refl, remapped, result_unwrap_or, rewritten, row_in, same-ok, same-self}
+use Terms.{[], ℕ, ◌&&◌, ◌*◌, ◌++◌, ◌+◌, ◌-◌, ◌<◌, ◌||◌, ◌∙◌, ◌∷◌, ◌≡◌, ◌≤◌, ◌⊎◌}
+use Terms.{ap, append-nil, append_assoc, arith, bind-was, Bool, by-bool, cond, content_of, Contents}
+use Terms.{joined_parts, kept_more, length, length-append, length-drop, length-take, List, list_any}
+use Terms.{list_any-append, named_at, nat_tests, NewUnit, nil_from_length, no_header, offset_size}
+use Terms.{same_kind, SectionKind, slice_range, Some, Source, stands_once, Str, string_at}
+use Terms.{strings_again, strings_of, StrOffsets, subst, suc, sum_by, sym, take, take-length, true}
+use Terms.{unit_section, Used, whole_entries, with_bytes, with_each_part, with_new_unit}
+use Terms.{with_new_units, with_offsets, with_part, with_parts, with_string, with_unit_added, zero}
 use Rattle.thorin_package_input.specs.PackagedOffsets.{ranges_test, rewritten_from}
 use Rattle.thorin_strings.proofs.Remapping.{entries_long, header_long}
 use Rattle.{dwp_elf.specs.Contents.appended, thorin_package_input.specs.PackagedReading.range_bytes}
-use Rattle.{std.proofs.Math.Nat.mul-le-mul_right, thorin_join.proofs.Ranges.whole-read}
-use Rattle.{dwp_strings.specs.Strings.IsZeroFree, thorin_join.proofs.Units.News}
+use Rattle.{dwp_strings.specs.Strings.IsZeroFree, std.proofs.Math.Nat.mul-le-mul_right}
 use Rattle.thorin_package_input.proofs.ReadAlike.{joined_read, next_passed, package_reads_alike}
 use Rattle.thorin_strings.specs.StringOffsets.{offset_at, remapped_entries, remapped_entry}
 use Rattle.std.proofs.lemmas.List.Sums.{sum_by-append, sum_by-cons, sum_by_push}
-use Rattle.thorin_join.specs.Sizes.{bytes_of_contents, carried, offsets_used}
 use Rattle.thorin_join.specs.Strings.{each_from, offset_of_entry, strings_at}
 use Rattle.dwp_strings.proofs.Named.{read_free, string_was, used}
+use Rattle.thorin_join.{proofs.Ranges.whole-read, proofs.Units.News, specs.Meaning.joined_offsets}
 use Rattle.thorin_join.specs.FirstUse.{named_by_ranges, named_by_section, named_in, with_strings}
+use Rattle.thorin_join.specs.Sizes.{bytes_of_contents, bytes_of_strings, carried, offsets_used}
 use Rattle.thorin_join.proofs.Ranges.{count-fits, count-none, empty-alike, range-of, whole-long}
 use Rattle.std.proofs.Common.{if◌then◌else◌, leb, leb-false, true≢false, ⊎_elim}
 

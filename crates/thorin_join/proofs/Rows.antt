@@ -17,15 +17,15 @@ use Terms.{first, length-append, length-drop, LieInside, List, Meaning, nat_test
 use Rattle.{dwp_base.specs.ByKind.value_of, thorin_input.specs.Adjusting.adjusted}
 use Rattle.{dwp_base.proofs.KindsRead.read-kind, thorin_join.specs.StandApart.LieBehind}
 use Rattle.dwp_base.specs.declared.section.SectionKind.TheVariants.{Abbrev, Info, Types}
-use Rattle.thorin_join.specs.Meaning.{lie_inside, meaning_by, unit_meaning}
+use Rattle.thorin_join.specs.Meaning.{contributions_by, lie_inside, placed_row}
 use Rattle.std.proofs.{Common.if◌then◌else◌, Math.Seq.drop-append-add, Math.Seq.drop-append_seam}
 use Rattle.thorin_join.proofs.{Parts.rows-read, Ranges.empty-alike, Ranges.strings-there}
-use Rattle.thorin_input.specs.{Indexes.index_for, Rows.own_contribution, Rows.row_test}
+use Rattle.thorin_input.specs.{Indexes.index_for, Rows.row_test, Rows.unit_contribution}
 use Rattle.thorin_input.specs.Adjusting.{contribution_by_row, moved, own_index, without_column}
 use Rattle.thorin_join.proofs.Parts.{content-with_bytes, each-brings, parts-first, parts-read}
 use Rattle.thorin_join.proofs.Parts.{content-with_parts, copied-or-offsets, parts-copied, RowsRead}
-use Rattle.thorin_join.specs.Meaning.{contribution_by, contributions_by, offsets_by, placed_row}
-use Rattle.thorin_input.specs.Rows.{adjusted_contribution, unit_contribution, unit_row, whole_row}
+use Rattle.thorin_input.specs.Rows.{adjusted_contribution, own_contribution, unit_row, whole_row}
+use Rattle.thorin_join.specs.Meaning.{contribution_by, meaning_by, offsets_by, unit_meaning}
 use Rattle.thorin_input.specs.Adjusting.{Adjustor, has_column_for, moved_range, other_index, row_of}
 use Rattle.dwp_base.specs.declared.section.SectionKind.TheVariants as kinds
 use Rattle.dwp_units.specs.declared.unit.UnitSection.TheVariants as places

@@ -1,23 +1,23 @@
 -- How large a package becomes: inputs add to its contents at most the bytes of their used sections,
 -- and finishing adds the strings and both indexes.
 use Rattle.thorin_join.proofs.Terms
-use Terms.{Adding, adding, All, ap, arith, begun_by, bind-was, bytes_of_strings, bytes_of_unit}
-use Terms.{IsIndexOf, joining, KindsDiffer, leb-true, length, length-append, length-KindsDiffer}
-use Terms.{cond, Contents, data_of, DwarfObject, Elf, Endianness, ErrorValue, every, File}
-use Terms.{file_text, first, flat_map-map, Header, IndexEntry, InProgress, is_some, IsFinished}
-use Terms.{length-map, List, map, name_of, nat_le, nat_tests, NewUnit, None, Ok, Option, refl}
-use Terms.{same-ok, SectionKind, Some, Source, Str, suc, sum_by, sym, unit_section, UnitRead}
-use Terms.{units_whole, UnitSection, Used, with_bytes, with_input, with_new_units, with_parts}
-use Terms.{with_source, [], ℕ, ◌*◌, ◌++◌, ◌+◌, ◌∙◌, ◌∷◌, ◌≡◌, ◌≤◌}
+use Terms.{Adding, adding, All, ap, arith, begun_by, bind-was, bytes_of_unit, cond, Contents}
+use Terms.{IndexEntry, InProgress, is_some, IsFinished, IsIndexOf, joining, KindsDiffer, leb-true}
+use Terms.{data_of, DwarfObject, Elf, Endianness, ErrorValue, every, File, file_text, first, Header}
+use Terms.{length, length-append, length-KindsDiffer, length-map, List, map, name_of, nat_le, ◌≡◌}
+use Terms.{nat_tests, NewUnit, None, Ok, Option, refl, same-ok, SectionKind, Some, Source, Str, suc}
+use Terms.{sum_by, sym, unit_section, UnitRead, units_whole, UnitSection, Used, with_bytes, ◌≤◌}
+use Terms.{with_input, with_new_units, with_parts, with_source, [], ℕ, ◌*◌, ◌++◌, ◌+◌, ◌∙◌, ◌∷◌}
 use Rattle.dwp_elf.proofs.ReadingBack.{length-file_text, length-number_bytes}
-use Rattle.{std.proofs.lemmas.List.Concat.length-flat_map, thorin_index.specs.IndexText.index_bytes}
-use Rattle.thorin_join.specs.{FirstUse.strings_begun, FirstUse.with_strings, Meaning.named_sections}
-use Rattle.thorin_join.{proofs.Parts.units-strings, specs.Meaning.named_at, specs.Sizes.with_inputs}
+use Rattle.std.proofs.lemmas.List.{Concat.length-flat_map, Folds.flat_map-map}
+use Rattle.{thorin_index.specs.IndexText.index_bytes, thorin_join.proofs.Parts.units-strings}
+use Rattle.thorin_join.specs.{FirstUse.strings_begun, FirstUse.with_strings, Sizes.bytes_begun}
+use Rattle.thorin_join.specs.{Meaning.named_at, Meaning.named_sections, Sizes.bytes_of_index}
 use Rattle.thorin_join.proofs.Joined.{same-begun, source-made, takes}
 use Rattle.dwp_elf.specs.{Contents.appended, FileText.content_bytes, FileText.names_of}
-use Rattle.thorin_join.specs.Sizes.{bytes_begun, bytes_of_contents, bytes_of_index, carried}
-use Rattle.thorin_join.specs.Sizes.{carried_size, container_most, IsSizeFinished, IsSizeOfIndex}
-use Rattle.thorin_join.specs.Sizes.{offsets_used, sections_in, sections_of_input, used_size}
+use Rattle.thorin_join.specs.Sizes.{bytes_of_contents, sections_of_input, used_size, with_inputs}
+use Rattle.thorin_join.specs.Sizes.{bytes_of_strings, carried, carried_size, container_most}
+use Rattle.thorin_join.specs.Sizes.{IsSizeFinished, IsSizeOfIndex, offsets_used, sections_in}
 use Rattle.std.proofs.lemmas.List.Sums.{sum_by-append, sum_by-cons, sum_by-le-sum_by, sum_by_push}
 use Rattle.thorin_join.proofs.Parts.{each-brings, each-unit, ended_long, long, placed_bytes}
 use Rattle.thorin_join.proofs.Units.{AreAdded, each-named, News, Reads, units-joined}

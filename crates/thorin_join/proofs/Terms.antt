@@ -16,7 +16,7 @@ pub use Rattle.dwp_table.specs.{declared.object.DwarfObject.DwarfObject, Objects
 pub use Rattle.thorin_index.specs.{declared.entry.IndexEntry.IndexEntry, EntryTests.index_tests}
 pub use Rattle.dwp_bytes.specs.Encoding.{index_version_of, offset_size}
 pub use Rattle.thorin_strings.proofs.Remapping.{kept_more, range_named}
-pub use Rattle.{dwp_units.specs.declared.unit.UnitSection.UnitSection, std.specs.Map.lookup}
+pub use Rattle.dwp_units.{proofs.Units.units_whole, specs.declared.unit.UnitSection.UnitSection}
 pub use Rattle.thorin_index.specs.Entries.{contribution_to, entry_by}
 pub use Rattle.dwp_base.{proofs.Bools.by-bool, specs.declared.endian.Endianness.Endianness}
 pub use Rattle.dwp_bytes.specs.declared.{encoding.Encoding.Encoding, error.ReadError.ReadError}
@@ -25,42 +25,39 @@ pub use Rattle.{std.proofs.Math.Seq.take-length, thorin_package_input.specs.Read
 pub use Rattle.dwp_elf.specs.FileText.{file_text, Object as File}
 pub use Rattle.{std.specs.Result.result_unwrap_or, thorin_identity.specs.Identity.first_identifier}
 pub use Rattle.{dwp_bytes.specs.declared.encoding.Format.Format, dwp_table.specs.Table.AreDistinct}
-pub use Rattle.dwp_units.proofs.Units.{unit_takes, units_whole}
-pub use Rattle.std.proofs.ByRecursion.{All-append, All-weaker}
-pub use Rattle.{dwp_elf.proofs.Changes.length-KindsDiffer, thorin_join.specs.Sizes.bytes_of_strings}
+pub use Rattle.{dwp_elf.proofs.Changes.length-KindsDiffer, thorin_errors.specs.Errors.ErrorValue}
 pub use Rattle.dwp_base.specs.Reading.{read_each, ◌>>=◌}
-pub use Rattle.{thorin_errors.specs.Errors.ErrorValue, thorin_join.specs.Strings.strings_of}
-pub use Rattle.{std.proofs.lemmas.Simd.map-map, thorin_errors.specs.Answers.as_error}
-pub use Rattle.dwp_elf_read.specs.Elf.{Elf, elf_of}
-pub use Rattle.std.proofs.lemmas.List.{drop-append-le, length-map}
+pub use Rattle.{thorin_errors.specs.Answers.as_error, thorin_join.specs.Strings.strings_of}
 pub use Rattle.thorin_package_input.proofs.ReadAlike.{no_header, number_front, strings_again}
-pub use Rattle.std.proofs.lemmas.List.Folds.{flat_map-map, list_any-append, list_any_at}
-pub use Rattle.std.proofs.lemmas.List.{map-append, nil_from_length, take-append-le}
 pub use Rattle.dwp_bytes.specs.StringOffsets.{entry_count, header_size, string_for}
+pub use Rattle.thorin_join.specs.Meaning.{source_units, UnitRead, whole_entries}
 pub use Rattle.thorin_join.specs.Laid.{IsWhole, name_signature, type_signature}
+pub use Rattle.std.proofs.lemmas.List.{Folds.list_any-append, Folds.list_any_at, take-append-le}
 pub use Rattle.dwp_elf.specs.Contents.{content_of, count_of, KindsDiffer}
 pub use Rattle.dwp_strings.specs.Strings.{data_of, IsTable, with_string}
 pub use Rattle.dwp_base.specs.Sections.{all_kinds, name_of, same_kind}
 pub use Rattle.thorin_input.specs.{Names.is_compilation, Names.same_name, NewUnits.unit_section}
 pub use Rattle.dwp_base.proofs.Steps.{bind-ok, bind-was, same-ok}
 pub use Rattle.thorin_input.specs.{Format.is_copied, Format.is_shared, Held.unit_bytes}
+pub use Rattle.std.proofs.{ByRecursion.All-append, ByRecursion.All-weaker, lemmas.Simd.map-map}
 pub use Rattle.std.proofs.lemmas.{Bool.Decides.nat_tests, Option.none-some, Option.same_Some}
+pub use Rattle.dwp_bytes.specs.Input.{after, Input, section}
 pub use Rattle.thorin_join.specs.{Join.GivesNone, Join.Joins, Represents.units_of}
+pub use Rattle.{dwp_elf_read.specs.Elf.Elf, dwp_elf_read.specs.Elf.elf_of, std.specs.Map.lookup}
+pub use Rattle.std.proofs.lemmas.List.{drop-append-le, length-map, map-append, nil_from_length}
 pub use Rattle.thorin_join.specs.Builder.{begun_by, IdentifiersFit, IsFinished, package_or_new}
 pub use Rattle.dwp_elf.specs.Growing.{Contents, contribution_put, HasFront, with_bytes}
 pub use Rattle.thorin_input.specs.Indexes.{Indexes, indexes_of, is_package, Source}
 pub use Rattle.dwp_base.proofs.EveryKind.{every, is-same, same-each, same-self}
-pub use Rattle.dwp_bytes.specs.Input.{after, Input, is_address_size, section}
 pub use Rattle.dwp_index.specs.{Holding.sections_of, Index.column_place, Index.Index, Index.Ranges}
 pub use Rattle.thorin_join.specs.Represents.{AreApart, AreRowsOf, IsRowOf, IsSound, IsSoundBegun}
 pub use Rattle.thorin_join.specs.Represents.{LieInside, meaning_at, Shares, units_begun, units_in}
-pub use Rattle.thorin_join.specs.Meaning.{can_join, joined_content, joined_offsets, joining, keys}
 pub use Rattle.thorin_input.specs.NewUnits.{Adding, kept_bytes, New, NewUnit, place_for}
 pub use Rattle.std.specs.List.{AllByRecursion as Each, list_all, list_any, position_or_len, sum_by}
-pub use Rattle.thorin_join.specs.Meaning.{Meaning, Members, source_units, UnitRead, whole_entries}
 pub use Rattle.thorin_join.specs.State.{adding, InProgress, names_of, row_at, with_unit_added}
 pub use Rattle.thorin_input.specs.Parts.{has_part, joined_parts, Parts, parts_of, stands_once}
 pub use Rattle.thorin_input.specs.Used.{first, has_info, InputFile, opened, Used}
+pub use Rattle.thorin_join.specs.Meaning.{can_join, joined_content, joining, keys, Meaning, Members}
 pub use Rattle.dwp_index.specs.Package.{index_for, is_outside, kind_of, Package, part_of, place_of}
 unfoldable pub use Rattle.thorin_package_input.specs.PackagedOffsets.{packaged_offsets}
 unfoldable pub use Rattle.{dwp_index.specs.Package.row_bytes, thorin_input.specs.Parts.with_parts}
