@@ -16,56 +16,54 @@ use Joined.{rows_of, same-self, same_name, section, SectionKind, slice_get, Some
 use Joined.{StrOffsets, subst, sym, take-length, true, unit_section, units_begun, units_in}
 use Joined.{units_of, UnitSection, Used, with_source, with_unit, [], ℕ, ◌++◌, ◌+◌, ◌<◌, ◌>>=◌, ◌||◌}
 use Joined.{◌∙◌, ◌∷◌, ◌≡◌, ◌≤◌, ◌⊎◌}
-use Rattle.std.proofs.lemmas.{Bool.eqb-false, Option.get_or_from_slice_get, Option.slice_get_within}
-use Rattle.thorin_again.proofs.Opened.{in-format, info-written, input-encoding, IsReadOf, lie-kept}
-use Rattle.thorin_again.proofs.Opened.{lie-used, object-written, offsets-are, opened-elf, own-made}
-use Rattle.thorin_join.proofs.Files.{finished-grows, finished-own, finished-strings, HasRows}
-use Rattle.thorin_again.proofs.Meant.{of-section, parts, place-eq, place-is, read-alone, row-lies}
-use Rattle.thorin_join.proofs.Files.{finished-is, finished-order, part-there}
-use Rattle.thorin_again.proofs.Lists.{answers-whole, AreEncoded, begun-now, first-of, input-order}
-use Rattle.thorin_input.specs.NewUnits.{is_met, none_met, once_test, SeenSections, with_each_read}
-use Rattle.thorin_again.proofs.Opened.{and-then, answered, behind, Fares, finished-shared, front}
-use Rattle.thorin_input.specs.Rows.{adjusted_contribution, row_test, unit_contribution, unit_row}
-use Rattle.thorin_join.proofs.Parts.{copied-or-offsets, parts-first, rows-read}
-use Rattle.thorin_input.specs.{Encodings.file_encoding, Encodings.own_encoding, Used.counts_once}
-use Rattle.thorin_input.specs.Adjusting.{adjusted, Adjustor, has_column_for, moved, moved_range}
-use Rattle.thorin_again.{proofs.Kept.keep-names, specs.OwnUnits.AllOf, specs.OwnUnits.HoldsOwn}
-use Rattle.thorin_again.proofs.Opened.{own-offsets, own-parts-tried, OwnMade, present-written}
-use Rattle.thorin_again.proofs.Meant.{again-is, found-range, found-row, IsUnitOf, named-again}
-use Rattle.std.proofs.{ByRecursion.all_kept_by, lemmas.Map.lookup-none, lemmas.Map.NonePasses}
-use Rattle.thorin_again.specs.{Again.all_meant, Again.HaveEncodingOf, OwnRefusals.IsForeseen}
-use Rattle.thorin_again.proofs.Opened.{read-of, rest-differ, section_of, then-fares, Unless}
-use Rattle.std.proofs.lemmas.List.{Elements.All-from_recursion, Sorted.sum_by-IsPermutation}
-use Rattle.thorin_input.specs.NewUnits.{with_each_section, with_first, with_met, with_read}
-use Rattle.thorin_join.proofs.Rows.{adjustor, place-put, range-none, whole-part}
-use Rattle.thorin_join.proofs.Units.{keys-units, kind-place, same_name-self, same_name-sym}
-use Rattle.thorin_again.specs.OwnInput.{IsOwn, own_source, written_object, written_used}
-use Rattle.thorin_input.specs.Adjusting.{other_index, own_index, row_of, without_column}
-use Rattle.thorin_join.proofs.{Joined.input-keeps, Joined.sound-inside, Units.same_name-true}
-use Rattle.std.proofs.lemmas.Map.Keys.{IsDistinct-from_apart, IsDistinct-IsPermutation}
-use Rattle.thorin_input.specs.NewUnits.{with_section, with_section_at, with_section_in}
-use Rattle.thorin_join.proofs.{Joined.new-sound, Moved.identity-shifted, Rows.some-index}
-use Rattle.thorin_again.proofs.{Meant.row-tested, Meant.row-there, Opened.up-to-parts}
-use Rattle.thorin_join.specs.Builder.{finish_test, IsFinishedState, order_of, start, State, taken}
-use Rattle.thorin_join.specs.{Join.limit_of, Join.look_limit, Laid.is_at, Laid.same_place}
-use Rattle.thorin_join.specs.{Join.same_sort, StandApart.EachRow, State.abbreviations_test}
-use Rattle.std.proofs.lemmas.List.Sorted.{IsPermutation-map, IsPermutation-middle}
-use Rattle.thorin_join.{proofs.Rows.own-index, specs.Builder.with_source_or_new}
-use Rattle.std.proofs.lemmas.List.{Folds.list_any_none, Sums.length-filter}
-use Rattle.thorin_again.specs.Own.{has_content, has_sections, packs_again}
-use Rattle.thorin_again.proofs.Lists.{meant_or, rows-encoded, there-back}
-use Rattle.std.specs.{Cmp.both_ways, Cmp.IsEquivalence, List.IsDistinct}
-use Rattle.thorin_again.proofs.Offsets.{any-chosen, at-row, by-passing}
-use Rattle.thorin_again.specs.OwnAccepted.{IsAccepted, IsAcceptedByNew}
-use Rattle.thorin_again.specs.Plain.{HoldsPlain, IsPlain, NamesItself}
-use Rattle.std.proofs.Common.{IsPermutation, ltb-true, nat_lt, ◌≢◌}
-use Rattle.std.proofs.Math.{Bool.and-false, ListN.get_or-map}
-use Rattle.indexmap.proofs.MapLemmas.{lookup_permutation}
-use Rattle.thorin_errors.specs.Errors.{DuplicateUnit}
-use Rattle.thorin_index.specs.IndexText.{is_used}
+use Rattle.dwp_base.proofs.Bools.{both}
 use Rattle.dwp_elf.specs.Written.{written_elf}
 use Rattle.dwp_units.specs.Units.{units}
-use Rattle.dwp_base.proofs.Bools.{both}
+use Rattle.indexmap.proofs.MapLemmas.{lookup_permutation}
+use Rattle.std.proofs.Common.{IsPermutation, ltb-true, nat_lt, ◌≢◌}
+use Rattle.std.proofs.lemmas.List.Sorted.{IsPermutation-map, IsPermutation-middle}
+use Rattle.std.proofs.lemmas.List.{Elements.All-from_recursion, Sorted.sum_by-IsPermutation}
+use Rattle.std.proofs.lemmas.Map.Keys.{IsDistinct-from_apart, IsDistinct-IsPermutation}
+use Rattle.std.proofs.lemmas.{Bool.eqb-false, Option.get_or_from_slice_get, Option.slice_get_within}
+use Rattle.std.proofs.lemmas.{List.Folds.list_any_none, Map.lookup-none, Map.NonePasses}
+use Rattle.std.proofs.{ByRecursion.all_kept_by, Math.Bool.and-false, Math.ListN.get_or-map}
+use Rattle.std.specs.List.{IsDistinct}
+use Rattle.std.{proofs.lemmas.List.Sums.length-filter, specs.Cmp.both_ways, specs.Cmp.IsEquivalence}
+use Rattle.thorin_again.proofs.Lists.{answers-whole, begun-now, Encoded, rows-encoded, there-back}
+use Rattle.thorin_again.proofs.Lists.{first-of, input-order, IsEncoded, meant_or, units-all}
+use Rattle.thorin_again.proofs.Meant.{again-is, found-row, IsUnitOf, of-section, place-eq, row-lies}
+use Rattle.thorin_again.proofs.Meant.{found-range, parts, read-alone, row-tested, row-there}
+use Rattle.thorin_again.proofs.Offsets.{any-chosen, at-row, by-passing}
+use Rattle.thorin_again.proofs.Opened.{and-then, front, info-written, own-offsets, up-to-parts}
+use Rattle.thorin_again.proofs.Opened.{answered, Fares, finished-shared, input-encoding, then-fares}
+use Rattle.thorin_again.proofs.Opened.{behind, object-written, opened-elf, own-parts-tried, OwnMade}
+use Rattle.thorin_again.proofs.Opened.{in-format, IsReadOf, offsets-are, own-made, section_of}
+use Rattle.thorin_again.proofs.Opened.{lie-used, present-written, read-of, rest-differ, Unless}
+use Rattle.thorin_again.specs.OwnInput.{IsOwn, own_source, written_object, written_used}
+use Rattle.thorin_again.specs.{Again.all_meant, Again.HaveEncodingOf, OwnRefusals.IsForeseen}
+use Rattle.thorin_again.specs.{Own.has_content, Own.has_sections, Own.packs_again, Plain.HoldsPlain}
+use Rattle.thorin_again.specs.{OwnAccepted.IsAccepted, OwnAccepted.IsAcceptedByNew, Plain.IsPlain}
+use Rattle.thorin_again.{proofs.Kept.keep-names, proofs.Opened.lie-kept, specs.Plain.NamesItself}
+use Rattle.thorin_again.{proofs.Meant.named-again, proofs.Meant.place-is, specs.OwnUnits.HoldsOwn}
+use Rattle.thorin_errors.specs.Errors.{DuplicateUnit}
+use Rattle.thorin_index.specs.IndexText.{is_used}
+use Rattle.thorin_input.specs.Adjusting.{Adjustor, moved, moved_range, other_index, own_index}
+use Rattle.thorin_input.specs.Adjusting.{adjusted, has_column_for, row_of, without_column}
+use Rattle.thorin_input.specs.NewUnits.{is_met, none_met, SeenSections, with_each_read, with_first}
+use Rattle.thorin_input.specs.NewUnits.{once_test, with_each_section, with_read, with_section_at}
+use Rattle.thorin_input.specs.NewUnits.{with_met, with_section, with_section_in}
+use Rattle.thorin_input.specs.Rows.{adjusted_contribution, row_test, unit_contribution, unit_row}
+use Rattle.thorin_input.specs.{Encodings.file_encoding, Encodings.own_encoding, Used.counts_once}
+use Rattle.thorin_join.proofs.Files.{finished-is, finished-order, finished-own, HasRows, part-there}
+use Rattle.thorin_join.proofs.Joined.{input-keeps, new-sound, sound-inside}
+use Rattle.thorin_join.proofs.Parts.{copied-or-offsets, parts-first, rows-read}
+use Rattle.thorin_join.proofs.Rows.{adjustor, own-index, place-put, some-index, whole-part}
+use Rattle.thorin_join.proofs.Units.{keys-units, kind-place, same_name-self, same_name-true}
+use Rattle.thorin_join.proofs.{Files.finished-grows, Files.finished-strings, Moved.identity-shifted}
+use Rattle.thorin_join.specs.Builder.{finish_test, IsFinishedState, order_of, start, State, taken}
+use Rattle.thorin_join.specs.{Builder.with_source_or_new, Laid.same_place, State.abbreviations_test}
+use Rattle.thorin_join.specs.{Join.limit_of, Join.look_limit, Join.same_sort, StandApart.EachRow}
+use Rattle.thorin_join.{proofs.Rows.range-none, proofs.Units.same_name-sym, specs.Laid.is_at}
 use Rattle.dwp_base.specs.declared.section.SectionKind.TheVariants as kinds
 use Rattle.dwp_units.specs.declared.unit.UnitSection.TheVariants as places
 
@@ -379,19 +377,15 @@ module _ (state : State) (file : File) (sound : IsSoundBegun state.begun) (holds
       let long : length (units_of f.made) ≡ length f.made.rows = length-map f.made.rows _ in
       rw (finished-own _ _ f.finished places.Info) (plain.info (omega (arith, count, long)))
 
-  all : AllOf encoding (units_of f.made)
-  all = subst (λ b. AllOf encoding (units_begun b)) f.begun (holds.all encoding there.1)
-
   has : OwnMade encoding f.made
   has = own-made sound tested f (holds.some encoding there.1) (holds.all encoding there.1)
 
-  encoded : AreEncoded f.made.file.order (units_of f.made)
+  encoded : Encoded (Some f.made)
   encoded = rows-encoded has plain.units
 
   abbrev own : IsOwn state encoding file
   own =
-      let first = first-of _ file encoding has.sound f.finished differ
-      (λ k d within. (encoded k d within, all k d within)) info in
+      let first = first-of _ file encoding has.sound f.finished differ encoded has.all info in
       assumption (holds.some encoding there.1, holds.all encoding there.1, info, first)
 
   has-both : (has_content kinds.Abbrev f.made ≡ true)
@@ -495,8 +489,9 @@ module _ (state : State) (file : File) (sound : IsSoundBegun state.begun) (holds
             ∙ sym (ap (λ b. order_of b file.order) finished.begun)
             ∙ input-order bytes (written_elf file) None after.begun file.order
             (opened-elf bytes (written_elf file) back) input ∙ finished-order _ _ f.finished in
-            answers-whole f.made.file.order (units_in state) alone read same (rw f.begun encoded)
-            p.pack p.parsed (λ name.
+            let are = units-all (IsEncoded f.made.file.order) f.made encoded in
+            answers-whole f.made.file.order (units_in state) alone read same (rw f.begun are) p.pack
+            p.parsed (λ name.
             let limit : look_limit (units_in state) name ≡ look_limit (units_in after) name =
             ap limit_of (count-again (λ u. same_sort name u.0) (units_in state) _ perm) in
             rw (limit, found-again (units_in state) _ distinct perm name) (p.finds name));

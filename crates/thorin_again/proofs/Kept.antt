@@ -10,45 +10,45 @@ use Joined.{Adding, adding, All-append, All-weaker, ap, append-nil, append_assoc
 use Joined.{by-bool, content_of, Contents, Contribution, contribution_put, contribution_to}
 use Joined.{drop-append-le, DwarfObject, Each, Encoding, Endianness, eqb, ErrorValue, false, first}
 use Joined.{HasFront, Header, identity, IndexEntry, inl, InProgress, Input, inr, is-same}
-use Joined.{is_package, is_shared, is_some, IsSound, joined_content, joined_parts}
-use Joined.{joining, keys, kind_of, length, length-append, LieInside, List, list_all, list_any}
-use Joined.{list_any-append, map, map-append, name_for, name_signature, names_of, nat_tests}
-use Joined.{NewUnit, nil_from_length, None, Ok, Option, package_or_new, part_of, Parts, place_for}
-use Joined.{place_of, ReadError, refl, root_identity, row_at, same-ok, same_kind, same_name}
-use Joined.{section, SectionKind, slice_get, Some, Source, subst, sym, true, type_signature}
-use Joined.{unit_bytes, unit_section, UnitRead, UnitSection, Used, with_bytes, with_each_part}
-use Joined.{with_input, with_new_unit, with_new_units, with_part, with_parts, with_unit_added, []}
-use Joined.{ℕ, ◌++◌, ◌+◌, ◌-◌, ◌<◌, ◌∙◌, ◌∷◌, ◌≡◌, ◌⊎◌}
-use Rattle.thorin_input.specs.Format.{is_in_format}
-use Rattle.thorin_join.proofs.Joined.{AllNew, can-lie, grows-with_parts, joined-new, keys-held}
-use Rattle.dwp_units.specs.Units.{header_at, older_at, older_type_at, unit_at, units, units_within}
-use Rattle.thorin_join.proofs.Joined.{Made, names-added, same-begun, sound-inside, source-made}
-use Rattle.thorin_join.proofs.Parts.{each-unit as unit-by-unit, joined_parts-other, parts-copied}
-use Rattle.dwp_dwarf.specs.{Abbreviations.Declaration, Abbreviations.declaration, Offsets.from_at}
+use Joined.{is_package, is_shared, is_some, IsSound, joined_content, joined_parts, joining, keys}
+use Joined.{kind_of, length, length-append, LieInside, List, list_all, list_any, list_any-append}
+use Joined.{map, map-append, name_for, name_signature, names_of, nat_tests, NewUnit}
+use Joined.{nil_from_length, None, Ok, Option, package_or_new, part_of, Parts, place_for, place_of}
+use Joined.{ReadError, refl, root_identity, row_at, same-ok, same_kind, same_name, section}
+use Joined.{SectionKind, slice_get, Some, Source, subst, sym, true, type_signature, unit_bytes}
+use Joined.{unit_section, UnitRead, UnitSection, Used, with_bytes, with_each_part, with_input}
+use Joined.{with_new_unit, with_new_units, with_part, with_parts, with_unit_added, [], ℕ, ◌++◌, ◌+◌}
+use Joined.{◌-◌, ◌<◌, ◌∙◌, ◌∷◌, ◌≡◌, ◌⊎◌}
+use Rattle.dwp_base.proofs.Bools.{or-right}
 use Rattle.dwp_dwarf.proofs.Tables.{from_is, from_within, next_takes, said}
-use Rattle.thorin_join.proofs.Rows.{adjusted-plain, front-long, grows-trans, row-part, whole_behind}
-use Rattle.thorin_join.proofs.Rows.{content-put, IsUnitRow, part-inside, row-name, whole-else}
-use Rattle.thorin_join.proofs.Units.{added-keys, AllSo, AreAdded, each-all, IsKnown, Listed, Reads}
-use Rattle.thorin_input.specs.Encodings.{encoding_of, first_encoding, has_encoding, section_has}
-use Rattle.thorin_join.proofs.Units.{each-joining, goes-alone, units-go, units-joined, UnitsJoined}
-use Rattle.thorin_join.proofs.Units.{each-named, identity-sort, News, same_name-self, sections-are}
-use Rattle.thorin_join.proofs.Units.{kind-place, known-in, name-identity, same_name-true, WasRead}
-use Rattle.thorin_join.proofs.{Joined.takes, Joined.with_all_parts, Rows.row-own, Rows.whole-part}
-use Rattle.std.proofs.{Common.eqb-true, Math.Seq.drop-append_seam, Math.Seq.take-append_seam}
-use Rattle.std.proofs.lemmas.List.{Elements.recursion_from_All, Sums.AllPass-from_list_all}
-use Rattle.thorin_input.specs.{Adjusting.adjusted, Adjusting.moved, Rows.abbreviations_for}
-use Rattle.thorin_join.proofs.{Moved.identity-shifted, Moved.newer-five, Rows.keep-part, Units.Goes}
-use Rattle.thorin_join.proofs.{Parts.content-with_bytes, Parts.content-with_parts, Rows.Grows}
-use Rattle.thorin_join.proofs.{Parts.step, Rows.grows-with_bytes, Rows.is-unit_row, Rows.own-place}
-use Rattle.thorin_join.specs.Meaning.{named_at, named_each, named_sections}
-use Rattle.thorin_join.{proofs.Units.IsAdded, specs.StandApart.EachRow, specs.StandApart.rows_begun}
-use Rattle.thorin_again.specs.Plain.{HasNamedParts, HasNamedUnits, NamesItself}
-use Rattle.std.proofs.lemmas.Option.{get_or_from_slice_get, slice_get_within}
-use Rattle.thorin_index.specs.{EntryTests.same_encoding, IndexText.is_used}
-use Rattle.thorin_again.specs.{Again.input_encoding, InFormat.IsInFormat}
+use Rattle.dwp_dwarf.specs.Abbreviations.{Declaration, declaration}
 use Rattle.dwp_dwarf.specs.Grammar.{DeclarationsLie, IsBehindOthers}
 use Rattle.dwp_units.proofs.Readings.{more, takes_more}
-use Rattle.dwp_base.proofs.Bools.{or-right}
+use Rattle.dwp_units.specs.Units.{header_at, older_at, older_type_at, unit_at, units, units_within}
+use Rattle.std.proofs.lemmas.List.{Elements.recursion_from_All, Sums.AllPass-from_list_all}
+use Rattle.std.proofs.lemmas.Option.{get_or_from_slice_get, slice_get_within}
+use Rattle.std.proofs.{Common.eqb-true, Math.Seq.drop-append_seam, Math.Seq.take-append_seam}
+use Rattle.thorin_again.specs.Plain.{HasNamedParts, HasNamedUnits, NamesItself}
+use Rattle.thorin_again.specs.{Again.input_encoding, InFormat.IsInFormat}
+use Rattle.thorin_index.specs.{EntryTests.same_encoding, IndexText.is_used}
+use Rattle.thorin_input.specs.Encodings.{encoding_of, first_encoding, has_encoding, section_has}
+use Rattle.thorin_input.specs.Format.{is_in_format}
+use Rattle.thorin_input.specs.{Adjusting.adjusted, Adjusting.moved, Rows.abbreviations_for}
+use Rattle.thorin_join.proofs.Joined.{can-lie, keys-held, same-begun, source-made, with_all_parts}
+use Rattle.thorin_join.proofs.Joined.{grows-with_parts, Made, names-added, sound-inside, takes}
+use Rattle.thorin_join.proofs.Parts.{content-with_bytes, each-unit as unit-by-unit, step}
+use Rattle.thorin_join.proofs.Parts.{each-part, joined_parts-other, parts-copied}
+use Rattle.thorin_join.proofs.Rows.{adjusted-plain, content-put, grows-trans, is-unit_row, row-part}
+use Rattle.thorin_join.proofs.Rows.{front-long, Grows, IsUnitRow, row-name, row-own, whole_behind}
+use Rattle.thorin_join.proofs.Rows.{grows-with_bytes, keep-part, own-place, whole-else, whole-part}
+use Rattle.thorin_join.proofs.Units.{AllSo, each-named, IsKnown, News, sections-are, units-joined}
+use Rattle.thorin_join.proofs.Units.{Goes, goes-alone, IsAdded, known-in, same_name-self, units-go}
+use Rattle.thorin_join.proofs.Units.{added-keys, each-all, name-identity, same_name-true, WasRead}
+use Rattle.thorin_join.proofs.Units.{each-joining, identity-sort, kind-place, Listed, Reads}
+use Rattle.thorin_join.proofs.{Moved.identity-shifted, Moved.newer-five, Parts.content-with_parts}
+use Rattle.thorin_join.proofs.{Rows.part-inside, Units.AreAdded, Units.UnitsJoined}
+use Rattle.thorin_join.specs.Meaning.{named_at, named_each, named_sections}
+use Rattle.thorin_join.specs.StandApart.{EachRow, rows_begun}
 use Rattle.dwp_base.specs.declared.section.SectionKind.TheVariants as kinds
 use Rattle.dwp_units.specs.declared.unit.UnitSection.TheVariants as places
 
@@ -77,12 +77,14 @@ of-one source sections has =
     (known-in order place used.bytes k unit there, same))
     sections (recursion_from_All _ sections all)
 
--- what holds of a unit for one that was read
-each-new : (add : Adding) (P : DwarfObject × NewUnit → Type 0) (Q R : DwarfObject × UnitRead
-    → Type 0) → ((n : DwarfObject × NewUnit) (r : DwarfObject × UnitRead) → IsAdded add n r → Q r
-    → R r → P n) → (ns : News) (rs : Reads) → AreAdded add ns rs → Each Q rs → Each R rs → Each P ns
-each-new add P Q R f [] rs are h k = tt
-each-new add P Q R f (n ∷ ns) rs are h k = grind (arith, f n, each-new add P Q R f ns)
+-- each unit is added for one that was read, of which this holds
+each-new : (add : Adding) (Q R : DwarfObject × UnitRead → Type 0) (ns : News) (rs : Reads)
+    → AreAdded add ns rs → Each Q rs → Each R rs → Each (λ (n : DwarfObject × NewUnit).
+    (r : DwarfObject × UnitRead) × IsAdded add n r × Q r × R r) ns
+each-new add Q R [] rs are h k = tt
+each-new add Q R (n ∷ ns) [] are h k = absurd are
+each-new add Q R (n ∷ ns) (r ∷ rs) are h k =
+    ((r, are.0, h.0, k.0), each-new add Q R ns rs are.1 h.1 k.1)
 
 -- what stays so of a package with one more of such units
 pub each-added : (P : InProgress → Type 0) (Q : DwarfObject × NewUnit → Type 0)
@@ -92,24 +94,6 @@ each-added P Q keeps = unit-by-unit (λ p us now. Each Q us → P p → P now) (
     (λ p u us now later are h. later are.1 h)
     (λ p u us now later are h. later are.1 (keeps p u are.0 h))
 
--- the row of a unit has what it shares
-pub shared-row : (shared : IndexEntry) (c : Contents) (name : DwarfObject) (x : List ℕ)
-    (place : UnitSection) (kind : SectionKind) → is_shared kind ≡ true
-    → contribution_to kind (row_at shared c name x place) ≡ contribution_to kind shared
-shared-row shared c name x place kind is = grind arith
-
--- a plain object that was added
-pub plain-part : (source : Source) (made : InProgress) (parts : Contents) (n : DwarfObject
-    × NewUnit) (r : DwarfObject × UnitRead) → is_package source.indexes ≡ false
-    → IsAdded (adding source made parts) n r → (kind : SectionKind) → is_shared kind ≡ true
-    → contribution_to kind n.1.row ≡ contribution_put kind
-    (joined_parts kind parts) made.file.contents
-plain-part source made parts n r plain is kind shared =
-    same-ok {E = ErrorValue} _ _
-    (sym ((is-unit_row source.indexes _ r.0 n.1.row is.row).parts kind shared)
-    ∙ adjusted-plain source.indexes r.0 kind _ plain)
-    ∙ whole-part source.encoding made.file.contents parts kind shared
-
 -- the row of a unit that is added to these contents
 abbrev pub row_with : Contents → DwarfObject × NewUnit → IndexEntry
 row_with c u = row_at u.1.row c u.0 u.1.bytes u.1.place
@@ -117,6 +101,15 @@ row_with c u = row_at u.1.row c u.0 u.1.bytes u.1.place
 -- what holds of it, wherever the unit's own bytes lie
 abbrev pub RowHas : (IndexEntry → Type 0) → DwarfObject × NewUnit → Type 0
 RowHas P u = (c : Contents) → P (row_with c u)
+
+-- the row of a unit has what it shares
+shared-row : (shared : IndexEntry) (c : Contents) (name : DwarfObject) (x : List ℕ)
+    (place : UnitSection) (kind : SectionKind) → is_shared kind ≡ true
+    → contribution_to kind (row_at shared c name x place) ≡ contribution_to kind shared
+shared-row shared c name x place kind is = grind arith
+
+grows-self : (c : Contents) → Grows c c
+grows-self c kind = record { rest = []; is = sym (append-nil (content_of kind c)) }
 
 module _ {source : Source} {before now : InProgress} (a : Made source before now) where
   -- the package with its parts, before its units
@@ -155,28 +148,65 @@ module _ {source : Source} {before now : InProgress} (a : Made source before now
   once-more more P Q makes new = with-each (λ p. length before.rows < length p.rows → P p) Q
       (λ p u has k less. makes p u has) new (λ less. absurd (omega (arith, less))) more
 
-  -- what holds of each unit that was added, for the unit that was read
-  pub news-are : (T : UnitSection → Header → Type 0) → Each (AllSo source T) source.object.sections
-      → (P : DwarfObject × NewUnit → Type 0) → ((n : DwarfObject × NewUnit) (r : DwarfObject
-      × UnitRead) → IsAdded (adding source before a.parts) n r → Goes source.object.order r
-      → WasRead source T r → P n) → Each P a.new.units
-  news-are T read P f =
-      let held = keys (adding source before a.parts).held in
-      let j = joined in
-      each-new (adding source before a.parts) P _ _ f a.new.units (joining held j.all) j.are
-      (each-joining _ held j.all (units-go source j.all j.is))
-      (each-joining _ held j.all (sections-are source T source.object.sections j.all read j.is))
+  -- a unit is added for one that was read, of which this is so
+  abbrev pub IsNew : (UnitSection → Header → Type 0) → DwarfObject × NewUnit → Type 0
+  IsNew T n = (r : DwarfObject × UnitRead) × IsAdded (adding source before a.parts) n r
+      × Goes source.object.order r × WasRead source T r
 
-  -- each has the part that was put of a shared section
+  pub news-are : (T : UnitSection → Header → Type 0) → Each (AllSo source T) source.object.sections
+      → Each (IsNew T) a.new.units
+  news-are T so =
+      let add = adding source before a.parts in
+      let held = keys add.held in
+      let j = joined in
+      each-new add _ _ a.new.units (joining held j.all) j.are
+      (each-joining _ held j.all (units-go source j.all j.is))
+      (each-joining _ held j.all (sections-are source T source.object.sections j.all so j.is))
+
+  -- of a plain object each has the part that was put of a shared section
+  plain-part : (c : Contents) (n : DwarfObject × NewUnit) (r : DwarfObject × UnitRead)
+      → IsAdded (adding source before a.parts) n r → is_package source.indexes ≡ false
+      → (kind : SectionKind) → is_shared kind ≡ true → contribution_to kind (row_with c n)
+      ≡ contribution_put kind (joined_parts kind a.parts) before.file.contents
+  plain-part c n r is plain kind shared =
+      shared-row n.1.row c n.0 n.1.bytes n.1.place kind shared ∙ same-ok {E = ErrorValue} _ _
+      (sym ((is-unit_row source.indexes _ r.0 n.1.row is.row).parts kind shared)
+      ∙ adjusted-plain source.indexes r.0 kind _ plain)
+      ∙ whole-part source.encoding before.file.contents a.parts kind shared
+
   pub rows-share : is_package source.indexes ≡ false → (kind : SectionKind)
       → is_shared kind ≡ true → (P : Option Contribution → Type 0)
       → P (contribution_put kind (joined_parts kind a.parts) before.file.contents)
       → Each (RowHas (λ row. P (contribution_to kind row))) a.new.units
   rows-share plain kind shared P h =
-      news-are (λ place unit. Unit {0}) (each-all _ (λ used place at k unit there. tt) _)
-      (RowHas (λ row. P (contribution_to kind row))) (λ n r is goes was c. subst P
-      (sym (shared-row n.1.row c n.0 n.1.bytes n.1.place kind shared
-      ∙ plain-part source before a.parts n r plain is kind shared)) h)
+      All-weaker (IsNew (λ place unit. Unit {0})) (RowHas (λ row. P (contribution_to kind row)))
+      (λ n new c. subst P (sym (plain-part c n new.0 new.1 plain kind shared)) h) a.new.units
+      (news-are (λ place unit. Unit {0}) (each-all _ (λ used place at k unit there. tt) _))
+
+  -- what holds of the rows before, however contents grow, and of the rows of such units, holds of
+  -- all rows
+  pub rows-added : (T : UnitSection → Header → Type 0) → Each (IsNew T) a.new.units
+      → (P : Contents → IndexEntry → Type 0) → ((c d : Contents) (n : DwarfObject × NewUnit)
+      → IsNew T n → Grows parted.file.contents c
+      → Grows (with_bytes (kind_of n.1.place) n.1.bytes c) d → P d (row_with c n))
+      → ((d : Contents) → Grows before.file.contents d → EachRow (P d) before.rows)
+      → EachRow (P now.file.contents) now.rows
+  rows-added T news P new old =
+      let base = parted.file.contents in
+      let all = with-each (λ p. Grows base p.file.contents × ((d : Contents)
+      → Grows p.file.contents d → EachRow (P d) p.rows)) (IsNew T) (λ p u is so_far.
+      let c = p.file.contents in
+      let more = grows-with_bytes (kind_of u.1.place) u.1.bytes c in
+      let next : Contents = with_bytes (kind_of u.1.place) u.1.bytes c in (
+        grows-trans base c next so_far.0 more,
+        λ d up. All-append (P d) p.rows (_ ∷ []) (so_far.1 d (grows-trans c next d more up))
+            (new c d u is so_far.0 up, tt),
+      )) news (
+        grows-self base,
+        λ d up. old d
+            (grows-trans _ base d (grows-with_parts a.parts before.file.contents) up),
+      ) in
+      all.1 now.file.contents (grows-self now.file.contents)
 
   pub named-kept : is_package source.indexes ≡ false → length before.rows < length now.rows
       → HasNamedParts before → HasNamedParts now
@@ -198,39 +228,45 @@ module _ {source : Source} {before now : InProgress} (a : Made source before now
 abbrev pub InFormat : Source → UnitSection → Header → Type 0
 InFormat source place unit = is_in_format source.encoding (kind_of place) ≡ true
 
-pub each-format : (source : Source) (sections : List Used) (before after : Parts)
+-- so are all sections of an input
+all-format : (source : Source) (sections : List Used) (before after : Parts)
     → with_each_part source before sections ≡ Ok after
-    → Each (AllSo source (InFormat source)) sections
+    → Each (λ s. is_in_format source.encoding s.kind ≡ true) sections
 unfolding with_each_part with_part
-each-format source [] before after h = tt
-each-format source (s ∷ ss) before after h =
-    let next = bind-was (with_part source before s) _ after h in (
-      λ place here k unit there. grind (arith, next.1, kind-place s.kind place here),
-      each-format source ss next.0 after next.2,
-    )
+all-format source [] before after h = tt
+all-format source (s ∷ ss) before after h =
+    let next = bind-was (with_part source before s) _ after h in
+    (grind (arith, next.1), all-format source ss next.0 after next.2)
 
--- sections outside the format have no parts
-module _ (source : Source) (kind : SectionKind)
-    (none : is_in_format source.encoding kind ≡ false) where
-  part-outside : (before : Parts) (s : Used) (next : Parts) → with_part source before s ≡ Ok next
-      → joined_parts kind next.0 ≡ joined_parts kind before.0
-  unfolding with_part
-  part-outside before s next h =
-      let adds = (step source before s next h).adds in
-      let there : is_in_format source.encoding s.kind ≡ true = grind arith in
-      grind (arith, adds, none, is-same, joined_parts-other kind before.0)
+-- where these bytes lie, which begin at this offset
+abbrev pub range_at : ℕ → List ℕ → Contribution
+range_at offset own = record { offset = record { 0 = offset }; size = length own }
 
-  parts-outside : (sections : List Used) (before after : Parts)
-      → with_each_part source before sections ≡ Ok after
-      → joined_parts kind after.0 ≡ joined_parts kind before.0
-  unfolding with_each_part
-  parts-outside [] before after h = grind arith
-  parts-outside (s ∷ ss) before after h =
-      let next = bind-was (with_part source before s) _ after h in
-      parts-outside ss next.0 after next.2 ∙ part-outside before s next.0 next.1
+-- the part in the middle
+pub part-middle : (pre own rest whole : List ℕ) (offset : ℕ) → whole ≡ pre ++ (own ++ rest)
+    → length pre ≡ offset → part_of whole (Some (range_at offset own)) ≡ own
+part-middle pre own rest whole offset is at =
+    let size : offset + length own - offset ≡ length own = omega arith in
+    part-inside whole (range_at offset own) (rw is (simp length-append (omega arith)))
+    ∙ rw (is, size, ← at, drop-append_seam pre (own ++ rest)) (take-append_seam own rest)
+
+-- bytes that were put behind others stand in their range, whatever follows them
+put-stays : (front x : List ℕ) {own whole : List ℕ} → own ≡ front ++ x → HasFront own whole
+    → part_of whole (whole_behind front x) ≡ x
+put-stays front x {whole = whole} same h =
+    let middle = part-middle front x h.rest whole (length front) in
+    grind (arith, nil_from_length x, append_assoc front x h.rest, middle, h.is)
 
 -- the row of a unit
 module _ {source : Source} {before now : InProgress} (a : Made source before now) where
+  formats : Each (λ s. is_in_format source.encoding s.kind ≡ true) source.object.sections
+  formats = all-format source source.object.sections _ _ a.parts_are
+
+  -- units are added for such that were read in the format
+  pub in-format : Each (IsNew a (InFormat source)) a.new.units
+  in-format = news-are a (InFormat source) (All-weaker _ (AllSo source (InFormat source))
+      (λ s is place here k unit there. rw (kind-place s.kind place here) at is) _ formats)
+
   module _ (n : DwarfObject × NewUnit) (r : DwarfObject × UnitRead)
       (is : IsAdded (adding source before a.parts) n r) where
     made : IsUnitRow source.indexes (adding source before a.parts).whole r.0 n.1.row
@@ -243,14 +279,23 @@ module _ {source : Source} {before now : InProgress} (a : Made source before now
     nothing-outside kind none =
         let else = whole-else source.encoding before.file.contents a.parts in
         by-bool _ (is_shared kind) (λ shared.
-        let parts = parts-outside source kind none source.object.sections _ _ a.parts_are in
-        let put = whole-part source.encoding before.file.contents a.parts kind shared in
+        let parts = each-part source (λ before ss after.
+        Each (λ s. is_in_format source.encoding s.kind ≡ true) ss
+        → joined_parts kind after.0 ≡ joined_parts kind before.0) (λ parts all. refl)
+        (λ before s next ss after step rest later all. later all.1 ∙ (grind (
+          arith,
+          step.adds,
+          all.0,
+          none,
+          is-same,
+          joined_parts-other kind before.0,
+        ))) _ _ _ a.parts_are formats in
         let absent : contribution_to kind (adding source before a.parts).whole ≡ None =
-        put ∙ rw parts refl in
+        whole-part source.encoding before.file.contents a.parts kind shared ∙ rw parts refl in
         let given = rw absent at (made.parts kind shared) in grind (arith, given))
         (λ apart. grind (arith, made.info, made.types, else))
 
-    new-encoding : RowHas (λ row. row.encoding ≡ source.encoding) n
+    pub new-encoding : RowHas (λ row. row.encoding ≡ source.encoding) n
     new-encoding c =
         grind (arith, made.encoding, whole-else source.encoding before.file.contents a.parts)
 
@@ -264,14 +309,29 @@ module _ {source : Source} {before now : InProgress} (a : Made source before now
         in
         grind (arith, new-encoding c, some, format)
 
+    -- its own bytes lie where it says, whatever follows them
+    pub own-lies : Goes source.object.order r → (c d : Contents)
+        → Grows (with_bytes (kind_of n.1.place) n.1.bytes c) d → let row = row_with c n in
+        (place_of row.id row.debug_types ≡ n.1.place) × (unit_bytes d row ≡ n.1.bytes)
+    own-lies goes c d up =
+        let place = n.1.place in
+        let x = n.1.bytes in
+        let k = kind_of place in
+        let row = row_with c n in
+        let place_is : place_of row.id row.debug_types ≡ place =
+        ap (λ n. place_of n row.debug_types) (row-name n.1.row c n.0 x place)
+        ∙ sym (own-place n.1.row c n.0 x place (can-lie source before a.parts n r is goes)) in (
+          place_is,
+          ap (λ p. part_of (content_of (kind_of p) d) (contribution_to (kind_of p) row)) place_is
+              ∙ ap (part_of (content_of k d)) (row-own n.1.row c n.0 x place)
+              ∙ put-stays (content_of k c) x (content-put k x c) (up k),
+        )
+
   -- what holds of rows in the format with the input's encoding stays so of all rows
   pub rows-kept : (P : IndexEntry → Type 0) → ((row : IndexEntry) → IsInFormat row
       → row.encoding ≡ source.encoding → P row) → EachRow P before.rows → EachRow P now.rows
-  rows-kept P new old =
-      with-each a (λ p. EachRow P p.rows) (RowHas P) (λ p u has all. All-append P p.rows
-      (row_with p.file.contents u ∷ []) all (has p.file.contents, tt)) (news-are a (InFormat source)
-      (each-format source source.object.sections _ _ a.parts_are) (RowHas P)
-      (λ n r is goes w c. new (row_with c n) (new-format n r is w c) (new-encoding n r is c))) old
+  rows-kept P new old = rows-added a (InFormat source) in-format (λ c. P) (λ c d n is grows up.
+      new (row_with c n) (new-format n is.0 is.1 is.3 c) (new-encoding n is.0 is.1 c)) (λ d up. old)
 
 -- an input
 pub input-rows : (P : IndexEntry → Type 0) (bytes : List ℕ) (begun now : Option InProgress)
@@ -293,18 +353,6 @@ input-rows P bytes begun now new h old =
       | inr none ↦ subst (λ b. EachRow P (rows_begun b)) none.1 was
     ]
 
--- where these bytes lie, which begin at this offset
-abbrev pub range_at : ℕ → List ℕ → Contribution
-range_at offset own = record { offset = record { 0 = offset }; size = length own }
-
--- the part in the middle
-pub part-middle : (pre own rest whole : List ℕ) (offset : ℕ) → whole ≡ pre ++ (own ++ rest)
-    → length pre ≡ offset → part_of whole (Some (range_at offset own)) ≡ own
-part-middle pre own rest whole offset is at =
-    let size : offset + length own - offset ≡ length own = omega arith in
-    part-inside whole (range_at offset own) (rw is (simp length-append (omega arith)))
-    ∙ rw (is, size, ← at, drop-append_seam pre (own ++ rest)) (take-append_seam own rest)
-
 -- what is read of a table of abbreviations stays where more bytes follow
 module _ (rest : List ℕ) where
   -- declarations lie so where more bytes follow
@@ -325,33 +373,21 @@ module _ (rest : List ℕ) where
       record { others = s.1.others; lie = lie; other = s.1.other } in
       (said code (more i rest) (Ok (Some d))).1 (more s.0 rest, behind, (more s.2.0 rest, next))
 
-  -- the identity of a unit
-  from-stays : (offset : ℕ) (i table : Input) → from_at offset i ≡ Ok table
-      → from_at offset (more i rest) ≡ Ok (more table rest)
-  from-stays offset i table h =
-      let fits = from_within offset (more i rest) in
-      let front = drop-append-le offset i.bytes rest in
-      grind (arith, from_is offset i, fits, length-append i.bytes rest, front)
-
 -- the identity that a unit has by a table of abbreviations it has too where bytes follow the table
 pub identity-stays : (section : Input) (rest : List ℕ) (unit : Header) (name : Option DwarfObject)
     → identity section unit ≡ Ok name → identity (more section rest) unit ≡ Ok name
 unfolding identity root_identity
 identity-stays section rest unit name h =
-    grind (arith, from-stays rest unit.abbrev_offset section, found-stays rest)
+    let fits = from_within unit.abbrev_offset (more section rest) in
+    let front = drop-append-le unit.abbrev_offset section.bytes rest in
+    let long = length-append section.bytes rest in
+    grind (arith, from_is unit.abbrev_offset section, fits, long, front, found-stays rest)
 
 -- the abbreviations of a row begin with those of the first section
 first-front : (kind : SectionKind) (sections : List Used)
     → HasFront (first kind sections) (joined_content kind sections)
 first-front kind [] = record { rest = []; is = refl }
 first-front kind (s ∷ ss) = grind (arith, first-front kind ss)
-
--- bytes that were put behind others stand in their range, whatever follows them
-put-stays : (front x : List ℕ) {own whole : List ℕ} → own ≡ front ++ x → HasFront own whole
-    → part_of whole (whole_behind front x) ≡ x
-put-stays front x {whole = whole} same h =
-    let middle = part-middle front x h.rest whole (length front) in
-    grind (arith, nil_from_length x, append_assoc front x h.rest, middle, h.is)
 
 -- rows name their units, however contents grow
 pub keep-names : (order : Endianness) (encoding : Encoding) (c d : Contents) → Grows c d
@@ -364,9 +400,6 @@ keep-names order encoding c d grows (row ∷ rows) lie names =
     let later = keep-names order encoding c d grows rows lie.1 names.1 in
     (λ unit rest read. rw (same kinds.Abbrev) (names.0 unit rest (rw own at read)), later)
 
-grows-self : (c : Contents) → Grows c c
-grows-self c kind = record { rest = []; is = sym (append-nil (content_of kind c)) }
-
 module _ {source : Source} {before now : InProgress} (plain : is_package source.indexes ≡ false)
     (a : Made source before now) where
   abbrev order : Endianness
@@ -378,41 +411,28 @@ module _ {source : Source} {before now : InProgress} (plain : is_package source.
   abbrev base : Contents
   base = with_parts a.parts before.file.contents
 
-  -- a unit is added for one that was read
-  abbrev IsNew : DwarfObject × NewUnit → Type 0
-  IsNew n = (r : DwarfObject × UnitRead) × IsAdded (adding source before a.parts) n r
-      × Goes order r × WasRead source (OfOne source) r
-
-  -- its row names it
-  new-names : (c d : Contents) (n : DwarfObject × NewUnit) → IsNew n → Grows base c
-      → Grows (with_bytes (kind_of n.1.place) n.1.bytes c) d
-      → NamesItself order source.encoding d (row_at n.1.row c n.0 n.1.bytes n.1.place)
+  -- the row of a unit names it
+  new-names : (c d : Contents) (n : DwarfObject × NewUnit) → IsNew a (OfOne source) n
+      → Grows base c → Grows (with_bytes (kind_of n.1.place) n.1.bytes c) d
+      → NamesItself order source.encoding d (row_with c n)
   unfolding name_for abbreviations_for
   new-names c d n (r, is, goes, w) grows up unit rest read =
-      let place = n.1.place in
       let x = n.1.bytes in
-      let k = kind_of place in
-      let row = row_at n.1.row c n.0 x place in
-      let id = row-name n.1.row c n.0 x place in
-      let place_is : place_of row.id row.debug_types ≡ place =
-      ap (λ n. place_of n row.debug_types) id
-      ∙ sym (own-place n.1.row c n.0 x place (can-lie source before a.parts n r is goes)) in
-      let own : unit_bytes d row ≡ x = ap (λ p. part_of (content_of (kind_of p) d)
-      (contribution_to (kind_of p) row)) place_is ∙ ap (part_of (content_of k d))
-      (row-own n.1.row c n.0 x place) ∙ put-stays (content_of k c) x (content-put k x c) (up k) in
+      let k = kind_of n.1.place in
+      let own = own-lies a n r is goes c d up in
       let named : identity (section order table) r.1.unit ≡ Ok (Some r.0) =
       grind (arith, plain, w.named) in
       let v = goes-alone order w.place r.0 r.1.unit w.so.0
       (identity-sort (section order table) r.1.unit r.0 named) in
-      let goes_to = place_is ∙ is.place ∙ ap (place_for r.0) w.from in
+      let goes_to = own.0 ∙ is.place ∙ ap (place_for r.0) w.from in
       let same : unit ≡ v.alone = ap (λ (x : Header × Input). x.0) (same-ok {E = ReadError} _ _
-      (sym read ∙ (λ i. unit_at (goes_to i) (section order ((own ∙ is.bytes) i))) ∙ v.read)) in
+      (sym read ∙ (λ i. unit_at (goes_to i) (section order ((own.1 ∙ is.bytes) i))) ∙ v.read)) in
       let f = first-front kinds.Abbrev source.object.sections in
       let grown = grows-trans base (with_bytes k x c) d
       (grows-trans base c (with_bytes k x c) grows (grows-with_bytes k x c)) up in
-      let part : part_of (content_of kinds.Abbrev d) row.debug_abbrev ≡ table ++ f.rest =
-      ap (part_of (content_of kinds.Abbrev d)) (shared-row n.1.row c n.0 x place kinds.Abbrev refl
-      ∙ plain-part source before a.parts n r plain is kinds.Abbrev refl)
+      let part : part_of (content_of kinds.Abbrev d) (row_with c n).debug_abbrev
+      ≡ table ++ f.rest =
+      ap (part_of (content_of kinds.Abbrev d)) (plain-part a c n r is plain kinds.Abbrev refl)
       ∙ put-stays (content_of kinds.Abbrev before.file.contents) (joined_parts kinds.Abbrev a.parts)
       (content-with_parts kinds.Abbrev a.parts before.file.contents) (grown kinds.Abbrev)
       ∙ parts-copied source before.strings a.parts a.after a.parts_are kinds.Abbrev refl ∙ f.is in (
@@ -420,37 +440,18 @@ module _ {source : Source} {before now : InProgress} (plain : is_package source.
         (λ i. identity (section order (part i)) (same i))
             ∙ identity-stays (section order table) f.rest v.alone (Some r.0)
             (sym (identity-shifted (section order table) v.behind v.alone r.1.unit v.shifted)
-            ∙ named) ∙ ap (λ x. Ok (Some x)) (sym (id ∙ is.name)),
-      )
-
-  -- the rows of a package with these contents name their units, however the contents grow
-  abbrev Name : InProgress → Type 0
-  Name p = Grows base p.file.contents × ((d : Contents) → Grows p.file.contents d
-      → EachRow (NamesItself order source.encoding d) p.rows)
-
-  one-named : (p : InProgress) (u : DwarfObject × NewUnit) → IsNew u → Name p
-      → Name (with_unit_added p u)
-  one-named p u new names =
-      let c = p.file.contents in
-      let more = grows-with_bytes (kind_of u.1.place) u.1.bytes c in
-      let d : Contents = with_bytes (kind_of u.1.place) u.1.bytes c in (
-        grows-trans base c d names.0 more,
-        λ e up. All-append (NamesItself order source.encoding e) p.rows (_ ∷ [])
-            (names.1 e (grows-trans c d e more up)) (new-names c e u new names.0 up, tt),
+            ∙ named) ∙ ap (λ x. Ok (Some x))
+            (sym (row-name n.1.row c n.0 x n.1.place ∙ is.name)),
       )
 
   pub names-kept : list_all (section_has source.encoding order) source.object.sections ≡ true
       → IsSound before → order ≡ before.file.order
       → HasNamedUnits source.encoding before → HasNamedUnits source.encoding now
   names-kept has sound same named =
-      let c = before.file.contents in
-      let b = (parted a).file.contents in
-      let old = λ (d : Contents) (up : Grows b d). keep-names order source.encoding c d
-      (grows-trans c b d (grows-with_parts a.parts c) up) before.rows (sound-inside before sound)
-      (rw same named) in
-      let all = with-each a Name _ one-named (news-are a (OfOne source) (of-one source
-      source.object.sections has) IsNew (λ n r is goes w. (r, is, goes, w))) (grows-self b, old) in
-      rw (order-added a ∙ sym same) (all.1 now.file.contents (grows-self _))
+      let so = of-one source source.object.sections has in
+      rw (order-added a ∙ sym same) (rows-added a (OfOne source) (news-are a (OfOne source) so)
+      (NamesItself order source.encoding) new-names (λ d up. keep-names order source.encoding
+      before.file.contents d up before.rows (sound-inside before sound) (rw same named)))
 
 -- a unit in info is of version 5, or no type unit
 unit-none : (i rest : Input) (u : Header) → unit_at places.Info i ≡ Ok (u, rest)
@@ -458,27 +459,30 @@ unit-none : (i rest : Input) (u : Header) → unit_at places.Info i ≡ Ok (u, r
 unfolding unit_at header_at older_at older_type_at
 unit-none i rest u h = grind (arith, newer-five)
 
--- what is read first, where its encoding is that
-first-read : (encoding : Encoding) (reads : Listed) → first_encoding reads ≡ Ok encoding
-    → (unit : Header) × (slice_get reads 0 ≡ Some (Ok unit)) × (unit.encoding ≡ encoding)
-first-read encoding reads h = grind arith
-
 -- a name is of these
 abbrev IsThere : DwarfObject → List DwarfObject → Type 0
 IsThere name names = list_any (same_name name) names ≡ true
 
 module _ (source : Source) (encoding : Encoding) where
-  abbrev HeadNamed : Listed → Reads → Type 0
-  HeadNamed reads us = (u : Header) → slice_get reads 0 ≡ Some (Ok u) → (name : DwarfObject)
-      × IsThere name (keys us) × (type_signature u.unit_type ≡ name_signature name)
-
+  -- the first unit that is read of a section has its name among these
   head-named : (kind : SectionKind) (reads : Listed) (us : Reads)
-      → named_each source kind reads ≡ Ok us → HeadNamed reads us
-  head-named kind = each-named source kind HeadNamed (λ u none. absurd cc)
-      (λ unit name reads us named others u first.
-      let id = name-identity source kind unit name named in
-      let same : unit ≡ u = cc in
-      (name, rw (same_name-self name) refl, rw (← same) (identity-sort id.0 unit name id.1)))
+      → named_each source kind reads ≡ Ok us → first_encoding reads ≡ Ok encoding
+      → (unit : Header) × (slice_get reads 0 ≡ Some (Ok unit)) × (unit.encoding ≡ encoding)
+      × (name : DwarfObject) × IsThere name (keys us)
+      × (type_signature unit.unit_type ≡ name_signature name)
+  head-named kind = each-named source kind (λ reads us. first_encoding reads ≡ Ok encoding
+      → (unit : Header) × (slice_get reads 0 ≡ Some (Ok unit)) × (unit.encoding ≡ encoding)
+      × (name : DwarfObject) × IsThere name (keys us)
+      × (type_signature unit.unit_type ≡ name_signature name)) (λ none. absurd cc)
+      (λ unit name reads us named others e.
+      let id = name-identity source kind unit name named in (
+        unit,
+        refl,
+        same-ok {E = ErrorValue} _ _ e,
+        name,
+        rw (same_name-self name) refl,
+        identity-sort id.0 unit name id.1,
+      ))
 
   first-named : (sections : List Used) (all : Reads) → named_sections source sections ≡ Ok all
       → first_encoding (units places.Info (section source.object.order (first kinds.Info sections)))
@@ -491,26 +495,20 @@ module _ (source : Source) (encoding : Encoding) where
       let b = bind-was (named_sections source rest) _ all a.2 in
       rw (← same-ok {E = ErrorValue} (a.0 ++ b.0) all b.2, map-append (λ u. u.0) a.0 b.0)
       (by-bool _ (same_kind from.kind kinds.Info) (λ is.
-      let f = first-read encoding _ (rw is at e) in
-      let known = (known-in source.object.order places.Info from.bytes 0 f.0 f.1).0 in
       let read : named_at source from (Some places.Info) ≡ Ok a.0 =
       grind (arith, a.1, is-same from.kind kinds.Info is) in
-      let head = head-named from.kind _ a.0 read f.0 f.1 in
+      let head = head-named from.kind _ a.0 read (rw is at e) in
+      let known = (known-in source.object.order places.Info from.bytes 0 head.0 head.1).0 in
       let five = unit-none _ _ _ known.read in
-      let goes : (encoding.version ≡ 5) ⊎ (name_signature head.0 ≡ None) =
-      grind (arith, five, known.shifted.encoding, f.2, head.2, known.shifted.type) in
-      (head.0, list_any-append (same_name head.0) (keys a.0) (keys b.0) ∙ rw head.1 refl, goes))
+      let goes : (encoding.version ≡ 5) ⊎ (name_signature head.3 ≡ None) =
+      grind (arith, five, known.shifted.encoding, head.2, head.5, known.shifted.type) in
+      (head.3, list_any-append (same_name head.3) (keys a.0) (keys b.0) ∙ rw head.4 refl, goes))
       (λ other. let l = first-named rest b.0 b.1 (rw other at e) in
       (l.0, list_any-append (same_name l.0) (keys a.0) (keys b.0) ∙ or-right _ _ l.1, l.2)))
 
--- info has bytes, and more where a unit is added
+-- info has bytes
 abbrev pub HasInfo : InProgress → Type 0
 HasInfo p = 0 < length (content_of kinds.Info p.file.contents)
-
-has-more : (p : InProgress) (u : DwarfObject × NewUnit) → HasInfo p → HasInfo (with_unit_added p u)
-has-more p u has =
-    let grows = grows-with_bytes (kind_of u.1.place) u.1.bytes p.file.contents kinds.Info in
-    omega (arith, has, front-long grows)
 
 module _ (name : DwarfObject) where
   -- a unit of the name has bytes, and goes to info
@@ -525,18 +523,20 @@ module _ (name : DwarfObject) where
       let there = list_any-append (same_name name) in
       grind (arith, same_name-true name r.0, joining-there names rs, there, append_assoc, new)
 
-  -- info has bytes, once units of new names are added, one of which has the name
-  units-put : (p : InProgress) (us : News) → AllNew (names_of p) (keys us) → Each PutInInfo us
-      → IsThere name (keys us) → HasInfo (with_new_units p us)
+  -- info has bytes, once units are added, one of which has the name, if it has where that was there
+  units-put : (p : InProgress) (us : News) → Each PutInInfo us
+      → IsThere name (names_of p ++ keys us) → (IsThere name (names_of p) → HasInfo p)
+      → HasInfo (with_new_units p us)
   unfolding with_new_units with_new_unit
-  units-put p [] new put there = absurd cc
-  units-put p (u ∷ us) new put there =
+  units-put p [] put there has = has (rw append-nil at there)
+  units-put p (u ∷ us) put there has =
       let c = p.file.contents in
       let content = content-with_bytes kinds.Info (kind_of u.1.place) u.1.bytes c in
       let long = length-append (content_of kinds.Info c) u.1.bytes in
-      let stays = each-added HasInfo (λ u. Unit {0}) (λ p u one. has-more p u) (with_unit_added p u)
-      us (each-all _ (λ u. tt) us) in
-      grind (arith, names-added p u, content, long, units-put (with_unit_added p u) us, stays)
+      let split = list_any-append (same_name name) in
+      let same = same_name-true name u.0 in
+      let next = units-put (with_unit_added p u) us in
+      grind (arith, names-added p u, content, long, split, append_assoc, same, units-put p us, next)
 
 -- once an object with units was added, info has bytes
 pub info-there : {source : Source} {before now : InProgress} → Made source before now
@@ -548,18 +548,21 @@ info-there {source} {before} {now} a is info =
     let add = adding source before a.parts in
     let held = keys add.held in
     let n = first-named source source.encoding source.object.sections j.all j.is is in
-    let put = news-are a (InFormat source)
-    (each-format source source.object.sections _ _ a.parts_are) (PutInInfo n.0)
-    (λ u r are goes w same. let named = same_name-true n.0 u.0 same ∙ are.name in
-    grind (arith, are.place, are.bytes, w.from, named, n.2, w.so, goes.some)) in
+    let put = All-weaker (IsNew a (InFormat source)) (PutInInfo n.0) (λ u new same.
+    let named = same_name-true n.0 u.0 same ∙ new.1.name in
+    let w = new.3 in
+    grind (arith, new.1.place, new.1.bytes, w.from, named, n.2, w.so, new.2.some)) a.new.units
+    (in-format a) in
     let there = list_any-append (same_name n.0) held (keys j.all) ∙ or-right _ _ n.1 in
     let names = joining-there n.0 held j.all there in
     let added = added-keys add a.new.units (joining held j.all) j.are in
-    by-bool _ (list_any (same_name n.0) held) (λ old.
+    subst HasInfo a.is (units-put n.0 (parted a) a.new.units put
+    (rw (← keys-held before, added) names) (λ old.
     let some = (elim before.rows as (λ rows. IsThere n.0 (map (λ (r : IndexEntry). r.id) rows)
-    → 0 < length rows) [ [] ↦ λ e. absurd cc | r ∷ rs ↦ λ e. omega arith ])
-    (rw (keys-held before) at old) in
-    let long = front-long (grows-with_parts a.parts before.file.contents kinds.Info) in
-    with-any a HasInfo has-more (omega (arith, info some, long)))
-    (λ new. subst HasInfo a.is (units-put n.0 (parted a) a.new.units (rw (← keys-held before, added)
-    (joined-new held j.all)) put (rw added (rw (list_any-append {X = DwarfObject}, new) at names))))
+    → 0 < length rows) [ [] ↦ λ e. absurd cc | r ∷ rs ↦ λ e. omega arith ]) old in
+    omega (
+      arith,
+      info some,
+      front-long (grows-with_parts a.parts
+          before.file.contents kinds.Info),
+    )))

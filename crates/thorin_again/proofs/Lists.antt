@@ -5,108 +5,56 @@
 -- the header of each unit has the encoding that is recorded of it, wherever its bytes are read
 -- again, each has its strings, and what is written has the encoding, as an input.
 use Rattle.thorin_join.proofs.Terms as Joined
-use Joined.{All, All-weaker, ap, arith, bind-was, content_of, data_of, DwarfObject, Each, Elf}
-use Joined.{elf_of, Encoding, encoding_in, Endianness, ErrorValue, false, File, file_text, first}
-use Joined.{GivesNone, has_info, Header, IndexEntry, Indexes, inl, InProgress, Input, InputFile}
-use Joined.{inr, is_package, IsFinished, IsSound, IsSoundBegun, Joins, keys, kind_of, KindsDiffer}
-use Joined.{length, length-append, length-map, List, list_all, list_any, lookup, map, MatchOption}
-use Joined.{Meaning, Members, nat_tests, None, Ok, opened, Option, Package, package_or_new}
-use Joined.{place_of, Ranges, ReadError, refl, same-ok, same_name, same_Some, section, Some, Source}
-use Joined.{source_units, subst, sym, true, unit_bytes, UnitRead, units_begun, units_in, units_of}
-use Joined.{UnitSection, Used, with_input, [], ℕ, ◌+◌, ◌<◌, ◌∙◌, ◌∷◌, ◌≡◌}
-use Rattle.thorin_again.specs.{Own.has_sections, Own.packs_again, OwnUnits.AllOf, OwnUnits.HoldsOwn}
-use Rattle.thorin_again.specs.InFormat.{AreInFormat, HasEncodingOfOne, HaveEncodingsOf, IsInFormat}
-use Rattle.thorin_again.proofs.{Kept.of-one, Kept.order-added, Offsets.no-turn, Offsets.tiled-kept}
-use Rattle.std.proofs.{ByRecursion.All-map as each-mapped, lemmas.Map.Views.IfSome-lookup_from_All}
-use Rattle.thorin_again.specs.OneEncoding.{HaveEncodingOnceWritten, IsOfEncoding, IsOfOneEncoding}
-use Rattle.thorin_join.proofs.Joined.{all_there, made-order, new-sound, takes, TakesUnits}
-use Rattle.thorin_again.proofs.Opened.{first-written, input-encoding, IsOwnRow, mean_of, OwnMade}
-use Rattle.thorin_again.proofs.{Kept.names-kept, Kept.OfOne, Meant.of-section, Meant.read-alone}
-use Rattle.thorin_join.proofs.Joined.{input-keeps, new-units, same-begun, source-made, Takes}
-use Rattle.std.proofs.lemmas.List.Elements.{All-append, All-cons, All-from_recursion, All-head}
-use Rattle.thorin_again.specs.{Again.input_encoding, InFormat.IsOneOf, OwnInput.written_object}
-use Rattle.thorin_input.specs.Encodings.{encoding_of, file_encoding, first_encoding, is_index}
-use Rattle.thorin_again.proofs.Kept.{encoding-eq, HasInfo, info-there, input-rows, named-kept}
-use Rattle.thorin_join.proofs.Units.{each-joining, Reads, sections-are}
-use Rattle.thorin_join.proofs.{Files.finished-is, Files.finished-own, Files.members, Units.WasRead}
-use Rattle.thorin_join.specs.Builder.{finish_test, IsFinishedState, names_in, start, State, taken}
-use Rattle.thorin_again.specs.PlainInputs.{AreTaken, EachAdds, IsOfPlainObjects, IsPlainOf}
-use Rattle.thorin_again.specs.Plain.{HasNamedUnits, HasTiledOffsets, HoldsPlain, IsPlain}
-use Rattle.thorin_join.specs.Meaning.{input_meaning, meaning_by, object_meaning, source_meaning}
-use Rattle.thorin_join.specs.{Join.GivesUnit, Join.look_limit, Meaning.meant, Meaning.unit_meaning}
-use Rattle.thorin_again.specs.OneEncoding.{AnswersAs, AnswersOnceWritten, GivesWhole}
+use Joined.{All, ap, arith, bind-was, content_of, Contents, data_of, DwarfObject, Elf, elf_of}
+use Joined.{Encoding, encoding_in, Endianness, false, File, file_text, first, GivesNone, has_info}
+use Joined.{Header, IndexEntry, Indexes, inl, InProgress, Input, InputFile, inr, is_package}
+use Joined.{IsFinished, IsSound, IsSoundBegun, Joins, kind_of, KindsDiffer, length, length-append}
+use Joined.{length-map, List, list_all, list_any, lookup, map, MatchOption, Meaning, meaning_at}
+use Joined.{Members, nat_tests, None, Ok, opened, Option, Package, package_or_new, place_of}
+use Joined.{ReadError, refl, same-ok, same_name, same_Some, section, Some, subst, sym, true}
+use Joined.{unit_bytes, units_begun, units_in, units_of, UnitSection, Used, with_input, [], ℕ, ◌+◌}
+use Joined.{◌<◌, ◌∙◌, ◌∷◌, ◌≡◌}
 use Rattle.dwp_base.specs.declared.section.SectionKind.TheVariants.{CuIndex, TuIndex}
-use Rattle.dwp_index.specs.Package.{found_counted, package_of, unit_at_row, unit_in}
-use Rattle.dwp_units.specs.Units.{header_at, older_at, unit_at, units, units_within}
-use Rattle.thorin_input.specs.Encodings.{is_plain, own_encoding, section_has}
 use Rattle.dwp_bytes.specs.declared.encoding.Format.TheVariants.{Dwarf32}
-use Rattle.std.proofs.lemmas.List.Elements.{All-map, All-nil, All-tail}
-use Rattle.thorin_join.{proofs.Files.finished-order, proofs.Units.each-all, specs.Builder.order_of}
-use Rattle.std.proofs.lemmas.Option.{IfSome_then, slice_get-get_or}
-use Rattle.std.proofs.Common.{get_or, IfSome, unwrap_or, ◌↔◌}
-use Rattle.thorin_input.specs.Indexes.{index_in, indexes_of}
-use Rattle.dwp_units.proofs.Readings.{one_answer}
 use Rattle.dwp_elf.specs.Written.{written_elf}
-use Rattle.dwp_index.specs.Package as index
+use Rattle.dwp_index.specs.Package.{found_counted, package_of, unit_at_row, unit_in}
+use Rattle.dwp_units.proofs.Readings.{one_answer}
+use Rattle.dwp_units.specs.Units.{header_at, older_at, unit_at, units, units_within}
+use Rattle.std.proofs.Common.{get_or, unwrap_or, ◌↔◌}
+use Rattle.std.proofs.lemmas.List.Elements.{All-cons, All-map, All-nil, All-tail}
+use Rattle.std.proofs.lemmas.List.Elements.{All-from_recursion, All-head, recursion_from_All}
+use Rattle.std.proofs.lemmas.{Map.Views.IfSome-lookup_from_All, Option.slice_get-get_or}
+use Rattle.thorin_again.proofs.Kept.{encoding-eq, named-kept, new-encoding, order-added, rows-added}
+use Rattle.thorin_again.proofs.Kept.{info-there, input-rows, names-kept, news-are, of-one, own-lies}
+use Rattle.thorin_again.proofs.Opened.{first-written, HaveEncoding, input-encoding, IsOwnRow}
+use Rattle.thorin_again.proofs.Opened.{mean_of, OwnMade, rows-of}
+use Rattle.thorin_again.proofs.{Kept.HasInfo, Kept.OfOne, Offsets.no-turn, Offsets.tiled-kept}
+use Rattle.thorin_again.specs.InFormat.{AreInFormat, HasEncodingOfOne, HaveEncodingsOf, IsInFormat}
+use Rattle.thorin_again.specs.OneEncoding.{AnswersAs, IsOfEncoding, IsOfOneEncoding}
+use Rattle.thorin_again.specs.OneEncoding.{AnswersOnceWritten, GivesWhole, HaveEncodingOnceWritten}
+use Rattle.thorin_again.specs.Plain.{HasNamedUnits, HasTiledOffsets, HoldsPlain, IsPlain}
+use Rattle.thorin_again.specs.PlainInputs.{AreTaken, EachAdds, IsOfPlainObjects, IsPlainOf}
+use Rattle.thorin_again.specs.{Again.input_encoding, Own.has_sections, Own.packs_again}
+use Rattle.thorin_again.specs.{OwnInput.written_object, OwnUnits.AllOf, OwnUnits.HoldsOwn}
+use Rattle.thorin_again.{proofs.Meant.of-section, proofs.Meant.read-alone, specs.InFormat.IsOneOf}
+use Rattle.thorin_input.specs.Encodings.{encoding_of, file_encoding, first_encoding, own_encoding}
+use Rattle.thorin_input.specs.Encodings.{is_index, is_plain, section_has}
+use Rattle.thorin_input.specs.Indexes.{index_in, indexes_of}
+use Rattle.thorin_join.proofs.Files.{finished-is, finished-order, finished-own}
+use Rattle.thorin_join.proofs.Joined.{all_there, input-keeps, sound-inside, source-made, TakesUnits}
+use Rattle.thorin_join.proofs.Joined.{made-order, new-sound, same-begun, Takes, takes}
+use Rattle.thorin_join.specs.Builder.{finish_test, names_in, order_of, start, State, taken}
+use Rattle.thorin_join.specs.{Builder.IsFinishedState, StandApart.EachRow, StandApart.rows_begun}
+use Rattle.thorin_join.{proofs.Rows.keep-part, specs.Join.GivesUnit, specs.Join.look_limit}
 use Rattle.dwp_units.specs.declared.unit.UnitSection.TheVariants as places
 
--- a unit has the encoding of its input, and the bytes that were read
-abbrev pub MadeOf : Source → List ℕ → Meaning → Type 0
-MadeOf source bytes unit = (unit.encoding ≡ source.encoding) × (unit.bytes ≡ bytes)
-
-by-made : (source : Source) (bytes : List ℕ) (row : Option Ranges)
-    → IfSome (meaning_by source bytes row) (MadeOf source bytes)
-unfolding meaning_by
-by-made source bytes row = grind arith
-
-unit-made : (source : Source) (read : DwarfObject × UnitRead)
-    → IfSome (unit_meaning source read) (MadeOf source read.1.unit.whole.bytes)
-unfolding unit_meaning
-unit-made source read = grind (arith, by-made)
-
--- the units that an input adds
-module _ (P : Meaning → Type 0) where
-  -- it holds of units with all that belongs to each
-  abbrev pub HoldsOf : Members → Type 0
-  HoldsOf units = All (λ (u : DwarfObject × Meaning). P u.1) units
-
-  abbrev IfMeant : DwarfObject × Option Meaning → Type 0
-  IfMeant u = IfSome u.1 P
-
-  -- it holds of what a unit of these that were read can mean
-  abbrev pub CanMean : Source → Reads → Type 0
-  CanMean source reads = Each (λ r. (unit : Meaning) → MadeOf source r.1.unit.whole.bytes unit
-      → P unit) reads
-
-  all-of : (added : Members) → Each IfMeant (all_there added) → HoldsOf added
-  all-of [] h = All-nil (λ u. P u.1)
-  all-of (u ∷ us) h = All-cons (λ v. P v.1) u us h.0 (all-of us h.1)
-
-  -- what holds of the units of a package, if one has begun
-  pub begun-all : (begun : Option InProgress) → ((made : InProgress) → begun ≡ Some made
-      → HoldsOf (units_of made)) → HoldsOf (units_begun begun)
-  begun-all None all = All-nil (λ u. P u.1)
-  begun-all (Some made) all = all made refl
-
-  -- what holds of the units before an input, and of those that it adds
-  pub units-hold : {bytes : List ℕ} {begun now : Option InProgress}
-      → Joins bytes (units_begun begun) (units_begun now) → (t : Takes bytes begun now)
-      → ((u : TakesUnits t.file begun now) (all : Reads) → source_units u.source ≡ Ok all
-      → CanMean u.source all) → HoldsOf (units_begun begun) → HoldsOf (units_begun now)
-  unfolding input_meaning object_meaning source_meaning
-  units-hold {begun = begun} j t can before = elim t.does [
-    | inl w ↦
-        let u = w.1 in
-        let s = bind-was (source_units u.source) _ j.units
-        (rw (t.opens, w.0, u.object_is, u.encoding_is, u.indexes_are) at j.meaning) in
-        subst HoldsOf (sym j.is) (All-append (λ (u : DwarfObject × Meaning). P u.1)
-        (units_begun begun) j.added before (all-of j.added (subst (Each IfMeant) j.joined
-        (each-joining IfMeant (keys (units_begun begun)) j.units
-        (subst (Each IfMeant) (same-ok {E = ErrorValue} _ j.units s.2)
-        (each-mapped IfMeant (meant u.source) s.0 (All-weaker _ _ (λ r.
-        IfSome_then (unit_meaning u.source r) (unit-made u.source r)) s.0 (can u s.0 s.1))))))))
-    | inr none ↦ subst HoldsOf (sym (new-units t.file begun) ∙ ap units_begun none.1) before
-  ]
+-- what holds of what the units of rows mean holds of the units
+pub units-all : (P : Meaning → Type 0) (made : InProgress)
+    → EachRow (λ row. P (mean_of made row)) made.rows
+    → All (λ (u : DwarfObject × Meaning). P u.1) (units_of made)
+units-all P made rows = All-map (λ (u : DwarfObject × Meaning). P u.1)
+    (λ (row : IndexEntry). (row.id, mean_of made row)) made.rows
+    (All-from_recursion (λ row. P (mean_of made row)) made.rows rows)
 
 -- the encoding of a builder's inputs
 pub begun-now : (bytes : List ℕ) (old new : State) → taken bytes old ≡ Ok new
@@ -151,18 +99,24 @@ pub units-names : (begun : Option InProgress) → length (units_begun begun) ≡
 units-names begun = grind (arith, length-map)
 
 -- an input that is taken keeps it so
-pub taken-holds : (bytes : List ℕ) (old new : State) → IsSoundBegun old.begun
-    → HoldsOwn old → taken bytes old ≡ Ok new → HoldsOwn new
-taken-holds bytes old new sound holds h = record {
+pub taken-holds : (bytes : List ℕ) (old new : State) → HoldsOwn old → taken bytes old ≡ Ok new
+    → HoldsOwn new
+unfolding own_encoding file_encoding input_encoding
+taken-holds bytes old new holds h = record {
   some = λ e k. omega (arith, ((own-adds bytes old new e h).0 k).more, units-names new.begun);
   all = λ e k.
+      let a = (own-adds bytes old new e h).0 k in
       let now = begun-now bytes old new h in
       let t = takes bytes old.begun new.begun now in
-      let a = (own-adds bytes old new e h).0 k in
-      units-hold (λ unit. unit.encoding ≡ e) (input-keeps bytes old.begun new.begun sound now).joins
-      t (λ u all read. each-all _ (λ r unit made. made.0 ∙ (own-units a.found t u).is) all)
-      (begun-all (λ unit. unit.encoding ≡ e) old.begun
-      (λ made is. rw is at (holds.all e (a.before made is))));
+      let made : (made : InProgress) × (new.begun ≡ Some made) = grind (arith, t.does) in
+      let before = (elim old.begun as (λ b. Before b old.own e
+      → (old.own ≡ Some e → AllOf e (units_begun b)) → HaveEncoding e (rows_begun b)) [
+        | None ↦ λ own all. tt
+        | Some made ↦ λ own all. rows-of e made (all (own made refl))
+      ]) a.before (holds.all e) in
+      rw made.1 (units-all (λ unit. unit.encoding ≡ e) made.0 (rw made.1 at (input-rows
+      (λ row. row.encoding ≡ e) bytes old.begun new.begun
+      (λ row format read. grind (arith, read, a.found)) now before)));
 }
 
 -- a plain object has no index
@@ -236,16 +190,15 @@ in-order Q P free step (bytes ∷ rest) old new are all h =
 
 -- what stays so of a sound package
 pub packages-in-order : (Q : List ℕ → Type 0) (P : Option InProgress → Type 0)
-    → ((bytes : List ℕ) (begun now : Option InProgress) → Q bytes
-    → Joins bytes (units_begun begun) (units_begun now) → with_input bytes begun ≡ Ok now → P begun
-    → P now) → (accepted : List (List ℕ)) (state : State) → AreTaken accepted start state
+    → ((bytes : List ℕ) (begun now : Option InProgress) → Q bytes → IsSoundBegun begun
+    → with_input bytes begun ≡ Ok now → P begun → P now) → (accepted : List (List ℕ))
+    (state : State) → AreTaken accepted start state
     → All Q accepted → P None → IsSoundBegun state.begun × P state.begun
 packages-in-order Q P step accepted state are all none =
     in-order Q (λ s. IsSoundBegun s.begun × P s.begun) (λ s targets h. h) (λ bytes old new q h took.
     let now = begun-now bytes old new took in
-    let keeps = input-keeps bytes old.begun new.begun h.0 now in
-    (keeps.sound, step bytes old.begun new.begun q keeps.joins now h.1))
-    accepted start state are all (tt, none)
+    let sound = (input-keeps bytes old.begun new.begun h.0 now).sound in
+    (sound, step bytes old.begun new.begun q h.0 now h.1)) accepted start state are all (tt, none)
 
 -- what a builder holds
 pub inputs-hold : (accepted : List (List ℕ)) (state : State) → AreTaken accepted start state
@@ -253,7 +206,7 @@ pub inputs-hold : (accepted : List (List ℕ)) (state : State) → AreTaken acce
 inputs-hold accepted state are = in-order (λ bytes. Unit {0}) (λ s. IsSoundBegun s.begun
     × HoldsOwn s × HoldsPlain s) (λ s targets h. assumption) (λ bytes old new q h took.
     let keeps = input-keeps bytes old.begun new.begun h.0 (begun-now bytes old new took) in
-    (keeps.sound, taken-holds bytes old new h.0 h.1 took, taken-plain bytes old new h.0 h.2 took))
+    (keeps.sound, taken-holds bytes old new h.1 took, taken-plain bytes old new h.0 h.2 took))
     accepted start state are (λ k d within. tt) (grind arith)
 
 -- plain objects of one encoding
@@ -343,7 +296,7 @@ pub rows-taken : (accepted : List (List ℕ)) (state : State) → AreTaken accep
 rows-taken accepted state are =
     (packages-in-order (IsOneOf accepted)
     (λ begun. AreInFormat begun × HaveEncodingsOf accepted begun)
-    (λ bytes begun now among joins took h. (
+    (λ bytes begun now among sound took h. (
       input-rows IsInFormat bytes begun now (λ row format read. format) took h.0,
       input-rows (HasEncodingOfOne accepted) bytes begun now
           (λ row format read. (bytes, among, read)) took h.1,
@@ -382,36 +335,51 @@ input-order bytes file begun now order opens h =
     ] ∙ new-order t.file begun
     ∙ ap (λ (e : Elf). order_of begun e.order) (one_answer (opened bytes) t.opens opens)
 
--- the header of each unit has the encoding that is recorded of it, in the package's byte order
-abbrev Encoded : Option InProgress → Type 0
-Encoded begun = (order : Endianness) → AreEncoded (order_of begun order) (units_begun begun)
+-- so is what the unit of a row means, of each row of a package in its byte order
+abbrev pub Encodes : Endianness → Contents → IndexEntry → Type 0
+Encodes order contents row = IsEncoded order (meaning_at order contents [] row)
 
-input-encoded : (bytes : List ℕ) (begun now : Option InProgress)
-    → IsOfOneEncoding bytes → Joins bytes (units_begun begun) (units_begun now)
-    → with_input bytes begun ≡ Ok now → Encoded begun → Encoded now
-input-encoded bytes begun now one j h before order =
+abbrev pub Encoded : Option InProgress → Type 0
+Encoded None = Unit {0}
+Encoded (Some made) = EachRow (Encodes made.file.order made.file.contents) made.rows
+
+input-encoded : (bytes : List ℕ) (begun now : Option InProgress) → IsOfOneEncoding bytes
+    → IsSoundBegun begun → with_input bytes begun ≡ Ok now → Encoded begun → Encoded now
+input-encoded bytes begun now one sound h before =
     let t = takes bytes begun now h in
-    rw (input-order bytes t.file begun now order t.opens h) (units-hold
-    (IsEncoded (order_of begun t.file.order)) j t (λ u all read.
-    let source = u.source in
-    let own = source.object.order in
-    let has = one t.file source.object source.encoding t.opens u.object_is u.encoding_is in
-    subst (λ o. CanMean (IsEncoded o) source all)
-    (made-order t.file source.object begun u.object_is u.order_is ∙ new-order t.file begun)
-    (All-weaker (WasRead source (OfOne source)) _ (λ r w unit made place found rest is.
-    let a = w.so.0.0 in
-    places-encoding place w.place (section own r.1.unit.whole.bytes) (found, rest)
-    (a.alone, a.rest) (ap (λ l. unit_at place (section own l)) (sym made.1) ∙ is) a.read
-    ∙ sym a.shifted.encoding ∙ w.so.1 ∙ sym made.0) all (sections-are source
-    (OfOne source) source.object.sections all (of-one source source.object.sections has) read)))
-    (before t.file.order))
-
--- the header of a unit that was found
-found-header : (pack : Package) (name : DwarfObject) (found : index.FoundUnit) (count : ℕ)
-    → found_counted pack name ≡ Ok (Some found, count) → (place : UnitSection)
-    × (encoding_in pack.order place found.bytes ≡ Ok found.encoding)
-unfolding found_counted unit_at_row unit_in
-found-header pack name found count h = grind arith
+    let old = package_or_new t.file begun in
+    let was = (elim begun as (λ b. Encoded b → Encoded (Some (package_or_new t.file b)))
+    [ None ↦ λ e. tt | Some made ↦ λ e. e ]) before in
+    elim t.does [
+      | inl w ↦
+          let u = w.1 in
+          let source = u.source in
+          let order = source.object.order in
+          let a = source-made source old u.made u.with in
+          let same = made-order t.file source.object begun u.object_is u.order_is in
+          let has = one t.file source.object source.encoding t.opens u.object_is u.encoding_is in
+          let inside = sound-inside old (new-sound t.file begun sound) in
+          let rows = rows-added a (OfOne source) (news-are a (OfOne source)
+          (of-one source source.object.sections has)) (Encodes order)
+          (λ c d n new grows up place found rest read.
+          let bytes = new.0.1.unit.whole.bytes in
+          let known = new.3.so.0.0 in
+          let own = (own-lies a n new.0 new.1 new.2 c d up).1 ∙ new.1.bytes in
+          places-encoding place new.3.place (section order bytes) (found, rest)
+          (known.alone, known.rest) (ap (λ l. unit_at place (section order l)) (sym own) ∙ read)
+          known.read ∙ sym known.shifted.encoding ∙ new.3.so.1 ∙ sym
+          (new-encoding a n new.0 new.1 c))
+          (λ d up. recursion_from_All (Encodes order d) old.rows
+          (λ k e within place found rest read.
+          let row = get_or old.rows k e in
+          let kept = keep-part old.file.contents d row up
+          (All-from_recursion _ old.rows inside k e within)
+          (kind_of (place_of row.id row.debug_types)) in
+          All-from_recursion (Encodes order old.file.contents) old.rows (rw (← same) at was) k e
+          within place found rest (rw kept at read))) in
+          subst Encoded u.is (rw (order-added a ∙ sym same) rows)
+      | inr none ↦ subst Encoded none.1 was
+    ]
 
 -- look-ups that give these units give all their strings
 pub answers-whole : (order : Endianness) (units : Members) (file : File)
@@ -420,11 +388,12 @@ pub answers-whole : (order : Endianness) (units : Members) (file : File)
     → ((name : DwarfObject) → MatchOption (lookup (same_name name) units)
     (GivesNone pack name (look_limit units name)) (GivesUnit pack name (look_limit units name)))
     → AnswersAs units (file_text file)
-unfolding encoding_in package_of
+unfolding encoding_in found_counted package_of unit_at_row unit_in
 answers-whole order units file back same are pack parsed finds =
     let whole = λ (name : DwarfObject) (unit : Meaning) (is : IsEncoded order unit)
     (g : GivesUnit pack name (look_limit units name) unit).
-    let p = found-header pack name g.found g.count g.counted in
+    let p : (place : UnitSection) × (encoding_in pack.order place g.found.bytes
+    ≡ Ok g.found.encoding) = grind (arith, g.counted) in
     let order_is : pack.order ≡ order = grind (arith, back, parsed, same) in
     let u = bind-was (unit_at p.0 (section order unit.bytes)) _ g.found.encoding
     ((λ i. encoding_in (sym order_is i) p.0 (sym g.is.bytes i)) ∙ p.1) in
@@ -444,21 +413,20 @@ pub inputs-whole : (accepted : List (List ℕ)) (state : State) → AreTaken acc
     → All IsOfOneEncoding accepted → (file : File) → finish_test state ≡ Ok tt
     → IsFinishedState state file → AnswersOnceWritten (units_in state) file
 inputs-whole accepted state are one file tested f differ back =
-    let is = packages-in-order IsOfOneEncoding Encoded input-encoded accepted state are one
-    (λ order. All-nil (λ (u : DwarfObject × Meaning). IsEncoded order u.1)) in
+    let is = packages-in-order IsOfOneEncoding Encoded input-encoded accepted state are one tt in
     let p = finished-is state file is.0 tested f differ back in
-    answers-whole _ (units_in state) file back (finished-order f.made file f.finished
-    ∙ ap (λ b. order_of b file.order) (sym f.begun)) (is.1 file.order) p.pack p.parsed p.finds
+    let encoded = units-all (IsEncoded f.made.file.order) f.made (rw f.begun at is.1) in
+    answers-whole _ (units_in state) file back (finished-order f.made file f.finished)
+    (rw f.begun encoded) p.pack p.parsed p.finds
 
 -- so are those of an own package
 pub rows-encoded : {encoding : Encoding} {made : InProgress} → OwnMade encoding made
-    → HasNamedUnits encoding made → AreEncoded made.file.order (units_of made)
+    → HasNamedUnits encoding made → Encoded (Some made)
 unfolding encoding_in
 rows-encoded {encoding} {made} own names =
     let order = made.file.order in
     let c = made.file.contents in
-    All-map (λ (u : DwarfObject × Meaning). IsEncoded order u.1)
-    (λ (row : IndexEntry). (row.id, mean_of made row)) made.rows (λ k d within.
+    recursion_from_All (Encodes order c) made.rows (λ k d within.
     let row = get_or made.rows k d in
     let owns = (All-from_recursion (IsOwnRow made) made.rows own.rows k d within).owns in
     let bytes = unit_bytes c row in
@@ -469,10 +437,6 @@ rows-encoded {encoding} {made} own names =
     λ place found rest is. places-encoding place owns.place (section order bytes) (found, rest) u.0
     is u.1 ∙ named.0 ∙ sym all)
 
--- a unit is encoded, and has the encoding
-abbrev pub IsAlike : Endianness → Encoding → DwarfObject × Meaning → Type 0
-IsAlike order encoding u = IsEncoded order u.1 × (u.1.encoding ≡ encoding)
-
 -- where there are bytes, something is read of them
 units-there : (order : Endianness) (bytes : List ℕ) → 0 < length bytes
     → units places.Info (section order bytes) ≡ [] → ⊥
@@ -481,63 +445,58 @@ units-there order bytes some none = grind arith
 
 -- so has the first unit that is read of info
 pub first-of : (made : InProgress) (file : File) (encoding : Encoding) → IsSound made
-    → IsFinished made file → KindsDiffer file.contents → All (IsAlike made.file.order encoding)
-    (units_of made) → 0 < length (content_of (kind_of places.Info) file.contents)
+    → IsFinished made file → KindsDiffer file.contents → Encoded (Some made)
+    → HaveEncoding encoding made.rows → 0 < length (content_of (kind_of places.Info) file.contents)
     → encoding_of (written_object file) ≡ Ok encoding
 unfolding encoding_of
-first-of made file encoding sound fin differ alike some =
+first-of made file encoding sound fin differ encoded alike some =
     let order = made.file.order in
     let contents = made.file.contents in
-    let mean = mean_of made in
-    let Is = IsAlike order encoding in
     let own = finished-own made file fin places.Info in
     let held = first-written (kind_of places.Info) file.contents differ ∙ own in
     (λ i. first_encoding (units places.Info (section (finished-order made file fin i) (held i))))
-    ∙ of-section order contents places.Info made.rows (λ todo got. All Is (members mean todo)
-    → (got ≡ [] → ⊥) → first_encoding got ≡ Ok encoding) (λ are none. absurd (none refl))
-    (λ r rs got other later are. later (All-tail Is (r.id, mean r) (members mean rs) are))
-    (λ r rs h got u later are none.
-    let is = All-head Is (r.id, mean r) (members mean rs) are in
-    ap Ok (u.shifted.encoding ∙ is.0 (place_of r.id r.debug_types) u.alone u.rest (read-alone u)
-    ∙ is.1)) sound.laid.once sound.laid.info alike (units-there order _ (rw own at some))
+    ∙ of-section order contents places.Info made.rows (λ todo got. EachRow (Encodes order contents)
+    todo → HaveEncoding encoding todo → (got ≡ [] → ⊥) → first_encoding got ≡ Ok encoding)
+    (λ are all none. absurd (none refl)) (λ r rs got other later are all. later are.1 all.1)
+    (λ r rs h got u later are all none. ap Ok (u.shifted.encoding
+    ∙ are.0 (place_of r.id r.debug_types) u.alone u.rest (read-alone u) ∙ all.0))
+    sound.laid.once sound.laid.info encoded alike (units-there order _ (rw own at some))
 
--- all units have the encoding too, and info has bytes where there are units
+-- all have the encoding too, and info has bytes where there are units
 abbrev Filled : Encoding → Option InProgress → Type 0
-Filled e begun = AllOf e (units_begun begun)
+Filled e begun = HaveEncoding e (rows_begun begun)
     × ((made : InProgress) → begun ≡ Some made → 0 < length made.rows → HasInfo made)
 
 input-filled : (e : Encoding) (bytes : List ℕ) (begun now : Option InProgress)
-    → IsOfEncoding e bytes → Joins bytes (units_begun begun) (units_begun now)
-    → with_input bytes begun ≡ Ok now → Filled e begun → Filled e now
-unfolding input_encoding
-input-filled e bytes begun now one j h before =
+    → IsOfEncoding e bytes → with_input bytes begun ≡ Ok now → Filled e begun → Filled e now
+input-filled e bytes begun now one h before =
     let t = takes bytes begun now h in
     let old = package_or_new t.file begun in
     let info : 0 < length old.rows → HasInfo old = grind (arith, before.1) in
     let there = λ (u : TakesUnits t.file begun now).
-    info-there (source-made u.source old u.made u.with) u.encoding_is info in
-    let all = units-hold (λ unit. unit.encoding ≡ e) j t (λ u all read. each-all _ (λ r unit made.
-    made.0 ∙ one.1 u.source.encoding (rw (t.opens, u.object_is) u.encoding_is)) all) before.0 in
-    (all, λ made is. grind (arith, t.does, is, info, there))
+    info-there (source-made u.source old u.made u.with) u.encoding_is info in (
+      input-rows (λ row. row.encoding ≡ e) bytes begun now (λ row format. one.1 row.encoding) h
+          before.0,
+      λ made is. grind (arith, t.does, is, info, there),
+    )
 
 pub inputs-alike : (e : Encoding) (accepted : List (List ℕ)) (state : State)
     → AreTaken accepted start state → All (IsOfEncoding e) accepted → (file : File)
     → IsFinishedState state file → HaveEncodingOnceWritten (units_in state) file
 inputs-alike e accepted state are one file f differ back k d within =
-    let units = All-nil (λ (u : DwarfObject × Meaning). u.1.encoding ≡ e) in
     let is = packages-in-order (IsOfEncoding e) (λ begun. Encoded begun × Filled e begun)
-    (λ bytes begun now q j h before. let encoded = input-encoded bytes begun now q.0 j h before.0 in
-    (encoded, input-filled e bytes begun now q j h before.1)) accepted state are one (
-      λ order. All-nil (λ (u : DwarfObject × Meaning). IsEncoded order u.1),
-      (units, λ made none. absurd cc),
-    ) in
+    (λ bytes begun now q sound h before. (
+      input-encoded bytes begun now q.0 sound h before.0,
+      input-filled e bytes begun now q h before.1,
+    )) accepted state are one
+    (tt, (tt, λ made none. absurd cc)) in
     let made = f.made in
-    let filled = is.1.1 in
-    let all : AllOf e (units_of made) = subst (AllOf e) (ap units_begun f.begun) filled.0 in
-    let encoded = rw f.begun at (is.1.0 file.order) in
+    let rows : HaveEncoding e made.rows = rw f.begun at is.1.1.0 in
+    let all : AllOf e (units_in state) =
+    rw f.begun (units-all (λ unit. unit.encoding ≡ e) made rows) in
     let long = ap (λ b. length (units_begun b)) f.begun ∙ length-map made.rows _ in
-    let some = filled.1 made f.begun (omega (arith, long, within)) in
+    let some = is.1.1.1 made f.begun (omega (arith, long, within)) in
     let first = first-of made file e (subst IsSoundBegun f.begun is.0) f.finished differ
-    (λ k d within. (encoded k d within, all k d within))
+    (subst Encoded f.begun is.1.0) rows
     (subst (λ l. 0 < length l) (sym (finished-own made file f.finished places.Info)) some) in
-    input-encoding file differ back ∙ first ∙ ap Ok (sym (filled.0 k d within))
+    input-encoding file differ back ∙ first ∙ ap Ok (sym (all k d within))

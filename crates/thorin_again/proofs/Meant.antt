@@ -16,42 +16,42 @@ use Joined.{ReadError, refl, Result, row_in, rows_of, same-ok, section, SectionK
 use Joined.{Some, Source, source_units, strings_of, subst, suc, sym, take-length, true}
 use Joined.{type_signature, unit_bytes, unit_section, UnitRead, units_in, units_of, UnitSection}
 use Joined.{with_input, with_source, zero, [], ℕ, ◌++◌, ◌+◌, ◌-◌, ◌<◌, ◌∙◌, ◌∷◌, ◌≡◌, ◌≤◌}
-use Rattle.thorin_again.proofs.Opened.{IsOwnRow, IsReadOf, lie-kept, lie-used, mean_of, none-behind}
-use Rattle.thorin_again.proofs.Opened.{object-written, opened-elf, read-of, rest-differ, section_of}
-use Rattle.std.proofs.lemmas.List.Sorted.{IsPermutation-map, IsPermutation-refl, IsPermutation-sym}
-use Rattle.thorin_join.proofs.Files.{finished-grows, finished-order, HasRows, id-at, part-there}
-use Rattle.thorin_join.proofs.Units.{AreAdded, identity-sort, name-identity, Reads}
-use Rattle.thorin_join.proofs.{Files.members, Joined.source-made, Rows.keep-rows, Rows.not-outside}
-use Rattle.thorin_again.proofs.Opened.{empty-first, first-written, info-written, input-encoding}
-use Rattle.thorin_join.proofs.{Moved.IsShifted, Moved.plain, Moved.unit-moves, Ranges.strings-are}
-use Rattle.std.proofs.lemmas.List.Sorted.{IsPermutation-append_right, IsPermutation-filter_both}
-use Rattle.thorin_input.specs.Rows.{abbreviations_for, numbered_abbreviations, own_contribution}
-use Rattle.std.proofs.lemmas.List.Elements.{All-drop, All-filter, All-from_recursion, All-head}
-use Rattle.std.proofs.lemmas.List.Elements.{All-nil, All-push, All-tail, All-take, All-weaker}
-use Rattle.thorin_join.specs.Builder.{IsFinishedState, source_for, State, with_units}
-use Rattle.thorin_again.proofs.{Kept.joined, Kept.part-middle, Kept.range_at, Offsets.at-row}
-use Rattle.thorin_input.specs.{Encodings.encoding_of, Rows.row_abbreviations, Rows.row_test}
-use Rattle.thorin_package_input.{proofs.Rows.first_found, specs.RowPlaces.row_by_place}
-use Rattle.std.proofs.Math.{Dec.eqb-suc-zero, Seq.drop-append_seam, Seq.take-append_seam}
-use Rattle.thorin_again.specs.OwnInput.{IsOwn, own_source, written_object, written_used}
-use Rattle.thorin_join.specs.Builder.{finish_test, order_of, taken, with_source_or_new}
-use Rattle.std.proofs.lemmas.List.{Folds.Any-from_list_any, Sorted.IsPermutation-trans}
-use Rattle.thorin_input.specs.{Adjusting.row_of, Indexes.index_for, Indexes.looked_up}
-use Rattle.dwp_table.specs.{Probing.found_row, Probing.look_count, Table.FindsExactly}
-use Rattle.std.proofs.lemmas.List.Sorted.{All-permutation, IsPermutation-append_comm}
-use Rattle.thorin_join.specs.Laid.{HaveOneRange, is_at, Lie, rows_at, same_place}
-use Rattle.thorin_join.specs.Meaning.{input_meaning, lie_inside, meaning_with, meant, unit_meaning}
-use Rattle.thorin_again.specs.Again.{all_meant, HaveEncodingOf, MeansWhereTaken}
-use Rattle.thorin_join.specs.Meaning.{meaning_by, named_each, named_sections, named_unit}
-use Rattle.std.proofs.Common.{ap₂, eqb-true, find, get_or, IsPermutation, ◌≢◌}
-use Rattle.thorin_join.specs.Meaning.{named_at, object_meaning, shared_kinds, source_meaning}
-use Rattle.std.proofs.lemmas.Option.{slice_get-get_or, slice_get_within}
-use Rattle.thorin_index.specs.ReadRows.{HasContributions, HasEntries}
-use Rattle.dwp_units.specs.Units.{unit_at, units, units_within}
-use Rattle.std.proofs.lemmas.List.{get_or_append_left}
-use Rattle.dwp_table.proofs.Tables.{finds_exactly}
 use Rattle.dwp_elf.specs.Written.{written_elf}
-use Rattle.thorin_again.specs.OwnUnits.{AllOf}
+use Rattle.dwp_table.proofs.Tables.{finds_exactly}
+use Rattle.dwp_table.specs.{Probing.found_row, Probing.look_count, Table.FindsExactly}
+use Rattle.dwp_units.specs.Units.{unit_at, units, units_within}
+use Rattle.std.proofs.Common.{ap₂, eqb-true, find, get_or, IsPermutation, ◌≢◌}
+use Rattle.std.proofs.Math.{Dec.eqb-suc-zero, Seq.drop-append_seam, Seq.take-append_seam}
+use Rattle.std.proofs.lemmas.List.Elements.{All-drop, All-head, All-nil, All-push, All-tail}
+use Rattle.std.proofs.lemmas.List.Elements.{All-filter, All-from_recursion, All-take, All-weaker}
+use Rattle.std.proofs.lemmas.List.Sorted.{All-permutation, IsPermutation-map, IsPermutation-refl}
+use Rattle.std.proofs.lemmas.List.Sorted.{IsPermutation-append_comm, IsPermutation-sym}
+use Rattle.std.proofs.lemmas.List.Sorted.{IsPermutation-append_right, IsPermutation-filter_both}
+use Rattle.std.proofs.lemmas.List.{Folds.Any-from_list_any, Sorted.IsPermutation-trans}
+use Rattle.std.proofs.lemmas.List.{get_or_append_left}
+use Rattle.std.proofs.lemmas.Option.{slice_get-get_or, slice_get_within}
+use Rattle.thorin_again.proofs.Opened.{empty-first, IsReadOf, lie-used, mean_of, opened-elf}
+use Rattle.thorin_again.proofs.Opened.{first-written, none-behind, object-written, rest-differ}
+use Rattle.thorin_again.proofs.Opened.{info-written, input-encoding, IsOwnRow, lie-kept, section_of}
+use Rattle.thorin_again.proofs.{Kept.joined, Kept.part-middle, Kept.range_at, Opened.read-of}
+use Rattle.thorin_again.specs.Again.{all_meant, HaveEncodingOf, MeansWhereTaken}
+use Rattle.thorin_again.specs.OwnInput.{IsOwn, own_source, written_object, written_used}
+use Rattle.thorin_again.{proofs.Offsets.at-row, specs.OwnUnits.AllOf}
+use Rattle.thorin_index.specs.ReadRows.{HasContributions, HasEntries}
+use Rattle.thorin_input.specs.Rows.{abbreviations_for, numbered_abbreviations, row_abbreviations}
+use Rattle.thorin_input.specs.{Adjusting.row_of, Indexes.index_for, Indexes.looked_up}
+use Rattle.thorin_input.specs.{Encodings.encoding_of, Rows.own_contribution, Rows.row_test}
+use Rattle.thorin_join.proofs.Files.{finished-grows, finished-order, id-at, members, part-there}
+use Rattle.thorin_join.proofs.Units.{AreAdded, identity-sort, name-identity, Reads}
+use Rattle.thorin_join.proofs.{Files.HasRows, Ranges.strings-are, Rows.keep-rows, Rows.not-outside}
+use Rattle.thorin_join.proofs.{Joined.source-made, Moved.IsShifted, Moved.plain, Moved.unit-moves}
+use Rattle.thorin_join.specs.Builder.{IsFinishedState, order_of, State, taken, with_units}
+use Rattle.thorin_join.specs.Builder.{finish_test, source_for, with_source_or_new}
+use Rattle.thorin_join.specs.Laid.{HaveOneRange, is_at, Lie, rows_at, same_place}
+use Rattle.thorin_join.specs.Meaning.{input_meaning, lie_inside, meaning_with, named_unit}
+use Rattle.thorin_join.specs.Meaning.{meaning_by, named_each, named_sections, shared_kinds}
+use Rattle.thorin_join.specs.Meaning.{meant, named_at, object_meaning, source_meaning, unit_meaning}
+use Rattle.thorin_package_input.{proofs.Rows.first_found, specs.RowPlaces.row_by_place}
 use Rattle.dwp_base.specs.declared.section.SectionKind.TheVariants as kinds
 use Rattle.dwp_units.specs.declared.unit.UnitSection.TheVariants as places
 

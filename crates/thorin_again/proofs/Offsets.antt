@@ -15,33 +15,32 @@ use Joined.{offset_size, Ok, Option, Parts, parts_of, range_named, refl, remappe
 use Joined.{same_Some, slice_get, slice_range, Some, Source, Str, string_at, string_in, StrOffsets}
 use Joined.{subst, suc, sym, take, take-length, true, with_source, zero, [], ℕ, ◌*◌, ◌++◌, ◌+◌, ◌<◌}
 use Joined.{◌>>=◌, ◌∙◌, ◌∷◌, ◌≡◌, ◌≤◌, ◌⊎◌}
-use Rattle.std.proofs.lemmas.{Bool.eqb-false, List.Folds.Any-from_list_any, Option.slice_get_within}
-use Rattle.thorin_strings.specs.StringOffsets.{entry_bytes, header_of, offset_at, remapped_entries}
-use Rattle.thorin_join.proofs.Parts.{each-part, has-more, has-other, joined_parts-more, no-entries}
-use Rattle.thorin_join.proofs.Parts.{joined_parts-other, Rewritten, rewritten-plain, units-strings}
-use Rattle.thorin_join.proofs.{Files.HasRows, Rows.place-put, Rows.range-front, Rows.range_for}
-use Rattle.thorin_again.specs.Plain.{GiveStrings, HasOneOf, HasTiledOffsets, IsAmong, IsOfSome}
-use Rattle.std.proofs.lemmas.List.FromFn.{get_or-map-range_with_len, length-map-range_with_len}
-use Rattle.std.proofs.Common.{add-mul, eqb-true, leb, leb-false, lt-ltb, true≢false, zero-mul}
-use Rattle.thorin_package_input.specs.PackagedOffsets.{rewritten_from, with_ranges, with_rows}
-use Rattle.thorin_again.specs.{OwnRefusals.UnlessStringOffset, Plain.IsWholeRange, Plain.Tile}
-use Rattle.std.proofs.{ByRecursion.all_kept_by, lemmas.Nat.row_fits, Math.Seq.drop-append-add}
-use Rattle.thorin_again.proofs.Kept.{content-added, once-more, order-added, parted, row_with}
-use Rattle.thorin_package_input.specs.PackagedOffsets.{offset_ranges, place_cmp, ranges_test}
-use Rattle.thorin_join.proofs.{Joined.Made as Added, Joined.source-made, Rows.own-bytes}
-use Rattle.std.proofs.lemmas.Option.{get_or_from_slice_get, slice_get_cases, slice_get_read}
-use Rattle.std.proofs.lemmas.List.Sorted.{IsPermutation-filter_both, list_any-IsPermutation}
-use Rattle.std.{proofs.Common.⊎_elim, specs.BTreeSet.insert_key, specs.List.range_with_len}
-use Rattle.thorin_join.{proofs.Ranges.count-again, proofs.Ranges.range-of, specs.StandApart.EachRow}
-use Rattle.std.proofs.lemmas.List.Elements.{All-from_recursion, recursion_from_All}
-use Rattle.thorin_package_input.specs.RowPlaces.{is_range, range_of_row, ranges_of}
-use Rattle.thorin_package_input.proofs.Rows.{compilation_there, type_there}
-use Rattle.thorin_again.proofs.Kept.{RowHas, rows-share, with-any, with-each}
-use Rattle.thorin_package_input.proofs.Rows.{range_is, range_of_found}
-use Rattle.thorin_package_input.specs.PackagedReading.{range_bytes}
-use Rattle.thorin_strings.specs.StringOffsets.{remapped_entry}
-use Rattle.thorin_index.specs.ReadRows.{HasContributions}
 use Rattle.dwp_base.specs.Numbers.{number}
+use Rattle.std.proofs.Common.{add-mul, eqb-true, leb-false, lt-ltb, true≢false, zero-mul, ⊎_elim}
+use Rattle.std.proofs.lemmas.List.Elements.{All-from_recursion, recursion_from_All}
+use Rattle.std.proofs.lemmas.List.FromFn.{get_or-map-range_with_len, length-map-range_with_len}
+use Rattle.std.proofs.lemmas.List.Sorted.{IsPermutation-filter_both, list_any-IsPermutation}
+use Rattle.std.proofs.lemmas.Option.{get_or_from_slice_get, slice_get_cases, slice_get_read}
+use Rattle.std.proofs.lemmas.{Bool.eqb-false, List.Folds.Any-from_list_any, Option.slice_get_within}
+use Rattle.std.proofs.{ByRecursion.all_kept_by, lemmas.Nat.row_fits, Math.Seq.drop-append-add}
+use Rattle.std.{proofs.Common.leb, specs.BTreeSet.insert_key, specs.List.range_with_len}
+use Rattle.thorin_again.proofs.Kept.{content-added, once-more, row_with, rows-share, with-each}
+use Rattle.thorin_again.proofs.Kept.{order-added, parted, RowHas, with-any}
+use Rattle.thorin_again.specs.Plain.{GiveStrings, HasOneOf, HasTiledOffsets, IsAmong, IsWholeRange}
+use Rattle.thorin_again.specs.{OwnRefusals.UnlessStringOffset, Plain.IsOfSome, Plain.Tile}
+use Rattle.thorin_index.specs.ReadRows.{HasContributions}
+use Rattle.thorin_join.proofs.Parts.{each-part, has-more, has-other, joined_parts-other, no-entries}
+use Rattle.thorin_join.proofs.Parts.{joined_parts-more, Rewritten, rewritten-plain, units-strings}
+use Rattle.thorin_join.proofs.Rows.{own-bytes, place-put, range-front, range_for}
+use Rattle.thorin_join.proofs.{Files.HasRows, Joined.Made as Added, Joined.source-made}
+use Rattle.thorin_join.{proofs.Ranges.count-again, proofs.Ranges.range-of, specs.StandApart.EachRow}
+use Rattle.thorin_package_input.proofs.Rows.{compilation_there, range_is, range_of_found}
+use Rattle.thorin_package_input.specs.PackagedOffsets.{offset_ranges, with_ranges, with_rows}
+use Rattle.thorin_package_input.specs.PackagedOffsets.{place_cmp, ranges_test, rewritten_from}
+use Rattle.thorin_package_input.specs.RowPlaces.{is_range, range_of_row, ranges_of}
+use Rattle.thorin_package_input.{proofs.Rows.type_there, specs.PackagedReading.range_bytes}
+use Rattle.thorin_strings.specs.StringOffsets.{entry_bytes, header_of, offset_at, remapped_entries}
+use Rattle.thorin_strings.specs.StringOffsets.{remapped_entry}
 
 -- the rows of compilation units and those of type units
 pub at-row : (P : IndexEntry → Type 0) (rows : List IndexEntry) (n : ℕ) (row : IndexEntry)

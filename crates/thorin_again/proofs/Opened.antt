@@ -8,46 +8,45 @@ use Joined.{ap, append-nil, append_assoc, AreDistinct, AreRowsOf, arith, Bool, c
 use Joined.{Contents, contribution_to, count_of, data_of, DwarfObject, Elf, Encoding, Endianness}
 use Joined.{entry_ids, Err, ErrorValue, every, false, File, file_text, first, has_info, has_part}
 use Joined.{Index, index_tests, index_version_of, IndexEntry, Indexes, InProgress, input_file_of}
-use Joined.{is-same, is_chosen, is_package, is_shared, is_some, IsFinished, IsIndexOf}
-use Joined.{IsRowOf, IsSound, IsSoundBegun, kind_of, KindsDiffer, length, length-map, List}
-use Joined.{list_any, list_any-append, Meaning, meaning_at, name_of, nat_tests, nil_from_length}
-use Joined.{None, not, Ok, Option, order_test, packaged_offsets, Parts, parts_of, refl, Result}
-use Joined.{rewritten, rows_of, same-each, same-ok, same-self, same_kind, same_Some, SectionKind}
-use Joined.{slice_get, slice_index, Some, Source, StrOffsets, subst, sym, take-length, true}
-use Joined.{units_in, units_of, UnitSection, Used, with_each_part, with_input, with_offsets}
-use Joined.{with_part, [], ℕ, ◌++◌, ◌+◌, ◌<◌, ◌>>=◌, ◌^◌, ◌||◌, ◌∙◌, ◌∷◌, ◌≡◌, ◌≤◌}
-use Rattle.thorin_input.specs.Format.{is_in_format}
-use Rattle.thorin_again.specs.{Again.input_encoding, OwnInput.written_object, OwnInput.written_used}
-use Rattle.thorin_again.specs.{OwnRefusals.UnlessStringOffset, Plain.HasTiledOffsets, Plain.IsPlain}
-use Rattle.thorin_package_input.specs.{PackagedOffsets.rewritten_from, PackagedReading.range_bytes}
-use Rattle.thorin_index.{proofs.Held.have_passed, proofs.Held.used_known, specs.IndexText.is_used}
-use Rattle.thorin_again.proofs.Offsets.{all-rewritten, any-chosen, are-named, at-row, has-range}
-use Rattle.thorin_again.specs.OwnInput.{CanTake, IsOwn, own_source, TakesParts, TakesUpToParts}
-use Rattle.thorin_join.proofs.Files.{finished-content, finished-strings, HasRows, members, nothing}
-use Rattle.thorin_again.proofs.Offsets.{passing, ranges-are, some-has, tile-lies, tile-tested}
-use Rattle.thorin_join.proofs.Files.{finished-order, finished-own, Tested}
-use Rattle.thorin_input.specs.Used.{counts_once, has_kind, is_present, opened, used_bytes}
-use Rattle.thorin_join.proofs.{Parts.rewritten-package, Rows.part-inside, Units.distinct_chosen}
-use Rattle.thorin_join.specs.Builder.{finish_test, IsFinishedState, same_order, State, with_units}
-use Rattle.std.proofs.{ByRecursion.all_kept_by, Common.bytes_eq, Math.ListN.get_or-map}
-use Rattle.thorin_join.specs.{Builder.source_for, Laid.IsLaid, Laid.Lie, StandApart.EachRow}
-use Rattle.thorin_join.{proofs.Files.chosen-fit, proofs.Files.tested-state, specs.Laid.rows_at}
-use Rattle.thorin_input.specs.{Encodings.encoding_of, Used.used_from, Used.used_kind}
-use Rattle.dwp_elf.specs.Written.{plain_section, written_elf, written_sections}
-use Rattle.std.proofs.lemmas.{Bool.or_right, List.Elements.recursion_from_All}
-use Rattle.thorin_input.{proofs.Walking.found-any, specs.Format.is_of_units}
-use Rattle.dwp_elf_read.specs.Elf.{elf_of, is_named, is_of, SectionMeaning}
-use Rattle.thorin_input.specs.Indexes.{index_in, indexes_of, version_test}
-use Rattle.dwp_base.specs.declared.section.SectionKind.TheVariants.{Info}
-use Rattle.thorin_join.{proofs.Files.no-bytes, proofs.Parts.slice-long, specs.Builder.order_of}
-use Rattle.thorin_index.proofs.ReadAgain.{index_is_read, written_rows}
+use Joined.{is-same, is_chosen, is_package, is_shared, is_some, IsFinished, IsIndexOf, IsRowOf}
+use Joined.{IsSound, IsSoundBegun, kind_of, KindsDiffer, length, length-map, List, list_any}
+use Joined.{list_any-append, Meaning, meaning_at, name_of, nat_tests, nil_from_length, None, not}
+use Joined.{Ok, Option, order_test, packaged_offsets, Parts, parts_of, refl, Result, rewritten}
+use Joined.{rows_of, same-each, same-ok, same-self, same_kind, same_Some, SectionKind, slice_get}
+use Joined.{slice_index, Some, Source, StrOffsets, subst, sym, take-length, true, units_in}
+use Joined.{units_of, UnitSection, Used, with_each_part, with_input, with_offsets, with_part, [], ℕ}
+use Joined.{◌++◌, ◌+◌, ◌<◌, ◌>>=◌, ◌^◌, ◌||◌, ◌∙◌, ◌∷◌, ◌≡◌, ◌≤◌}
 use Rattle.dwp_base.proofs.EveryKind.{kind-named, not-older}
-use Rattle.thorin_package_input.proofs.Rows.{range_is}
+use Rattle.dwp_base.specs.declared.section.SectionKind.TheVariants.{Info}
+use Rattle.dwp_elf.specs.FileText.{name_table}
+use Rattle.dwp_elf.specs.Written.{plain_section, written_elf, written_sections}
+use Rattle.dwp_elf_read.specs.Elf.{elf_of, is_named, is_of, SectionMeaning}
 use Rattle.dwp_elf_read.specs.Identification.{identity_of}
 use Rattle.dwp_index.specs.Contents.{is_of_kind}
 use Rattle.dwp_table.specs.Columns.{column_of}
-use Rattle.dwp_elf.specs.FileText.{name_table}
+use Rattle.std.proofs.{ByRecursion.all_kept_by, lemmas.List.Elements.recursion_from_All}
+use Rattle.std.proofs.{Common.bytes_eq, lemmas.Bool.or_right, Math.ListN.get_or-map}
+use Rattle.thorin_again.proofs.Offsets.{all-rewritten, any-chosen, are-named, passing, tile-lies}
+use Rattle.thorin_again.proofs.Offsets.{at-row, has-range, ranges-are, some-has, tile-tested}
+use Rattle.thorin_again.specs.OwnInput.{CanTake, IsOwn, own_source, TakesParts, TakesUpToParts}
 use Rattle.thorin_again.specs.OwnUnits.{AllOf}
+use Rattle.thorin_again.specs.{Again.input_encoding, OwnInput.written_object, OwnInput.written_used}
+use Rattle.thorin_again.specs.{OwnRefusals.UnlessStringOffset, Plain.HasTiledOffsets, Plain.IsPlain}
+use Rattle.thorin_index.proofs.ReadAgain.{index_is_read, written_rows}
+use Rattle.thorin_index.{proofs.Held.have_passed, proofs.Held.used_known, specs.IndexText.is_used}
+use Rattle.thorin_input.specs.Indexes.{index_in, indexes_of, version_test}
+use Rattle.thorin_input.specs.Used.{counts_once, has_kind, is_present, opened, used_from, used_kind}
+use Rattle.thorin_input.specs.{Encodings.encoding_of, Format.is_in_format, Format.is_of_units}
+use Rattle.thorin_input.{proofs.Walking.found-any, specs.Used.used_bytes}
+use Rattle.thorin_join.proofs.Files.{chosen-fit, finished-order, HasRows, no-bytes, tested-state}
+use Rattle.thorin_join.proofs.Files.{finished-content, finished-strings, members, nothing, Tested}
+use Rattle.thorin_join.proofs.Rows.{part-inside}
+use Rattle.thorin_join.proofs.{Parts.rewritten-package, Parts.slice-long, Units.distinct_chosen}
+use Rattle.thorin_join.specs.Builder.{finish_test, IsFinishedState, same_order, source_for, State}
+use Rattle.thorin_join.specs.{Laid.IsLaid, Laid.Lie, Laid.rows_at, StandApart.EachRow}
+use Rattle.thorin_join.{proofs.Files.finished-own, specs.Builder.order_of, specs.Builder.with_units}
+use Rattle.thorin_package_input.proofs.Rows.{range_is}
+use Rattle.thorin_package_input.specs.{PackagedOffsets.rewritten_from, PackagedReading.range_bytes}
 use Rattle.dwp_base.specs.declared.section.SectionKind.TheVariants as kinds
 use Rattle.dwp_index.specs.Contents as contents
 use Rattle.dwp_units.specs.declared.unit.UnitSection.TheVariants as places
@@ -297,6 +296,16 @@ abbrev pub IsOwnRow : InProgress → IndexEntry → Type 0
 IsOwnRow made row =
     IsRowOf made.file.order made.file.contents made.strings row (row.id, mean_of made row)
 
+-- rows have an encoding where their units have it
+pub rows-of : (e : Encoding) (made : InProgress) → AllOf e (units_of made)
+    → HaveEncoding e made.rows
+rows-of e made all =
+    let unit : IndexEntry → DwarfObject × Meaning = λ row. (row.id, mean_of made row) in
+    let long = length-map made.rows unit in
+    recursion_from_All (λ row. row.encoding ≡ e) made.rows (λ k d within.
+    let is = all k (unit d) (omega (arith, within, long)) in
+    grind (arith, is, get_or-map unit made.rows k d))
+
 each-row : (order : Endianness) (c : Contents) (strings : List (List ℕ))
     (mean : IndexEntry → Meaning) (rows : List IndexEntry)
     → AreRowsOf order c strings rows (members mean rows)
@@ -341,15 +350,12 @@ own-made {state} {encoding} sound_begun tested fin some all =
     let made = fin.made in
     let have : AllOf encoding (units_of made) = rw fin.begun at all in
     let there : 0 < length (units_of made) = rw fin.begun at some in
-    let unit : IndexEntry → DwarfObject × Meaning = λ row. (row.id, mean_of made row) in
-    let long : length (units_of made) ≡ length made.rows = length-map made.rows unit in
+    let long : length (units_of made) ≡ length made.rows = length-map made.rows _ in
     let sound : IsSound made = rw fin.begun at sound_begun in
     record {
       sound = sound;
       tests = tested-state state made fin.begun tested;
-      all = recursion_from_All (λ row. row.encoding ≡ encoding) made.rows (λ k d within.
-          let is = have k (unit d) (omega (arith, within, long)) in
-          grind (arith, is, get_or-map unit made.rows k d));
+      all = rows-of encoding made have;
       some = λ none. omega (arith, there, long, ap length none);
       rows = each-row _ _ _ (mean_of made) made.rows sound.units.rows;
     }
