@@ -34,19 +34,19 @@ use Rattle.thorin_index.specs.{EntryTests.same_encoding, IndexText.is_used}
 use Rattle.thorin_input.specs.Encodings.{encoding_of, first_encoding, has_encoding, section_has}
 use Rattle.thorin_input.specs.Format.{is_in_format}
 use Rattle.thorin_input.specs.{Adjusting.adjusted, Adjusting.moved, Rows.abbreviations_for}
-use Rattle.thorin_join.proofs.Joined.{can-lie, keys-held, same-begun, source-made, with_all_parts}
-use Rattle.thorin_join.proofs.Joined.{grows-with_parts, Made, names-added, sound-inside, takes}
-use Rattle.thorin_join.proofs.Parts.{content-with_bytes, each-unit as unit-by-unit, step}
-use Rattle.thorin_join.proofs.Parts.{each-part, joined_parts-other, parts-copied}
-use Rattle.thorin_join.proofs.Rows.{adjusted-plain, content-put, grows-trans, is-unit_row, row-part}
-use Rattle.thorin_join.proofs.Rows.{front-long, Grows, IsUnitRow, row-name, row-own, whole_behind}
-use Rattle.thorin_join.proofs.Rows.{grows-with_bytes, keep-part, own-place, whole-else, whole-part}
-use Rattle.thorin_join.proofs.Units.{AllSo, each-named, IsKnown, News, sections-are, units-joined}
-use Rattle.thorin_join.proofs.Units.{Goes, goes-alone, IsAdded, known-in, same_name-self, units-go}
-use Rattle.thorin_join.proofs.Units.{added-keys, each-all, name-identity, same_name-true, WasRead}
-use Rattle.thorin_join.proofs.Units.{each-joining, identity-sort, kind-place, Listed, Reads}
-use Rattle.thorin_join.proofs.{Moved.identity-shifted, Moved.newer-five, Parts.content-with_parts}
-use Rattle.thorin_join.proofs.{Rows.part-inside, Units.AreAdded, Units.UnitsJoined}
+use Rattle.thorin_join.proofs.Joined.{can-lie, Made, same-begun, sound-inside, source-made, takes}
+use Rattle.thorin_join.proofs.Joined.{grows-with_parts, keys-held, names-added, with_all_parts}
+use Rattle.thorin_join.proofs.Parts.{content-with_bytes, each-part, joined_parts-other, step}
+use Rattle.thorin_join.proofs.Parts.{content-with_parts, each-unit as unit-by-unit, parts-copied}
+use Rattle.thorin_join.proofs.Rows.{Grows, is-unit_row, part-inside, row-name, row-own, row-part}
+use Rattle.thorin_join.proofs.Rows.{adjusted-plain, content-put, front-long, IsUnitRow, whole-else}
+use Rattle.thorin_join.proofs.Rows.{grows-with_bytes, own-place, whole-part, whole_behind}
+use Rattle.thorin_join.proofs.Units.{AllSo, identity-sort, known-in, Reads, units-go, UnitsJoined}
+use Rattle.thorin_join.proofs.Units.{AreAdded, each-named, IsAdded, same_name-true, WasRead}
+use Rattle.thorin_join.proofs.Units.{added-keys, each-all, Goes, Listed, News, units-joined}
+use Rattle.thorin_join.proofs.Units.{goes-alone, IsKnown, kind-place, name-identity, same_name-self}
+use Rattle.thorin_join.proofs.{Moved.identity-shifted, Moved.newer-five, Rows.grows-trans}
+use Rattle.thorin_join.proofs.{Rows.keep-part, Units.each-joining, Units.sections-are}
 use Rattle.thorin_join.specs.Meaning.{named_at, named_each, named_sections}
 use Rattle.thorin_join.specs.StandApart.{EachRow, rows_begun}
 use Rattle.dwp_base.specs.declared.section.SectionKind.TheVariants as kinds
@@ -193,6 +193,8 @@ module _ {source : Source} {before now : InProgress} (a : Made source before now
       → EachRow (P now.file.contents) now.rows
   rows-added T news P new old =
       let base = parted.file.contents in
+      let more = grows-with_parts a.parts before.file.contents in
+      let start = λ (d : Contents) (up : Grows base d). old d (grows-trans _ base d more up) in
       let all = with-each (λ p. Grows base p.file.contents × ((d : Contents)
       → Grows p.file.contents d → EachRow (P d) p.rows)) (IsNew T) (λ p u is so_far.
       let c = p.file.contents in
@@ -201,11 +203,7 @@ module _ {source : Source} {before now : InProgress} (a : Made source before now
         grows-trans base c next so_far.0 more,
         λ d up. All-append (P d) p.rows (_ ∷ []) (so_far.1 d (grows-trans c next d more up))
             (new c d u is so_far.0 up, tt),
-      )) news (
-        grows-self base,
-        λ d up. old d
-            (grows-trans _ base d (grows-with_parts a.parts before.file.contents) up),
-      ) in
+      )) news (grows-self base, start) in
       all.1 now.file.contents (grows-self now.file.contents)
 
   pub named-kept : is_package source.indexes ≡ false → length before.rows < length now.rows
@@ -282,14 +280,10 @@ module _ {source : Source} {before now : InProgress} (a : Made source before now
         let parts = each-part source (λ before ss after.
         Each (λ s. is_in_format source.encoding s.kind ≡ true) ss
         → joined_parts kind after.0 ≡ joined_parts kind before.0) (λ parts all. refl)
-        (λ before s next ss after step rest later all. later all.1 ∙ (grind (
-          arith,
-          step.adds,
-          all.0,
-          none,
-          is-same,
-          joined_parts-other kind before.0,
-        ))) _ _ _ a.parts_are formats in
+        (λ before s next ss after step rest later all.
+        let other = joined_parts-other kind before.0 in
+        later all.1 ∙ (grind (arith, step.adds, all.0, none, is-same, other)))
+        _ _ _ a.parts_are formats in
         let absent : contribution_to kind (adding source before a.parts).whole ≡ None =
         whole-part source.encoding before.file.contents a.parts kind shared ∙ rw parts refl in
         let given = rw absent at (made.parts kind shared) in grind (arith, given))
@@ -374,14 +368,15 @@ module _ (rest : List ℕ) where
       (said code (more i rest) (Ok (Some d))).1 (more s.0 rest, behind, (more s.2.0 rest, next))
 
 -- the identity that a unit has by a table of abbreviations it has too where bytes follow the table
-pub identity-stays : (section : Input) (rest : List ℕ) (unit : Header) (name : Option DwarfObject)
-    → identity section unit ≡ Ok name → identity (more section rest) unit ≡ Ok name
+pub identity-stays : (order : Endianness) (table rest : List ℕ) (unit : Header)
+    (name : Option DwarfObject) → identity (section order table) unit ≡ Ok name
+    → identity (section order (table ++ rest)) unit ≡ Ok name
 unfolding identity root_identity
-identity-stays section rest unit name h =
-    let fits = from_within unit.abbrev_offset (more section rest) in
-    let front = drop-append-le unit.abbrev_offset section.bytes rest in
-    let long = length-append section.bytes rest in
-    grind (arith, from_is unit.abbrev_offset section, fits, long, front, found-stays rest)
+identity-stays order table rest unit name h =
+    let fits = from_within unit.abbrev_offset (section order (table ++ rest)) in
+    let front = drop-append-le unit.abbrev_offset table rest in
+    let is = from_is unit.abbrev_offset (section order table) in
+    grind (arith, is, fits, length-append table rest, front, found-stays rest)
 
 -- the abbreviations of a row begin with those of the first section
 first-front : (kind : SectionKind) (sections : List Used)
@@ -438,7 +433,7 @@ module _ {source : Source} {before now : InProgress} (plain : is_package source.
       ∙ parts-copied source before.strings a.parts a.after a.parts_are kinds.Abbrev refl ∙ f.is in (
         ap (λ (u : Header). u.encoding) same ∙ sym v.shifted.encoding ∙ w.so.1,
         (λ i. identity (section order (part i)) (same i))
-            ∙ identity-stays (section order table) f.rest v.alone (Some r.0)
+            ∙ identity-stays order table f.rest v.alone (Some r.0)
             (sym (identity-shifted (section order table) v.behind v.alone r.1.unit v.shifted)
             ∙ named) ∙ ap (λ x. Ok (Some x))
             (sym (row-name n.1.row c n.0 x n.1.place ∙ is.name)),
@@ -465,24 +460,18 @@ IsThere name names = list_any (same_name name) names ≡ true
 
 module _ (source : Source) (encoding : Encoding) where
   -- the first unit that is read of a section has its name among these
+  abbrev HeadNamed : Listed → Reads → Type 0
+  HeadNamed reads us = first_encoding reads ≡ Ok encoding → (unit : Header)
+      × (slice_get reads 0 ≡ Some (Ok unit)) × (unit.encoding ≡ encoding) × (name : DwarfObject)
+      × IsThere name (keys us) × (type_signature unit.unit_type ≡ name_signature name)
+
   head-named : (kind : SectionKind) (reads : Listed) (us : Reads)
-      → named_each source kind reads ≡ Ok us → first_encoding reads ≡ Ok encoding
-      → (unit : Header) × (slice_get reads 0 ≡ Some (Ok unit)) × (unit.encoding ≡ encoding)
-      × (name : DwarfObject) × IsThere name (keys us)
-      × (type_signature unit.unit_type ≡ name_signature name)
-  head-named kind = each-named source kind (λ reads us. first_encoding reads ≡ Ok encoding
-      → (unit : Header) × (slice_get reads 0 ≡ Some (Ok unit)) × (unit.encoding ≡ encoding)
-      × (name : DwarfObject) × IsThere name (keys us)
-      × (type_signature unit.unit_type ≡ name_signature name)) (λ none. absurd cc)
+      → named_each source kind reads ≡ Ok us → HeadNamed reads us
+  head-named kind = each-named source kind HeadNamed (λ none. absurd cc)
       (λ unit name reads us named others e.
-      let id = name-identity source kind unit name named in (
-        unit,
-        refl,
-        same-ok {E = ErrorValue} _ _ e,
-        name,
-        rw (same_name-self name) refl,
-        identity-sort id.0 unit name id.1,
-      ))
+      let id = name-identity source kind unit name named in
+      let sort = identity-sort id.0 unit name id.1 in
+      (unit, refl, same-ok {E = ErrorValue} _ _ e, name, rw (same_name-self name) refl, sort))
 
   first-named : (sections : List Used) (all : Reads) → named_sections source sections ≡ Ok all
       → first_encoding (units places.Info (section source.object.order (first kinds.Info sections)))
@@ -560,9 +549,5 @@ info-there {source} {before} {now} a is info =
     (rw (← keys-held before, added) names) (λ old.
     let some = (elim before.rows as (λ rows. IsThere n.0 (map (λ (r : IndexEntry). r.id) rows)
     → 0 < length rows) [ [] ↦ λ e. absurd cc | r ∷ rs ↦ λ e. omega arith ]) old in
-    omega (
-      arith,
-      info some,
-      front-long (grows-with_parts a.parts
-          before.file.contents kinds.Info),
-    )))
+    let long = front-long (grows-with_parts a.parts before.file.contents kinds.Info) in
+    omega (arith, info some, long)))

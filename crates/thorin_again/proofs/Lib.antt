@@ -4,3 +4,4 @@ pub mod Opened
 mod Meant
 pub mod Lists
 pub mod Accepted
+pub mod Proven

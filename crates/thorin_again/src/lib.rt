@@ -1,6 +1,6 @@
 //! What a written package is as an input again, as definitions and laws of them. No function of it
 //! does anything.
-#![tactic(auto)]
+#![tactic(auto, using(crate::proofs::Proven::proven))]
 
 mod laws;
 

@@ -1,0 +1,14 @@
+-- What the laws say, for the functions that state them.
+use Rattle.thorin_again.proofs.Accepted.{own-all, own-by-new}
+use Rattle.thorin_again.proofs.Lists.{again-exactly, begun-now, input-order, inputs-hold}
+use Rattle.thorin_again.proofs.Lists.{inputs-whole, rows-taken, taken-holds, taken-plain}
+use Rattle.thorin_again.proofs.{Kept.identity-stays, Meant.again-is, Opened.opened-elf}
+use Rattle.thorin_again.proofs.{Opened.up-to-parts}
+
+-- of inputs that are taken
+pub ruleset taken = (begun-now, input-order, inputs-hold, inputs-whole, opened-elf, rows-taken)
+
+-- of packages that are made of them
+pub ruleset made = (again-exactly, again-is, identity-stays, own-all, own-by-new, up-to-parts)
+
+pub ruleset proven = (taken, made, taken-holds, taken-plain)
