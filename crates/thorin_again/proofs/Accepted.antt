@@ -21,49 +21,49 @@ use Rattle.dwp_elf.specs.Written.{written_elf}
 use Rattle.dwp_units.specs.Units.{units}
 use Rattle.indexmap.proofs.MapLemmas.{lookup_permutation}
 use Rattle.std.proofs.Common.{IsPermutation, ltb-true, nat_lt, ◌≢◌}
-use Rattle.std.proofs.lemmas.List.Sorted.{IsPermutation-map, IsPermutation-middle}
-use Rattle.std.proofs.lemmas.List.{Elements.All-from_recursion, Sorted.sum_by-IsPermutation}
+use Rattle.std.proofs.lemmas.List.Sorted.{IsPermutation-middle, sum_by-IsPermutation}
+use Rattle.std.proofs.lemmas.List.{Elements.All-from_recursion, Folds.list_any_none}
+use Rattle.std.proofs.lemmas.List.{Sorted.IsPermutation-map, Sums.length-filter}
 use Rattle.std.proofs.lemmas.Map.Keys.{IsDistinct-from_apart, IsDistinct-IsPermutation}
 use Rattle.std.proofs.lemmas.{Bool.eqb-false, Option.get_or_from_slice_get, Option.slice_get_within}
-use Rattle.std.proofs.lemmas.{List.Folds.list_any_none, Map.lookup-none, Map.NonePasses}
-use Rattle.std.proofs.{ByRecursion.all_kept_by, Math.Bool.and-false, Math.ListN.get_or-map}
-use Rattle.std.specs.List.{IsDistinct}
-use Rattle.std.{proofs.lemmas.List.Sums.length-filter, specs.Cmp.both_ways, specs.Cmp.IsEquivalence}
-use Rattle.thorin_again.proofs.Lists.{answers-whole, begun-now, Encoded, rows-encoded, there-back}
-use Rattle.thorin_again.proofs.Lists.{first-of, input-order, IsEncoded, meant_or, units-all}
-use Rattle.thorin_again.proofs.Meant.{again-is, found-row, IsUnitOf, of-section, place-eq, row-lies}
-use Rattle.thorin_again.proofs.Meant.{found-range, parts, read-alone, row-tested, row-there}
-use Rattle.thorin_again.proofs.Offsets.{any-chosen, at-row, by-passing}
-use Rattle.thorin_again.proofs.Opened.{and-then, front, info-written, own-offsets, up-to-parts}
-use Rattle.thorin_again.proofs.Opened.{answered, Fares, finished-shared, input-encoding, then-fares}
-use Rattle.thorin_again.proofs.Opened.{behind, object-written, opened-elf, own-parts-tried, OwnMade}
-use Rattle.thorin_again.proofs.Opened.{in-format, IsReadOf, offsets-are, own-made, section_of}
-use Rattle.thorin_again.proofs.Opened.{lie-used, present-written, read-of, rest-differ, Unless}
+use Rattle.std.proofs.{lemmas.Map.lookup-none, lemmas.Map.NonePasses, Math.ListN.get_or-map}
+use Rattle.std.{proofs.ByRecursion.all_kept_by, specs.Cmp.both_ways, specs.Cmp.IsEquivalence}
+use Rattle.std.{proofs.Math.Bool.and-false, specs.List.IsDistinct}
+use Rattle.thorin_again.proofs.Lists.{answers-whole, Encoded, first-of, IsEncoded, meant_or}
+use Rattle.thorin_again.proofs.Lists.{begun-now, input-order, rows-encoded, there-back, units-all}
+use Rattle.thorin_again.proofs.Meant.{again-is, found-range, found-row, parts, row-lies, row-tested}
+use Rattle.thorin_again.proofs.Opened.{Fares, in-format, lie-kept, opened-elf, own-made, then-fares}
+use Rattle.thorin_again.proofs.Opened.{IsReadOf, own-offsets, read-of, Unless, up-to-parts}
+use Rattle.thorin_again.proofs.Opened.{and-then, answered, OwnMade, present-written, rest-differ}
+use Rattle.thorin_again.proofs.Opened.{behind, finished-shared, front, offsets-are, own-parts-tried}
+use Rattle.thorin_again.proofs.Opened.{info-written, input-encoding, object-written, section_of}
+use Rattle.thorin_again.proofs.Sections.{any-chosen, at-row, by-passing, IsUnitOf, read-alone}
+use Rattle.thorin_again.proofs.Sections.{lie-used, of-section, place-eq, place-is, row-there}
 use Rattle.thorin_again.specs.OwnInput.{IsOwn, own_source, written_object, written_used}
-use Rattle.thorin_again.specs.{Again.all_meant, Again.HaveEncodingOf, OwnRefusals.IsForeseen}
 use Rattle.thorin_again.specs.{Own.has_content, Own.has_sections, Own.packs_again, Plain.HoldsPlain}
 use Rattle.thorin_again.specs.{OwnAccepted.IsAccepted, OwnAccepted.IsAcceptedByNew, Plain.IsPlain}
-use Rattle.thorin_again.{proofs.Kept.keep-names, proofs.Opened.lie-kept, specs.Plain.NamesItself}
-use Rattle.thorin_again.{proofs.Meant.named-again, proofs.Meant.place-is, specs.OwnUnits.HoldsOwn}
+use Rattle.thorin_again.specs.{OwnUnits.HoldsOwn, Plain.NamesItself}
+use Rattle.thorin_again.{proofs.Kept.keep-names, specs.Again.all_meant, specs.Again.HaveEncodingOf}
+use Rattle.thorin_again.{proofs.Meant.named-again, specs.OwnRefusals.IsForeseen}
 use Rattle.thorin_errors.specs.Errors.{DuplicateUnit}
 use Rattle.thorin_index.specs.IndexText.{is_used}
-use Rattle.thorin_input.specs.Adjusting.{Adjustor, moved, moved_range, other_index, own_index}
-use Rattle.thorin_input.specs.Adjusting.{adjusted, has_column_for, row_of, without_column}
-use Rattle.thorin_input.specs.NewUnits.{is_met, none_met, SeenSections, with_each_read, with_first}
-use Rattle.thorin_input.specs.NewUnits.{once_test, with_each_section, with_read, with_section_at}
-use Rattle.thorin_input.specs.NewUnits.{with_met, with_section, with_section_in}
+use Rattle.thorin_input.specs.Adjusting.{adjusted, Adjustor, moved, moved_range, other_index}
+use Rattle.thorin_input.specs.Adjusting.{has_column_for, own_index, row_of, without_column}
+use Rattle.thorin_input.specs.NewUnits.{SeenSections, with_each_section, with_read}
+use Rattle.thorin_input.specs.NewUnits.{is_met, with_first, with_section_at, with_section_in}
+use Rattle.thorin_input.specs.NewUnits.{none_met, once_test, with_each_read, with_met, with_section}
 use Rattle.thorin_input.specs.Rows.{adjusted_contribution, row_test, unit_contribution, unit_row}
 use Rattle.thorin_input.specs.{Encodings.file_encoding, Encodings.own_encoding, Used.counts_once}
-use Rattle.thorin_join.proofs.Files.{finished-is, finished-order, finished-own, HasRows, part-there}
+use Rattle.thorin_join.proofs.Files.{finished-grows, finished-is, finished-own, HasRows, part-there}
 use Rattle.thorin_join.proofs.Joined.{input-keeps, new-sound, sound-inside}
 use Rattle.thorin_join.proofs.Parts.{copied-or-offsets, parts-first, rows-read}
-use Rattle.thorin_join.proofs.Rows.{adjustor, own-index, place-put, some-index, whole-part}
-use Rattle.thorin_join.proofs.Units.{keys-units, kind-place, same_name-self, same_name-true}
-use Rattle.thorin_join.proofs.{Files.finished-grows, Files.finished-strings, Moved.identity-shifted}
+use Rattle.thorin_join.proofs.Rows.{adjustor, place-put, range-none, some-index, whole-part}
+use Rattle.thorin_join.proofs.Units.{kind-place, same_name-self, same_name-sym, same_name-true}
+use Rattle.thorin_join.proofs.{Files.finished-order, Files.finished-strings, Units.keys-units}
 use Rattle.thorin_join.specs.Builder.{finish_test, IsFinishedState, order_of, start, State, taken}
 use Rattle.thorin_join.specs.{Builder.with_source_or_new, Laid.same_place, State.abbreviations_test}
 use Rattle.thorin_join.specs.{Join.limit_of, Join.look_limit, Join.same_sort, StandApart.EachRow}
-use Rattle.thorin_join.{proofs.Rows.range-none, proofs.Units.same_name-sym, specs.Laid.is_at}
+use Rattle.thorin_join.{proofs.Moved.identity-shifted, proofs.Rows.own-index, specs.Laid.is_at}
 use Rattle.dwp_base.specs.declared.section.SectionKind.TheVariants as kinds
 use Rattle.dwp_units.specs.declared.unit.UnitSection.TheVariants as places
 

@@ -8,47 +8,43 @@
 use Rattle.thorin_join.proofs.Terms as Joined
 use Joined.{Adding, adding, All-append, All-weaker, ap, append-nil, append_assoc, arith, bind-was}
 use Joined.{by-bool, content_of, Contents, Contribution, contribution_put, contribution_to}
-use Joined.{drop-append-le, DwarfObject, Each, Encoding, Endianness, eqb, ErrorValue, false, first}
-use Joined.{HasFront, Header, identity, IndexEntry, inl, InProgress, Input, inr, is-same}
-use Joined.{is_package, is_shared, is_some, IsSound, joined_content, joined_parts, joining, keys}
-use Joined.{kind_of, length, length-append, LieInside, List, list_all, list_any, list_any-append}
-use Joined.{map, map-append, name_for, name_signature, names_of, nat_tests, NewUnit}
-use Joined.{nil_from_length, None, Ok, Option, package_or_new, part_of, Parts, place_for, place_of}
-use Joined.{ReadError, refl, root_identity, row_at, same-ok, same_kind, same_name, section}
-use Joined.{SectionKind, slice_get, Some, Source, subst, sym, true, type_signature, unit_bytes}
-use Joined.{unit_section, UnitRead, UnitSection, Used, with_bytes, with_each_part, with_input}
-use Joined.{with_new_unit, with_new_units, with_part, with_parts, with_unit_added, [], ℕ, ◌++◌, ◌+◌}
-use Joined.{◌-◌, ◌<◌, ◌∙◌, ◌∷◌, ◌≡◌, ◌⊎◌}
+use Joined.{DwarfObject, Each, Encoding, Endianness, eqb, ErrorValue, false, first, HasFront}
+use Joined.{Header, identity, IndexEntry, inl, InProgress, Input, inr, is-same, is_package}
+use Joined.{is_shared, is_some, IsSound, joined_content, joined_parts, joining, keys, kind_of}
+use Joined.{length, length-append, LieInside, List, list_all, list_any, list_any-append, map}
+use Joined.{map-append, name_for, name_signature, names_of, nat_tests, NewUnit, None, Ok, Option}
+use Joined.{package_or_new, part_of, Parts, place_for, place_of, ReadError, refl, row_at, same-ok}
+use Joined.{same_kind, same_name, section, SectionKind, slice_get, Some, Source, subst, sym, true}
+use Joined.{type_signature, unit_bytes, unit_section, UnitRead, UnitSection, Used, with_bytes}
+use Joined.{with_each_part, with_input, with_new_unit, with_new_units, with_part, with_parts}
+use Joined.{with_unit_added, [], ℕ, ◌++◌, ◌+◌, ◌-◌, ◌<◌, ◌∙◌, ◌∷◌, ◌≡◌, ◌⊎◌}
 use Rattle.dwp_base.proofs.Bools.{or-right}
-use Rattle.dwp_dwarf.proofs.Tables.{from_is, from_within, next_takes, said}
-use Rattle.dwp_dwarf.specs.Abbreviations.{Declaration, declaration}
-use Rattle.dwp_dwarf.specs.Grammar.{DeclarationsLie, IsBehindOthers}
-use Rattle.dwp_units.proofs.Readings.{more, takes_more}
+use Rattle.dwp_units.proofs.Readings.{more}
 use Rattle.dwp_units.specs.Units.{header_at, older_at, older_type_at, unit_at, units, units_within}
+use Rattle.std.proofs.Common.{eqb-true}
 use Rattle.std.proofs.lemmas.List.{Elements.recursion_from_All, Sums.AllPass-from_list_all}
 use Rattle.std.proofs.lemmas.Option.{get_or_from_slice_get, slice_get_within}
-use Rattle.std.proofs.{Common.eqb-true, Math.Seq.drop-append_seam, Math.Seq.take-append_seam}
+use Rattle.thorin_again.proofs.Sections.{identity-stays, put-stays}
 use Rattle.thorin_again.specs.Plain.{HasNamedParts, HasNamedUnits, NamesItself}
 use Rattle.thorin_again.specs.{Again.input_encoding, InFormat.IsInFormat}
 use Rattle.thorin_index.specs.{EntryTests.same_encoding, IndexText.is_used}
 use Rattle.thorin_input.specs.Encodings.{encoding_of, first_encoding, has_encoding, section_has}
 use Rattle.thorin_input.specs.Format.{is_in_format}
 use Rattle.thorin_input.specs.{Adjusting.adjusted, Adjusting.moved, Rows.abbreviations_for}
-use Rattle.thorin_join.proofs.Joined.{can-lie, Made, same-begun, sound-inside, source-made, takes}
-use Rattle.thorin_join.proofs.Joined.{grows-with_parts, keys-held, names-added, with_all_parts}
-use Rattle.thorin_join.proofs.Parts.{content-with_bytes, each-part, joined_parts-other, step}
-use Rattle.thorin_join.proofs.Parts.{content-with_parts, each-unit as unit-by-unit, parts-copied}
-use Rattle.thorin_join.proofs.Rows.{Grows, is-unit_row, part-inside, row-name, row-own, row-part}
-use Rattle.thorin_join.proofs.Rows.{adjusted-plain, content-put, front-long, IsUnitRow, whole-else}
-use Rattle.thorin_join.proofs.Rows.{grows-with_bytes, own-place, whole-part, whole_behind}
-use Rattle.thorin_join.proofs.Units.{AllSo, identity-sort, known-in, Reads, units-go, UnitsJoined}
-use Rattle.thorin_join.proofs.Units.{AreAdded, each-named, IsAdded, same_name-true, WasRead}
-use Rattle.thorin_join.proofs.Units.{added-keys, each-all, Goes, Listed, News, units-joined}
-use Rattle.thorin_join.proofs.Units.{goes-alone, IsKnown, kind-place, name-identity, same_name-self}
-use Rattle.thorin_join.proofs.{Moved.identity-shifted, Moved.newer-five, Rows.grows-trans}
-use Rattle.thorin_join.proofs.{Rows.keep-part, Units.each-joining, Units.sections-are}
+use Rattle.thorin_join.proofs.Joined.{can-lie, keys-held, Made, names-added, source-made, takes}
+use Rattle.thorin_join.proofs.Joined.{grows-with_parts, same-begun, sound-inside, with_all_parts}
+use Rattle.thorin_join.proofs.Parts.{content-with_bytes, joined_parts-other, parts-copied}
+use Rattle.thorin_join.proofs.Parts.{content-with_parts, each-part, each-unit as unit-by-unit, step}
+use Rattle.thorin_join.proofs.Rows.{adjusted-plain, front-long, Grows, is-unit_row, own-place}
+use Rattle.thorin_join.proofs.Rows.{content-put, grows-with_bytes, IsUnitRow, whole-part}
+use Rattle.thorin_join.proofs.Rows.{grows-trans, keep-part, row-name, row-own, row-part, whole-else}
+use Rattle.thorin_join.proofs.Units.{AllSo, each-joining, known-in, News, units-joined, UnitsJoined}
+use Rattle.thorin_join.proofs.Units.{AreAdded, each-named, IsKnown, Listed, sections-are, units-go}
+use Rattle.thorin_join.proofs.Units.{Goes, goes-alone, IsAdded, same_name-self, same_name-true}
+use Rattle.thorin_join.proofs.Units.{added-keys, each-all, identity-sort, name-identity, WasRead}
+use Rattle.thorin_join.proofs.{Moved.identity-shifted, Moved.newer-five, Units.kind-place}
 use Rattle.thorin_join.specs.Meaning.{named_at, named_each, named_sections}
-use Rattle.thorin_join.specs.StandApart.{EachRow, rows_begun}
+use Rattle.thorin_join.{proofs.Units.Reads, specs.StandApart.EachRow, specs.StandApart.rows_begun}
 use Rattle.dwp_base.specs.declared.section.SectionKind.TheVariants as kinds
 use Rattle.dwp_units.specs.declared.unit.UnitSection.TheVariants as places
 
@@ -183,8 +179,7 @@ module _ {source : Source} {before now : InProgress} (a : Made source before now
       (λ n new c. subst P (sym (plain-part c n new.0 new.1 plain kind shared)) h) a.new.units
       (news-are (λ place unit. Unit {0}) (each-all _ (λ used place at k unit there. tt) _))
 
-  -- what holds of the rows before, however contents grow, and of the rows of such units, holds of
-  -- all rows
+  -- what holds of the rows before, however contents grow, and of those of such units, holds of all
   pub rows-added : (T : UnitSection → Header → Type 0) → Each (IsNew T) a.new.units
       → (P : Contents → IndexEntry → Type 0) → ((c d : Contents) (n : DwarfObject × NewUnit)
       → IsNew T n → Grows parted.file.contents c
@@ -236,25 +231,6 @@ all-format source (s ∷ ss) before after h =
     let next = bind-was (with_part source before s) _ after h in
     (grind (arith, next.1), all-format source ss next.0 after next.2)
 
--- where these bytes lie, which begin at this offset
-abbrev pub range_at : ℕ → List ℕ → Contribution
-range_at offset own = record { offset = record { 0 = offset }; size = length own }
-
--- the part in the middle
-pub part-middle : (pre own rest whole : List ℕ) (offset : ℕ) → whole ≡ pre ++ (own ++ rest)
-    → length pre ≡ offset → part_of whole (Some (range_at offset own)) ≡ own
-part-middle pre own rest whole offset is at =
-    let size : offset + length own - offset ≡ length own = omega arith in
-    part-inside whole (range_at offset own) (rw is (simp length-append (omega arith)))
-    ∙ rw (is, size, ← at, drop-append_seam pre (own ++ rest)) (take-append_seam own rest)
-
--- bytes that were put behind others stand in their range, whatever follows them
-put-stays : (front x : List ℕ) {own whole : List ℕ} → own ≡ front ++ x → HasFront own whole
-    → part_of whole (whole_behind front x) ≡ x
-put-stays front x {whole = whole} same h =
-    let middle = part-middle front x h.rest whole (length front) in
-    grind (arith, nil_from_length x, append_assoc front x h.rest, middle, h.is)
-
 -- the row of a unit
 module _ {source : Source} {before now : InProgress} (a : Made source before now) where
   formats : Each (λ s. is_in_format source.encoding s.kind ≡ true) source.object.sections
@@ -295,7 +271,6 @@ module _ {source : Source} {before now : InProgress} (a : Made source before now
 
     new-format : WasRead source (InFormat source) r → RowHas IsInFormat n
     new-format w c kind some =
-        let row = row_with c n in
         let own : is_in_format source.encoding (kind_of n.1.place) ≡ true =
         grind (arith, is.place, w.from, w.so) in
         let format : is_in_format source.encoding kind ≡ true =
@@ -346,37 +321,6 @@ input-rows P bytes begun now new h old =
           u.with) P (λ row format encoding. new row format (read ∙ ap Ok (sym encoding))) was)
       | inr none ↦ subst (λ b. EachRow P (rows_begun b)) none.1 was
     ]
-
--- what is read of a table of abbreviations stays where more bytes follow
-module _ (rest : List ℕ) where
-  -- declarations lie so where more bytes follow
-  lie-more : (ds : List (ℕ × Declaration)) (i left : Input) → DeclarationsLie i ds left
-      → DeclarationsLie (more i rest) ds (more left rest)
-  lie-more [] i left lie = ap (λ j. more j rest) lie
-  lie-more (d ∷ ds) i left lie =
-      let next = takes_more (next_takes i (d, lie.0) lie.1) rest in
-      (more lie.0 rest, next, lie-more ds lie.0 left lie.2)
-
-  found-stays : (code : ℕ) (i : Input) (d : Declaration) → declaration code i ≡ Ok (Some d)
-      → declaration code (more i rest) ≡ Ok (Some d)
-  found-stays code i d h =
-      let s = (said code i (Ok (Some d))).0 h in
-      let lie = lie-more s.1.others i s.0 s.1.lie in
-      let next = takes_more (next_takes s.0 ((code, d), s.2.0) s.2.1) rest in
-      let behind : IsBehindOthers code (more i rest) (more s.0 rest) =
-      record { others = s.1.others; lie = lie; other = s.1.other } in
-      (said code (more i rest) (Ok (Some d))).1 (more s.0 rest, behind, (more s.2.0 rest, next))
-
--- the identity that a unit has by a table of abbreviations it has too where bytes follow the table
-pub identity-stays : (order : Endianness) (table rest : List ℕ) (unit : Header)
-    (name : Option DwarfObject) → identity (section order table) unit ≡ Ok name
-    → identity (section order (table ++ rest)) unit ≡ Ok name
-unfolding identity root_identity
-identity-stays order table rest unit name h =
-    let fits = from_within unit.abbrev_offset (section order (table ++ rest)) in
-    let front = drop-append-le unit.abbrev_offset table rest in
-    let is = from_is unit.abbrev_offset (section order table) in
-    grind (arith, is, fits, length-append table rest, front, found-stays rest)
 
 -- the abbreviations of a row begin with those of the first section
 first-front : (kind : SectionKind) (sections : List Used)

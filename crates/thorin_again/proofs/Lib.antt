@@ -1,3 +1,4 @@
+mod Sections
 mod Kept
 mod Offsets
 pub mod Opened

@@ -7,13 +7,12 @@
 use Rattle.thorin_join.proofs.Terms as Joined
 use Joined.{All, ap, arith, bind-was, content_of, Contents, data_of, DwarfObject, Elf, elf_of}
 use Joined.{Encoding, encoding_in, Endianness, false, File, file_text, first, GivesNone, has_info}
-use Joined.{Header, IndexEntry, Indexes, inl, InProgress, Input, InputFile, inr, is_package}
-use Joined.{IsFinished, IsSound, IsSoundBegun, Joins, kind_of, KindsDiffer, length, length-append}
-use Joined.{length-map, List, list_all, list_any, lookup, map, MatchOption, Meaning, meaning_at}
-use Joined.{Members, nat_tests, None, Ok, opened, Option, Package, package_or_new, place_of}
-use Joined.{ReadError, refl, same-ok, same_name, same_Some, section, Some, subst, sym, true}
-use Joined.{unit_bytes, units_begun, units_in, units_of, UnitSection, Used, with_input, [], ℕ, ◌+◌}
-use Joined.{◌<◌, ◌∙◌, ◌∷◌, ◌≡◌}
+use Joined.{Header, IndexEntry, inl, InProgress, Input, inr, is_package, IsFinished, IsSound}
+use Joined.{IsSoundBegun, Joins, kind_of, KindsDiffer, length, length-append, length-map, List}
+use Joined.{list_all, list_any, lookup, map, MatchOption, Meaning, meaning_at, Members, nat_tests}
+use Joined.{None, Ok, opened, Option, Package, package_or_new, place_of, ReadError, refl, same-ok}
+use Joined.{same_name, same_Some, section, Some, subst, sym, true, unit_bytes, units_begun}
+use Joined.{units_in, units_of, UnitSection, Used, with_input, [], ℕ, ◌+◌, ◌<◌, ◌∙◌, ◌∷◌, ◌≡◌}
 use Rattle.dwp_base.specs.declared.section.SectionKind.TheVariants.{CuIndex, TuIndex}
 use Rattle.dwp_bytes.specs.declared.encoding.Format.TheVariants.{Dwarf32}
 use Rattle.dwp_elf.specs.Written.{written_elf}
@@ -21,28 +20,28 @@ use Rattle.dwp_index.specs.Package.{found_counted, package_of, unit_at_row, unit
 use Rattle.dwp_units.proofs.Readings.{one_answer}
 use Rattle.dwp_units.specs.Units.{header_at, older_at, unit_at, units, units_within}
 use Rattle.std.proofs.Common.{get_or, unwrap_or, ◌↔◌}
-use Rattle.std.proofs.lemmas.List.Elements.{All-cons, All-map, All-nil, All-tail}
-use Rattle.std.proofs.lemmas.List.Elements.{All-from_recursion, All-head, recursion_from_All}
+use Rattle.std.proofs.lemmas.List.Elements.{All-cons, All-from_recursion, All-map, All-nil}
+use Rattle.std.proofs.lemmas.List.Elements.{All-head, All-tail, recursion_from_All}
 use Rattle.std.proofs.lemmas.{Map.Views.IfSome-lookup_from_All, Option.slice_get-get_or}
-use Rattle.thorin_again.proofs.Kept.{encoding-eq, named-kept, new-encoding, order-added, rows-added}
-use Rattle.thorin_again.proofs.Kept.{info-there, input-rows, names-kept, news-are, of-one, own-lies}
+use Rattle.thorin_again.proofs.Kept.{encoding-eq, HasInfo, named-kept, of-one, own-lies, rows-added}
+use Rattle.thorin_again.proofs.Kept.{input-rows, names-kept, new-encoding, news-are, order-added}
 use Rattle.thorin_again.proofs.Opened.{first-written, HaveEncoding, input-encoding, IsOwnRow}
 use Rattle.thorin_again.proofs.Opened.{mean_of, OwnMade, rows-of}
-use Rattle.thorin_again.proofs.{Kept.HasInfo, Kept.OfOne, Offsets.no-turn, Offsets.tiled-kept}
+use Rattle.thorin_again.proofs.Sections.{of-section, read-alone}
+use Rattle.thorin_again.proofs.{Kept.info-there, Kept.OfOne, Offsets.no-turn, Offsets.tiled-kept}
 use Rattle.thorin_again.specs.InFormat.{AreInFormat, HasEncodingOfOne, HaveEncodingsOf, IsInFormat}
-use Rattle.thorin_again.specs.OneEncoding.{AnswersAs, IsOfEncoding, IsOfOneEncoding}
-use Rattle.thorin_again.specs.OneEncoding.{AnswersOnceWritten, GivesWhole, HaveEncodingOnceWritten}
+use Rattle.thorin_again.specs.OneEncoding.{AnswersAs, GivesWhole, HaveEncodingOnceWritten}
+use Rattle.thorin_again.specs.OneEncoding.{AnswersOnceWritten, IsOfEncoding, IsOfOneEncoding}
 use Rattle.thorin_again.specs.Plain.{HasNamedUnits, HasTiledOffsets, HoldsPlain, IsPlain}
 use Rattle.thorin_again.specs.PlainInputs.{AreTaken, EachAdds, IsOfPlainObjects, IsPlainOf}
-use Rattle.thorin_again.specs.{Again.input_encoding, Own.has_sections, Own.packs_again}
-use Rattle.thorin_again.specs.{OwnInput.written_object, OwnUnits.AllOf, OwnUnits.HoldsOwn}
-use Rattle.thorin_again.{proofs.Meant.of-section, proofs.Meant.read-alone, specs.InFormat.IsOneOf}
-use Rattle.thorin_input.specs.Encodings.{encoding_of, file_encoding, first_encoding, own_encoding}
-use Rattle.thorin_input.specs.Encodings.{is_index, is_plain, section_has}
+use Rattle.thorin_again.specs.{Again.input_encoding, InFormat.IsOneOf, OwnInput.written_object}
+use Rattle.thorin_again.specs.{Own.has_sections, Own.packs_again, OwnUnits.AllOf, OwnUnits.HoldsOwn}
+use Rattle.thorin_input.specs.Encodings.{encoding_of, file_encoding, is_index, own_encoding}
+use Rattle.thorin_input.specs.Encodings.{first_encoding, section_has}
 use Rattle.thorin_input.specs.Indexes.{index_in, indexes_of}
 use Rattle.thorin_join.proofs.Files.{finished-is, finished-order, finished-own}
-use Rattle.thorin_join.proofs.Joined.{all_there, input-keeps, sound-inside, source-made, TakesUnits}
-use Rattle.thorin_join.proofs.Joined.{made-order, new-sound, same-begun, Takes, takes}
+use Rattle.thorin_join.proofs.Joined.{all_there, made-order, same-begun, sound-inside, Takes, takes}
+use Rattle.thorin_join.proofs.Joined.{input-keeps, new-sound, source-made, TakesUnits}
 use Rattle.thorin_join.specs.Builder.{finish_test, names_in, order_of, start, State, taken}
 use Rattle.thorin_join.specs.{Builder.IsFinishedState, StandApart.EachRow, StandApart.rows_begun}
 use Rattle.thorin_join.{proofs.Rows.keep-part, specs.Join.GivesUnit, specs.Join.look_limit}
@@ -66,17 +65,22 @@ begun-now bytes old new h = grind arith
 abbrev pub Before : Option InProgress → Option Encoding → Encoding → Type 0
 Before begun own e = (made : InProgress) → begun ≡ Some made → own ≡ Some e
 
--- units of that encoding were taken, of a plain object
-pub record OwnUnits (object : InputFile) (encoding e : Encoding) : Type 0 where
-  pub is : encoding ≡ e
-  pub plain : is_plain object.sections ≡ true
-  pub all : list_all (section_has encoding object.order) object.sections ≡ true
+-- a plain object has no index
+none-found : (ss : List Used) → list_any is_index ss ≡ false → (first CuIndex ss ≡ [])
+    × (first TuIndex ss ≡ [])
+none-found [] h = (refl, refl)
+none-found (s ∷ ss) h = grind (arith, none-found ss)
 
+-- units of that encoding were taken, of a plain object
 module _ {bytes : List ℕ} {e : Encoding} (found : own_encoding bytes ≡ Ok (Some e))
     {begun now : Option InProgress} (t : Takes bytes begun now) where
-  pub own-units : (u : TakesUnits t.file begun now) → OwnUnits u.source.object u.source.encoding e
-  unfolding own_encoding file_encoding
-  own-units u = grind (arith, found, t.opens, u.object_is, u.encoding_is)
+  own-units : (u : TakesUnits t.file begun now) → (u.source.encoding ≡ e)
+      × (is_package u.source.indexes ≡ false) × (list_all (section_has u.source.encoding
+      u.source.object.order) u.source.object.sections ≡ true)
+  unfolding own_encoding file_encoding indexes_of index_in
+  own-units u =
+      let none = none-found u.source.object.sections in
+      grind (arith, found, t.opens, u.object_is, u.encoding_is, u.indexes_are, none)
 
   -- such an object has units
   pub takes-units : (has_info t.file ≡ true) × TakesUnits t.file begun now
@@ -119,18 +123,6 @@ taken-holds bytes old new holds h = record {
       (λ row format read. grind (arith, read, a.found)) now before)));
 }
 
--- a plain object has no index
-none-found : (ss : List Used) → list_any is_index ss ≡ false → (first CuIndex ss ≡ [])
-    × (first TuIndex ss ≡ [])
-none-found [] h = (refl, refl)
-none-found (s ∷ ss) h = grind (arith, none-found ss)
-
-plain-indexes : (object : InputFile) (encoding : Encoding) (indexes : Indexes)
-    → is_plain object.sections ≡ true → indexes_of object encoding ≡ Ok indexes
-    → is_package indexes ≡ false
-unfolding indexes_of index_in
-plain-indexes object encoding indexes plain h = grind (arith, none-found object.sections)
-
 -- the package before it is of such objects, or a new one
 plain-before : (encoding : Encoding) (file : Elf) (begun : Option InProgress)
     (own : Option Encoding) → Before begun own encoding → ((made : InProgress) → own ≡ Some encoding
@@ -157,8 +149,6 @@ taken-plain bytes old new sound holds h = record {
       let source = u.source in
       let is = own-units a.found t u in
       let before = package_or_new t.file old.begun in
-      let plain = plain-indexes source.object source.encoding source.indexes is.plain
-      u.indexes_are in
       let added = source-made source before u.made u.with in
       let order = made-order t.file source.object old.begun u.object_is u.order_is in
       let before_sound = new-sound t.file old.begun sound in
@@ -166,13 +156,13 @@ taken-plain bytes old new sound holds h = record {
       let long = λ (p : InProgress). length-map p.rows (λ (row : IndexEntry). row.id) in
       let more : length before.rows < length u.made.rows =
       grind (arith, a.more, u.is, long before, long u.made) in
-      let was : IsPlain source.encoding before = subst (λ e. IsPlain e before) (sym is.is)
+      let was : IsPlain source.encoding before = subst (λ e. IsPlain e before) (sym is.0)
       (plain-before encoding t.file old.begun old.own a.before (holds.made encoding)) in
-      subst (IsPlain encoding) now (subst (λ e. IsPlain e u.made) is.is (record {
-        named = named-kept added plain more was.named;
-        offsets = tiled-kept source before u.made plain before_sound.units.table order u.with more
+      subst (IsPlain encoding) now (subst (λ e. IsPlain e u.made) is.0 (record {
+        named = named-kept added is.1 more was.named;
+        offsets = tiled-kept source before u.made is.1 before_sound.units.table order u.with more
             was.offsets;
-        units = names-kept plain added is.all before_sound order was.units;
+        units = names-kept is.1 added is.2 before_sound order was.units;
         info = λ some. info-there added u.encoding_is was.info;
       }));
 }

@@ -1,179 +1,55 @@
--- Which rows of a written package begin before a place. A section of units of such a package is
--- read as the units of its rows, one after another. What a unit of a written package means as an
--- input: just what was joined. A finished package, taken as an input, means the units that were
--- joined in it.
+-- What a unit of a written package means as an input: just what was joined. A finished package,
+-- taken as an input, means the units that were joined in it.
 use Rattle.thorin_join.proofs.Terms as Joined
-use Joined.{Adding, adding, after, All, ap, append-nil, append_assoc, arith, bind-was, Bool}
-use Joined.{by-bool, can_join, content_of, Contents, Contribution, contribution_to, DwarfObject}
-use Joined.{Each, elf_of, Encoding, Endianness, entry_ids, ErrorValue, false, File, file_text}
-use Joined.{filter-append, first, has_info, Header, identifier_of, identity, Index, IndexEntry}
-use Joined.{Indexes, indexes_of, InProgress, Input, is_chosen, is_compilation, is_none, is_outside}
-use Joined.{IsRowOf, IsSound, IsSoundBegun, joining, kind_of, KindsDiffer, length, length-append}
-use Joined.{length-map, LieInside, List, map, map-append, Meaning, Members, name_for}
-use Joined.{name_signature, nat_eq, nat_tests, ne_eqb, NewUnit, nil_from_length, None, none-some}
-use Joined.{Ok, opened, Option, order_test, package_or_new, part_of, place_of, range_in, Ranges}
-use Joined.{ReadError, refl, Result, row_in, rows_of, same-ok, section, SectionKind, slice_get}
-use Joined.{Some, Source, source_units, strings_of, subst, suc, sym, take-length, true}
-use Joined.{type_signature, unit_bytes, unit_section, UnitRead, units_in, units_of, UnitSection}
-use Joined.{with_input, with_source, zero, [], ℕ, ◌++◌, ◌+◌, ◌-◌, ◌<◌, ◌∙◌, ◌∷◌, ◌≡◌, ◌≤◌}
+use Joined.{Adding, adding, after, All, ap, append-nil, arith, bind-was, Bool, by-bool, can_join}
+use Joined.{content_of, Contents, Contribution, contribution_to, DwarfObject, Each, elf_of}
+use Joined.{Encoding, entry_ids, ErrorValue, false, File, file_text, filter-append, first, has_info}
+use Joined.{Header, identifier_of, identity, Index, IndexEntry, Indexes, indexes_of, InProgress}
+use Joined.{Input, is_chosen, is_compilation, is_none, is_outside, IsRowOf, IsSound, IsSoundBegun}
+use Joined.{joining, kind_of, KindsDiffer, length, length-map, LieInside, List, map, map-append}
+use Joined.{Meaning, Members, name_for, name_signature, nat_eq, nat_tests, NewUnit, nil_from_length}
+use Joined.{None, none-some, Ok, opened, Option, order_test, package_or_new, part_of, range_in}
+use Joined.{Ranges, refl, Result, row_in, rows_of, same-ok, section, SectionKind, slice_get, Some}
+use Joined.{Source, source_units, strings_of, subst, suc, sym, take-length, true, unit_section}
+use Joined.{UnitRead, units_in, units_of, UnitSection, with_input, with_source, zero, [], ℕ, ◌++◌}
+use Joined.{◌+◌, ◌-◌, ◌<◌, ◌∙◌, ◌∷◌, ◌≡◌, ◌≤◌}
 use Rattle.dwp_elf.specs.Written.{written_elf}
 use Rattle.dwp_table.proofs.Tables.{finds_exactly}
 use Rattle.dwp_table.specs.{Probing.found_row, Probing.look_count, Table.FindsExactly}
-use Rattle.dwp_units.specs.Units.{unit_at, units, units_within}
+use Rattle.dwp_units.specs.Units.{units, units_within}
 use Rattle.std.proofs.Common.{ap₂, eqb-true, find, get_or, IsPermutation, ◌≢◌}
 use Rattle.std.proofs.Math.{Dec.eqb-suc-zero, Seq.drop-append_seam, Seq.take-append_seam}
-use Rattle.std.proofs.lemmas.List.Elements.{All-drop, All-head, All-nil, All-push, All-tail}
-use Rattle.std.proofs.lemmas.List.Elements.{All-filter, All-from_recursion, All-take, All-weaker}
-use Rattle.std.proofs.lemmas.List.Sorted.{All-permutation, IsPermutation-map, IsPermutation-refl}
-use Rattle.std.proofs.lemmas.List.Sorted.{IsPermutation-append_comm, IsPermutation-sym}
+use Rattle.std.proofs.lemmas.List.Elements.{All-drop, All-filter, All-head, All-tail, All-take}
+use Rattle.std.proofs.lemmas.List.Sorted.{All-permutation, IsPermutation-map, IsPermutation-trans}
+use Rattle.std.proofs.lemmas.List.Sorted.{IsPermutation-append_comm, IsPermutation-refl}
 use Rattle.std.proofs.lemmas.List.Sorted.{IsPermutation-append_right, IsPermutation-filter_both}
-use Rattle.std.proofs.lemmas.List.{Folds.Any-from_list_any, Sorted.IsPermutation-trans}
-use Rattle.std.proofs.lemmas.List.{get_or_append_left}
+use Rattle.std.proofs.lemmas.List.{Elements.All-from_recursion, Sorted.IsPermutation-sym}
+use Rattle.std.proofs.lemmas.List.{Folds.Any-from_list_any, get_or_append_left}
 use Rattle.std.proofs.lemmas.Option.{slice_get-get_or, slice_get_within}
-use Rattle.thorin_again.proofs.Opened.{empty-first, IsReadOf, lie-used, mean_of, opened-elf}
-use Rattle.thorin_again.proofs.Opened.{first-written, none-behind, object-written, rest-differ}
-use Rattle.thorin_again.proofs.Opened.{info-written, input-encoding, IsOwnRow, lie-kept, section_of}
-use Rattle.thorin_again.proofs.{Kept.joined, Kept.part-middle, Kept.range_at, Opened.read-of}
+use Rattle.thorin_again.proofs.Opened.{IsOwnRow, IsReadOf, lie-kept, none-behind, read-of}
+use Rattle.thorin_again.proofs.Opened.{empty-first, first-written, info-written, input-encoding}
+use Rattle.thorin_again.proofs.Opened.{mean_of, object-written, opened-elf, rest-differ, section_of}
+use Rattle.thorin_again.proofs.Sections.{at-row, at-seam, IsBelow, of-section, range_at, row-there}
+use Rattle.thorin_again.proofs.Sections.{bytes-own, IsUnitOf, lie-used}
 use Rattle.thorin_again.specs.Again.{all_meant, HaveEncodingOf, MeansWhereTaken}
 use Rattle.thorin_again.specs.OwnInput.{IsOwn, own_source, written_object, written_used}
-use Rattle.thorin_again.{proofs.Offsets.at-row, specs.OwnUnits.AllOf}
+use Rattle.thorin_again.{proofs.Kept.joined, specs.OwnUnits.AllOf}
 use Rattle.thorin_index.specs.ReadRows.{HasContributions, HasEntries}
-use Rattle.thorin_input.specs.Rows.{abbreviations_for, numbered_abbreviations, row_abbreviations}
+use Rattle.thorin_input.specs.Rows.{abbreviations_for, own_contribution, row_abbreviations}
 use Rattle.thorin_input.specs.{Adjusting.row_of, Indexes.index_for, Indexes.looked_up}
-use Rattle.thorin_input.specs.{Encodings.encoding_of, Rows.own_contribution, Rows.row_test}
+use Rattle.thorin_input.specs.{Encodings.encoding_of, Rows.numbered_abbreviations, Rows.row_test}
 use Rattle.thorin_join.proofs.Files.{finished-grows, finished-order, id-at, members, part-there}
 use Rattle.thorin_join.proofs.Units.{AreAdded, identity-sort, name-identity, Reads}
-use Rattle.thorin_join.proofs.{Files.HasRows, Ranges.strings-are, Rows.keep-rows, Rows.not-outside}
-use Rattle.thorin_join.proofs.{Joined.source-made, Moved.IsShifted, Moved.plain, Moved.unit-moves}
-use Rattle.thorin_join.specs.Builder.{IsFinishedState, order_of, State, taken, with_units}
-use Rattle.thorin_join.specs.Builder.{finish_test, source_for, with_source_or_new}
-use Rattle.thorin_join.specs.Laid.{HaveOneRange, is_at, Lie, rows_at, same_place}
-use Rattle.thorin_join.specs.Meaning.{input_meaning, lie_inside, meaning_with, named_unit}
-use Rattle.thorin_join.specs.Meaning.{meaning_by, named_each, named_sections, shared_kinds}
-use Rattle.thorin_join.specs.Meaning.{meant, named_at, object_meaning, source_meaning, unit_meaning}
+use Rattle.thorin_join.proofs.{Files.HasRows, Joined.source-made, Rows.keep-rows, Rows.not-outside}
+use Rattle.thorin_join.specs.Builder.{finish_test, IsFinishedState, taken, with_source_or_new}
+use Rattle.thorin_join.specs.Builder.{order_of, source_for, State, with_units}
+use Rattle.thorin_join.specs.Meaning.{input_meaning, meaning_by, meaning_with, meant, shared_kinds}
+use Rattle.thorin_join.specs.Meaning.{lie_inside, named_at, named_each, named_sections}
+use Rattle.thorin_join.specs.Meaning.{named_unit, object_meaning, source_meaning, unit_meaning}
+use Rattle.thorin_join.{proofs.Ranges.strings-are, specs.Laid.is_at, specs.Laid.rows_at}
 use Rattle.thorin_package_input.{proofs.Rows.first_found, specs.RowPlaces.row_by_place}
 use Rattle.dwp_base.specs.declared.section.SectionKind.TheVariants as kinds
 use Rattle.dwp_units.specs.declared.unit.UnitSection.TheVariants as places
-
--- a row begins before this offset
-abbrev pub IsBelow : SectionKind → ℕ → IndexEntry → Type 0
-IsBelow kind n row = (c : Contribution) → contribution_to kind row ≡ Some c → c.offset.0 < n
-
-pub place-eq : (a b : UnitSection) → same_place a b ≡ true → a ≡ b
-place-eq a b h = grind arith
-
--- a unit that is read in a section is that of a row of these: its bytes are those at the row's
--- range, and read alone they give such a unit
-pub record IsUnitOf (order : Endianness) (contents : Contents) (place : UnitSection)
-    (rows : List IndexEntry) (row : IndexEntry) (later : List IndexEntry)
-    (unit : Header) : Type 0 where
-  pub before : List IndexEntry
-  pub split : rows ≡ before ++ row ∷ later
-  pub here : is_at place row ≡ true
-  pub offset : ℕ
-  pub own : List ℕ
-  pub below : All (IsBelow (kind_of place) offset) before
-  pub range : contribution_to (kind_of place) row ≡ Some (range_at offset own)
-  pub part : part_of (content_of (kind_of place) contents) (Some (range_at offset own)) ≡ own
-  pub whole : unit.whole ≡ plain order offset own
-  pub sort : type_signature unit.unit_type ≡ name_signature row.id
-  pub alone : Header
-  pub rest : Input
-  pub read : unit_at place (section order own) ≡ Ok (alone, rest)
-  pub shifted : IsShifted offset alone unit
-
-pub at-seam : {X : Type 0} (xs ys : List X) {y : X} → slice_get (xs ++ y ∷ ys) (length xs) ≡ Some y
-at-seam [] ys = refl
-at-seam (x ∷ xs) ys = at-seam xs ys
-
-module _ {order : Endianness} {contents : Contents} {place : UnitSection} {rows : List IndexEntry}
-    {row : IndexEntry} {later : List IndexEntry} {unit : Header}
-    (u : IsUnitOf order contents place rows row later unit) where
-  pub row-there : slice_get rows (length u.before) ≡ Some row
-  row-there = ap (λ l. slice_get l (length u.before)) u.split ∙ at-seam u.before later
-
-  pub place-is : place ≡ place_of row.id row.debug_types
-  place-is = place-eq place (place_of row.id row.debug_types) u.here
-
-  pub bytes-own : unit_bytes contents row ≡ u.own
-  bytes-own = grind (arith, place-is, u.range, u.part)
-
-  -- it is read of its row's bytes alone
-  pub read-alone : unit_at (place_of row.id row.debug_types) (section order (unit_bytes contents
-      row)) ≡ Ok (u.alone, u.rest)
-  read-alone = (λ i. unit_at (sym place-is i) (section order (bytes-own i))) ∙ u.read
-
--- what holds of the end of the rows, of rows behind one that stands elsewhere, and of rows behind
--- one whose unit is read, holds of all rows and all that is read of the section
-module _ (order : Endianness) (contents : Contents) (place : UnitSection) (rows : List IndexEntry)
-    (P : List IndexEntry → List (Result Header ReadError) → Type 0) (none : P [] [])
-    (passed : (r : IndexEntry) (rs : List IndexEntry) (reads : List (Result Header ReadError))
-    → is_at place r ≡ false → P rs reads → P (r ∷ rs) reads)
-    (one : (r : IndexEntry) (rs : List IndexEntry) (h : Header)
-    (reads : List (Result Header ReadError)) → IsUnitOf order contents place rows r rs h
-    → P rs reads → P (r ∷ rs) (Ok h ∷ reads)) where
-  -- from rows on whose units begin at an offset of the section
-  from : (before todo : List IndexEntry) (pre bytes : List ℕ) (offset n : ℕ) → rows ≡ before ++ todo
-      → HaveOneRange todo → All (IsBelow (kind_of place) offset) before → Lie order place offset
-      (rows_at place todo) bytes → content_of (kind_of place) contents ≡ pre ++ bytes
-      → length pre ≡ offset
-      → length bytes ≤ n → P todo (units_within n place (plain order offset bytes))
-  unfolding units_within
-  from before [] pre bytes offset zero split once below lie content at fuel = none
-  from before [] pre bytes offset (suc n) split once below lie content at fuel = rw lie none
-  from before (r ∷ rs) pre bytes offset n split once below lie content at fuel =
-      let next : rows ≡ (before ++ r ∷ []) ++ rs = split ∙ sym (append_assoc before (r ∷ []) rs) in
-      by-bool _ (is_at place r) (λ is.
-      let l = rw is at lie in
-      let head = l.0 in
-      let own = head.own in
-      let end = offset + length own in
-      let moved = unit-moves order place own head.rest offset _ _ head.is.read in
-      let left : after (length head.is.unit.whole.bytes) (plain order offset (own ++ head.rest)) ≡
-      plain order end head.rest =
-      rw head.is.whole (ap (plain order end) (drop-append_seam own head.rest)) in
-      let read : unit_at place (plain order offset bytes) ≡ Ok
-      (moved.unit, plain order end head.rest) = ap (λ l. unit_at place (plain order offset l))
-      head.are ∙ moved.read ∙ ap (λ i. Ok (moved.unit, i)) left in
-      let long = ap length head.are ∙ length-append own head.rest in
-      let some : 0 < length bytes = omega (arith, head.is.some) in
-      let more : n ≡ suc (n - 1) = omega arith in
-      let content_is = content ∙ ap (λ l. pre ++ l) head.are in
-      rw (more, ne_eqb (length bytes) 0 (λ e. omega (arith, some)), read)
-      (one r rs moved.unit (units_within (n - 1) place (plain order end head.rest)) (record {
-        before = before;
-        split = split;
-        here = is;
-        offset = offset;
-        own = own;
-        below = below;
-        range = head.range;
-        part = part-middle pre own head.rest _ offset content_is at;
-        whole = moved.whole ∙ ap (plain order offset) head.is.whole;
-        sort = ap type_signature moved.shifted.type ∙ head.is.sort;
-        alone = head.is.unit;
-        rest = head.is.rest;
-        read = head.is.read;
-        shifted = moved.shifted;
-      }) (from (before ++ r ∷ []) rs (pre ++ own) head.rest end (n - 1) next once.1
-      (All-push (IsBelow (kind_of place) end) before r
-      (All-weaker (IsBelow (kind_of place) offset) (IsBelow (kind_of place) end) (λ x h c e.
-      omega (arith, h c e))
-      before below) (λ c e. grind (arith, head.range, head.is.some)))
-      l.1 (content_is ∙ sym (append_assoc pre own head.rest))
-      (length-append pre own ∙ ap (λ k. k + length own) at) (omega (arith, head.is.some)))))
-      (λ other. passed r rs _ other (from (before ++ r ∷ []) rs pre bytes offset n next once.1
-      (All-push (IsBelow (kind_of place) offset) before r below (λ c e.
-      grind (arith, once.0 place other)))
-      (rw other at lie) content at fuel))
-
-  pub of-section : HaveOneRange rows → Lie order place 0 (rows_at place rows)
-      (content_of (kind_of place) contents)
-      → P rows (units place (section order (content_of (kind_of place) contents)))
-  unfolding units
-  of-section once lie = from [] rows [] _ 0 _ refl once (All-nil (IsBelow (kind_of place) 0)) lie
-      refl
-      refl (omega arith)
 
 -- names of one sort, and of type units of one signature, are one where compilations of one index
 -- have one identifier

@@ -1,192 +1,37 @@
--- The ranges of string offsets that the rows of a written package have are all that fill its
--- section, in their order. Whole ranges that lie one directly behind the other pass the tests, and
--- are rewritten unless the offset of a string doesn't fit; those that were rewritten, once more
--- from the same strings on, give the same strings. The ranges of string offsets fill their section,
--- where plain objects of one encoding are added: what each gives to string offsets is nothing, or a
--- whole range.
+-- Whole ranges of string offsets that lie one directly behind the other pass the tests, and are
+-- rewritten unless the offset of a string doesn't fit; those that were rewritten, once more from
+-- the same strings on, give the same strings. The ranges fill their section, where plain objects of
+-- one encoding are added: what each gives to string offsets is nothing, or a whole range.
 use Rattle.thorin_join.proofs.Terms as Joined
 use Joined.{All-append, All-weaker, ap, arith, bind-was, Bool, by-bool, content_of, Contents}
-use Joined.{Contribution, contribution_put, data_of, drop, drop-append-le, Each, Encoding}
-use Joined.{Endianness, entry_count, entry_in, eqb, false, first, fitting_offset, has_part}
-use Joined.{header_size, Index, IndexEntry, inl, InProgress, inr, is-same, is_chosen, is_package}
-use Joined.{IsTable, joined_parts, kept_more, length, length-append, length-drop, List, list_any}
-use Joined.{list_any-append, map, named_at, nat_tests, no_header, None, none-some, number_front}
-use Joined.{offset_size, Ok, Option, Parts, parts_of, range_named, refl, remapped, rows_of}
-use Joined.{same_Some, slice_get, slice_range, Some, Source, Str, string_at, string_in, StrOffsets}
-use Joined.{subst, suc, sym, take, take-length, true, with_source, zero, [], ℕ, ◌*◌, ◌++◌, ◌+◌, ◌<◌}
-use Joined.{◌>>=◌, ◌∙◌, ◌∷◌, ◌≡◌, ◌≤◌, ◌⊎◌}
+use Joined.{Contribution, contribution_put, data_of, drop, drop-append-le, Encoding, Endianness}
+use Joined.{entry_count, entry_in, eqb, false, first, fitting_offset, has_part, header_size}
+use Joined.{IndexEntry, inl, InProgress, inr, is-same, is_package, IsTable, joined_parts, kept_more}
+use Joined.{length, length-append, length-drop, List, named_at, nat_tests, no_header, none-some}
+use Joined.{number_front, offset_size, Ok, Option, Parts, parts_of, range_named, refl, remapped}
+use Joined.{same_Some, slice_range, Some, Source, Str, string_at, string_in, StrOffsets, subst, suc}
+use Joined.{sym, take, take-length, true, with_source, zero, [], ℕ, ◌*◌, ◌++◌, ◌+◌, ◌<◌, ◌>>=◌, ◌∙◌}
+use Joined.{◌∷◌, ◌≡◌, ◌≤◌, ◌⊎◌}
 use Rattle.dwp_base.specs.Numbers.{number}
-use Rattle.std.proofs.Common.{add-mul, eqb-true, leb-false, lt-ltb, true≢false, zero-mul, ⊎_elim}
-use Rattle.std.proofs.lemmas.List.Elements.{All-from_recursion, recursion_from_All}
-use Rattle.std.proofs.lemmas.List.FromFn.{get_or-map-range_with_len, length-map-range_with_len}
-use Rattle.std.proofs.lemmas.List.Sorted.{IsPermutation-filter_both, list_any-IsPermutation}
-use Rattle.std.proofs.lemmas.Option.{get_or_from_slice_get, slice_get_cases, slice_get_read}
-use Rattle.std.proofs.lemmas.{Bool.eqb-false, List.Folds.Any-from_list_any, Option.slice_get_within}
-use Rattle.std.proofs.{ByRecursion.all_kept_by, lemmas.Nat.row_fits, Math.Seq.drop-append-add}
-use Rattle.std.{proofs.Common.leb, specs.BTreeSet.insert_key, specs.List.range_with_len}
-use Rattle.thorin_again.proofs.Kept.{content-added, once-more, row_with, rows-share, with-each}
-use Rattle.thorin_again.proofs.Kept.{order-added, parted, RowHas, with-any}
-use Rattle.thorin_again.specs.Plain.{GiveStrings, HasOneOf, HasTiledOffsets, IsAmong, IsWholeRange}
-use Rattle.thorin_again.specs.{OwnRefusals.UnlessStringOffset, Plain.IsOfSome, Plain.Tile}
-use Rattle.thorin_index.specs.ReadRows.{HasContributions}
-use Rattle.thorin_join.proofs.Parts.{each-part, has-more, has-other, joined_parts-other, no-entries}
-use Rattle.thorin_join.proofs.Parts.{joined_parts-more, Rewritten, rewritten-plain, units-strings}
+use Rattle.std.proofs.Common.{add-mul, eqb-true, leb, leb-false, lt-ltb, true≢false, zero-mul}
+use Rattle.std.proofs.Common.{⊎_elim}
+use Rattle.std.proofs.{lemmas.Bool.eqb-false, lemmas.Nat.row_fits, Math.Seq.drop-append-add}
+use Rattle.thorin_again.proofs.Kept.{content-added, parted, row_with, RowHas, rows-share, with-each}
+use Rattle.thorin_again.proofs.{Kept.once-more, Kept.order-added, Kept.with-any, Sections.tile-end}
+use Rattle.thorin_again.specs.Plain.{GiveStrings, HasOneOf, IsAmong, IsOfSome, IsWholeRange, Tile}
+use Rattle.thorin_again.specs.{OwnRefusals.UnlessStringOffset, Plain.HasTiledOffsets}
+use Rattle.thorin_join.proofs.Parts.{each-part, joined_parts-other, no-entries, rewritten-plain}
+use Rattle.thorin_join.proofs.Parts.{has-other, joined_parts-more, Rewritten, units-strings}
 use Rattle.thorin_join.proofs.Rows.{own-bytes, place-put, range-front, range_for}
-use Rattle.thorin_join.proofs.{Files.HasRows, Joined.Made as Added, Joined.source-made}
+use Rattle.thorin_join.proofs.{Joined.Made as Added, Joined.source-made, Parts.has-more}
 use Rattle.thorin_join.{proofs.Ranges.count-again, proofs.Ranges.range-of, specs.StandApart.EachRow}
-use Rattle.thorin_package_input.proofs.Rows.{compilation_there, range_is, range_of_found}
-use Rattle.thorin_package_input.specs.PackagedOffsets.{offset_ranges, with_ranges, with_rows}
-use Rattle.thorin_package_input.specs.PackagedOffsets.{place_cmp, ranges_test, rewritten_from}
-use Rattle.thorin_package_input.specs.RowPlaces.{is_range, range_of_row, ranges_of}
-use Rattle.thorin_package_input.{proofs.Rows.type_there, specs.PackagedReading.range_bytes}
-use Rattle.thorin_strings.specs.StringOffsets.{entry_bytes, header_of, offset_at, remapped_entries}
-use Rattle.thorin_strings.specs.StringOffsets.{remapped_entry}
-
--- the rows of compilation units and those of type units
-pub at-row : (P : IndexEntry → Type 0) (rows : List IndexEntry) (n : ℕ) (row : IndexEntry)
-    → EachRow P rows → slice_get rows n ≡ Some row → P row
-at-row P rows n row h at = subst P (get_or_from_slice_get rows n row row at)
-    (All-from_recursion P rows h n row (slice_get_within rows n row at))
-
--- where some row passes a test, one of either sort does
-pub any-chosen : (test : IndexEntry → Bool) (rows : List IndexEntry) → list_any test rows ≡ true
-    → (list_any test (rows_of true rows) ≡ true) ⊎ (list_any test (rows_of false rows) ≡ true)
-any-chosen test rows h =
-    let both : list_any test (rows_of true rows ++ rows_of false rows) ≡ true =
-    sym (list_any-IsPermutation test rows _ (IsPermutation-filter_both (is_chosen true)
-    (is_chosen false) (λ row. refl) rows)) ∙ h in
-    grind (arith, nat_tests, list_any-append test (rows_of true rows) (rows_of false rows))
-
--- a row that passes
-pub passing : (test : IndexEntry → Bool) (rows : List IndexEntry) → list_any test rows ≡ true
-    → (n : ℕ) × (row : IndexEntry) × (slice_get rows n ≡ Some row) × (test row ≡ true)
-passing test rows h = let any = Any-from_list_any test rows h in
-    (any.0, any.1, slice_get_read rows _ any.0 any.1 refl any.2 (sym any.3), any.4)
-
--- what follows from a row that passes, and its parts in the index of these rows
-pub by-passing : (P : Type 0) (test : IndexEntry → Bool) (read : Option Index)
-    (rows : List IndexEntry) → HasRows read rows → list_any test rows ≡ true
-    → ((index : Index) (n : ℕ) (row : IndexEntry) → read ≡ Some index → slice_get rows n ≡ Some row
-    → test row ≡ true → HasContributions index (n + 1) row → P) → P
-by-passing P test None rows has h f = let none = rw has at h in absurd cc
-by-passing P test (Some index) rows has h f =
-    let p = passing test rows h in f index p.0 p.1 refl p.2 p.3 (has.1.each p.0 p.1 p.2)
-
--- each range that some row has is there
-abbrev pub has-range : Contribution → IndexEntry → Bool
-has-range r row = is_range r row.debug_str_offsets
-
-pub some-has : (r : Contribution) (rows : List IndexEntry) → IsOfSome r rows
-    → list_any (has-range r) rows ≡ true
-some-has r [] h = absurd h
-some-has r (row ∷ rows) h = grind (arith, nat_tests, some-has r rows)
-
-ranges-there : (compilations types : Option Index) (rows : List IndexEntry) (r : Contribution)
-    → HasRows compilations (rows_of true rows) → HasRows types (rows_of false rows)
-    → 0 < r.size → IsOfSome r rows → IsAmong r (offset_ranges compilations types)
-ranges-there compilations types rows r c t some h =
-    ⊎_elim (λ u. by-passing _ (has-range r) compilations _ c u (λ index n row is at has parts.
-    rw is (compilation_there index (n + 1) parts.row r parts.there
-    (grind (arith, nat_tests, parts.contributions StrOffsets, range_is r row.debug_str_offsets has))
-    types))) (λ u. by-passing _ (has-range r) types _ t u (λ index n row is at has parts.
-    rw is (type_there index (n + 1) parts.row r parts.there
-    (grind (arith, nat_tests, parts.contributions StrOffsets, range_is r row.debug_str_offsets has))
-    compilations))) (any-chosen (has-range r) rows (some-has r rows h))
-
--- ranges in the order of others, of which some may be left out
-abbrev IsPartOf : List Contribution → List Contribution → Type 0
-IsPartOf xs [] = xs ≡ []
-IsPartOf xs (y ∷ ys) = ((zs : List Contribution) × (xs ≡ y ∷ zs) × IsPartOf zs ys) ⊎ IsPartOf xs ys
-
-part-among : (xs ys : List Contribution) (r : Contribution) → IsPartOf xs ys → IsAmong r xs
-    → IsAmong r ys
-part-among xs [] r part h = grind arith
-part-among [] (y ∷ ys) r part h = absurd h
-part-among (x ∷ xs) (y ∷ ys) r part h = grind (arith, part-among xs ys r, part-among (x ∷ xs) ys r)
-
-none-part : (ys : List Contribution) → IsPartOf [] ys
-none-part [] = refl
-none-part (y ∷ ys) = inr (none-part ys)
+use Rattle.thorin_package_input.specs.PackagedOffsets.{ranges_test, rewritten_from}
+use Rattle.thorin_package_input.specs.PackagedReading.{range_bytes}
+use Rattle.thorin_strings.specs.StringOffsets.{entry_bytes, header_of, offset_at, remapped_entry}
+use Rattle.thorin_strings.specs.StringOffsets.{remapped_entries}
 
 -- ranges that lie one directly behind the other
 module _ (order : Endianness) (encoding : Encoding) where
-  pub tile-lies : (at end : ℕ) (ys : List Contribution) (r : Contribution) → Tile order encoding at
-      ys end → IsAmong r ys → (at ≤ r.offset.0) × IsWholeRange order encoding r.size
-  tile-lies at end [] r tile h = absurd h
-  tile-lies at end (y ∷ ys) r tile h = grind (arith, tile-lies (at + y.size) end ys r tile.2)
-
-  tile-apart : (at end : ℕ) (y : Contribution) (ys : List Contribution) (r : Contribution)
-      → Tile order encoding at (y ∷ ys) end → IsAmong r ys → y.offset.0 < r.offset.0
-  tile-apart at end y ys r tile h =
-      omega (arith, (tile-lies (at + y.size) end ys r tile.2 h).0, tile.0, tile.1.some)
-
-  pub tile-end : (at end : ℕ) (ys : List Contribution) → Tile order encoding at ys end → at ≤ end
-  tile-end at end [] tile = omega (arith, tile)
-  tile-end at end (y ∷ ys) tile = omega (arith, tile-end (at + y.size) end ys tile.2)
-
-  -- one of them is put among some of them
-  put-part : (at end : ℕ) (ys xs : List Contribution) (r : Contribution) → Tile order encoding at ys
-      end → IsPartOf xs ys → IsAmong r ys → IsPartOf (insert_key place_cmp xs r) ys
-  put-part at end [] xs r tile part h = absurd h
-  put-part at end (y ∷ ys) [] r tile part h =
-      grind (arith, put-part (at + y.size) end ys [] r tile.2)
-  put-part at end (y ∷ ys) (x ∷ xs) r tile part h =
-      let rest = λ (zs : List Contribution). put-part (at + y.size) end ys zs r tile.2 in
-      let less = λ (z : Contribution). tile-apart at end y ys z tile in
-      grind (arith, nat_tests, rest xs, rest (x ∷ xs), less r, less x, part-among (x ∷ xs) ys x)
-
-  -- part of them, in their order, and each of them: all
-  all-same : (at end : ℕ) (ys xs : List Contribution) → Tile order encoding at ys end
-      → IsPartOf xs ys → ((r : Contribution) → IsAmong r ys → IsAmong r xs) → xs ≡ ys
-  all-same at end [] xs tile part all = part
-  all-same at end (y ∷ ys) xs tile (inl (zs, is, p)) all =
-      let less = λ (r : Contribution). tile-apart at end y ys r tile in
-      grind (arith, all-same (at + y.size) end ys zs tile.2 p (λ r h. grind (arith, all r, less r)))
-  all-same at end (y ∷ ys) xs tile (inr p) all =
-      grind (arith, tile-apart at end y ys y tile, part-among xs ys y p, all y)
-
-  module _ (end : ℕ) (ys : List Contribution) (tile : Tile order encoding 0 ys end) where
-    ranges-part : (ranges : List (Option Contribution)) (xs : List Contribution)
-        → Each (λ o. (r : Contribution) → o ≡ Some r → IsAmong r ys) ranges → IsPartOf xs ys
-        → IsPartOf (with_ranges ranges xs) ys
-    ranges-part [] xs among part = part
-    ranges-part (None ∷ ranges) xs among part = ranges-part ranges xs among.1 part
-    ranges-part (Some r ∷ ranges) xs among part =
-        ranges-part ranges (insert_key place_cmp xs r) among.1
-        (put-part 0 end ys xs r tile part (among.0 r refl))
-
-    index-part : (read : Option Index) (rows : List IndexEntry) (xs : List Contribution)
-        → HasRows read rows → EachRow (HasOneOf ys) rows → IsPartOf xs ys
-        → IsPartOf (with_rows read xs) ys
-    unfolding ranges_of
-    index-part None rows xs has each part = part
-    index-part (Some index) rows xs has each part =
-        let range = range_of_row index StrOffsets in
-        let count = length index.offsets in
-        ranges-part (map range (range_with_len 1 count)) xs (recursion_from_All _ _ (λ n d less r e.
-        let within : n < count = omega (arith, less, length-map-range_with_len range 1 count) in
-        elim (slice_get_cases rows n).1 [
-          | inl there ↦
-              let parts = has.1.each n there.0 there.2 in
-              let found = range_of_found index StrOffsets (n + 1) parts.row parts.there in
-              let at = get_or-map-range_with_len range 1 count n (n + 1) d within (omega arith) in
-              at-row (HasOneOf ys) rows n there.0 each there.2 r
-              (grind (arith, parts.contributions StrOffsets, found, at, e))
-          | inr past ↦ absurd (omega (arith, within, past.0, has.1.count))
-        ])) part
-
-    -- those of the rows of both indexes are all of them
-    pub ranges-are : (compilations types : Option Index) (rows : List IndexEntry)
-        → HasRows compilations (rows_of true rows) → HasRows types (rows_of false rows)
-        → EachRow (HasOneOf ys) rows → ((r : Contribution) → IsAmong r ys → IsOfSome r rows)
-        → offset_ranges compilations types ≡ ys
-    unfolding offset_ranges
-    ranges-are compilations types rows c t has named =
-        let chosen = λ (b : Bool). all_kept_by (is_chosen b) (HasOneOf ys) rows has in
-        all-same 0 end ys _ tile (index-part types _ _ t (chosen false)
-        (index-part compilations _ _ c (chosen true) (none-part ys))) (λ r h.
-        ranges-there compilations types rows r c t (tile-lies 0 end ys r tile h).1.some (named r h))
-
   abbrev width : ℕ
   width = offset_size encoding.format
 
@@ -198,7 +43,8 @@ module _ (order : Endianness) (encoding : Encoding) where
   tile-tested size at end last (y ∷ ys) tile inside behind =
       let rest = tile-tested size (at + y.size) end (y.offset.0 + y.size) ys tile.2 inside
       (omega (arith, tile.0)) in
-      grind (arith, nat_tests, tile.0, tile.1.long, tile-end (at + y.size) end ys tile.2, rest)
+      let far = tile-end order encoding (at + y.size) end ys tile.2 in
+      grind (arith, nat_tests, tile.0, tile.1.long, far, rest)
 
   -- a whole range has its entries behind its header
   pub whole-remapped : (section bytes : List ℕ) (size : ℕ) (strings : List (List ℕ))
@@ -342,7 +188,7 @@ module _ (order : Endianness) (encoding : Encoding) where
       let s1 = bind-was (remapped order encoding section (range_bytes old r) r.size before) _ _
       first.1 in
       let s2 = bind-was (rewritten_from order encoding section old _ ranges s1.0.1) _ _ s1.2 in
-      let within = tile-end (at + r.size) end ranges tile.2 in
+      let within = tile-end order encoding (at + r.size) end ranges tile.2 in
       let front = range-front old new r.offset.0 r.size (omega (arith, tile.0, within, fits)) in
       turn section (old ++ new) place r (ranges ++ tail) before s1.0.1 after (s1.0.0, rw front s1.1)
       (grown section old new (r.offset.0 + r.size) (at + r.size) end ranges tail s1.0.1 middle after

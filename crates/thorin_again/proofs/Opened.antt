@@ -15,7 +15,7 @@ use Joined.{Ok, Option, order_test, packaged_offsets, Parts, parts_of, refl, Res
 use Joined.{rows_of, same-each, same-ok, same-self, same_kind, same_Some, SectionKind, slice_get}
 use Joined.{slice_index, Some, Source, StrOffsets, subst, sym, take-length, true, units_in}
 use Joined.{units_of, UnitSection, Used, with_each_part, with_input, with_offsets, with_part, [], ℕ}
-use Joined.{◌++◌, ◌+◌, ◌<◌, ◌>>=◌, ◌^◌, ◌||◌, ◌∙◌, ◌∷◌, ◌≡◌, ◌≤◌}
+use Joined.{◌++◌, ◌+◌, ◌<◌, ◌>>=◌, ◌^◌, ◌∙◌, ◌∷◌, ◌≡◌, ◌≤◌}
 use Rattle.dwp_base.proofs.EveryKind.{kind-named, not-older}
 use Rattle.dwp_base.specs.declared.section.SectionKind.TheVariants.{Info}
 use Rattle.dwp_elf.specs.FileText.{name_table}
@@ -26,25 +26,26 @@ use Rattle.dwp_index.specs.Contents.{is_of_kind}
 use Rattle.dwp_table.specs.Columns.{column_of}
 use Rattle.std.proofs.{ByRecursion.all_kept_by, lemmas.List.Elements.recursion_from_All}
 use Rattle.std.proofs.{Common.bytes_eq, lemmas.Bool.or_right, Math.ListN.get_or-map}
-use Rattle.thorin_again.proofs.Offsets.{all-rewritten, any-chosen, are-named, passing, tile-lies}
-use Rattle.thorin_again.proofs.Offsets.{at-row, has-range, ranges-are, some-has, tile-tested}
-use Rattle.thorin_again.specs.OwnInput.{CanTake, IsOwn, own_source, TakesParts, TakesUpToParts}
+use Rattle.thorin_again.proofs.Offsets.{all-rewritten, are-named, tile-tested}
+use Rattle.thorin_again.proofs.Sections.{any-chosen, at-row, one-is-there, passing, some-has}
+use Rattle.thorin_again.proofs.Sections.{has-range, ranges-are, tile-lies}
+use Rattle.thorin_again.specs.OwnInput.{CanTake, IsOwn, own_source, TakesParts, written_object}
 use Rattle.thorin_again.specs.OwnUnits.{AllOf}
-use Rattle.thorin_again.specs.{Again.input_encoding, OwnInput.written_object, OwnInput.written_used}
+use Rattle.thorin_again.specs.{Again.input_encoding, OwnInput.TakesUpToParts, OwnInput.written_used}
 use Rattle.thorin_again.specs.{OwnRefusals.UnlessStringOffset, Plain.HasTiledOffsets, Plain.IsPlain}
 use Rattle.thorin_index.proofs.ReadAgain.{index_is_read, written_rows}
 use Rattle.thorin_index.{proofs.Held.have_passed, proofs.Held.used_known, specs.IndexText.is_used}
 use Rattle.thorin_input.specs.Indexes.{index_in, indexes_of, version_test}
-use Rattle.thorin_input.specs.Used.{counts_once, has_kind, is_present, opened, used_from, used_kind}
+use Rattle.thorin_input.specs.Used.{counts_once, has_kind, opened, used_bytes, used_from, used_kind}
 use Rattle.thorin_input.specs.{Encodings.encoding_of, Format.is_in_format, Format.is_of_units}
-use Rattle.thorin_input.{proofs.Walking.found-any, specs.Used.used_bytes}
-use Rattle.thorin_join.proofs.Files.{chosen-fit, finished-order, HasRows, no-bytes, tested-state}
-use Rattle.thorin_join.proofs.Files.{finished-content, finished-strings, members, nothing, Tested}
-use Rattle.thorin_join.proofs.Rows.{part-inside}
-use Rattle.thorin_join.proofs.{Parts.rewritten-package, Parts.slice-long, Units.distinct_chosen}
-use Rattle.thorin_join.specs.Builder.{finish_test, IsFinishedState, same_order, source_for, State}
-use Rattle.thorin_join.specs.{Laid.IsLaid, Laid.Lie, Laid.rows_at, StandApart.EachRow}
-use Rattle.thorin_join.{proofs.Files.finished-own, specs.Builder.order_of, specs.Builder.with_units}
+use Rattle.thorin_input.{proofs.Walking.found-any, specs.Used.is_present}
+use Rattle.thorin_join.proofs.Files.{chosen-fit, finished-own, no-bytes, nothing, tested-state}
+use Rattle.thorin_join.proofs.Files.{finished-content, finished-order, HasRows, members, Tested}
+use Rattle.thorin_join.proofs.{Files.finished-strings, Parts.rewritten-package, Parts.slice-long}
+use Rattle.thorin_join.proofs.{Rows.part-inside, Units.distinct_chosen}
+use Rattle.thorin_join.specs.Builder.{finish_test, IsFinishedState, order_of, State, with_units}
+use Rattle.thorin_join.specs.Laid.{IsLaid, Lie, rows_at}
+use Rattle.thorin_join.specs.{Builder.same_order, Builder.source_for, StandApart.EachRow}
 use Rattle.thorin_package_input.proofs.Rows.{range_is}
 use Rattle.thorin_package_input.specs.{PackagedOffsets.rewritten_from, PackagedReading.range_bytes}
 use Rattle.dwp_base.specs.declared.section.SectionKind.TheVariants as kinds
@@ -281,13 +282,6 @@ index-taken order encoding (row ∷ rows) bytes text tested fit distinct have =
       has = (index_version_of row.encoding.version, entries, omega arith);
     }
 
--- where there is a row, one of the indexes has rows
-one-is-there : (compilations types : Option Index) (rows : List IndexEntry)
-    → HasRows compilations (rows_of true rows) → HasRows types (rows_of false rows)
-    → (rows ≡ [] → ⊥) → (is_some compilations || is_some types) ≡ true
-one-is-there c t [] of_c of_t some = absurd (some refl)
-one-is-there c t (row ∷ rows) of_c of_t some = grind arith
-
 -- what the unit of a row of a package means, and that the row is that of this unit
 abbrev pub mean_of : InProgress → IndexEntry → Meaning
 mean_of made row = meaning_at made.file.order made.file.contents made.strings row
@@ -348,14 +342,13 @@ pub own-made : {state : State} {encoding : Encoding} {file : File} → IsSoundBe
     → AllOf encoding (units_in state) → OwnMade encoding fin.made
 own-made {state} {encoding} sound_begun tested fin some all =
     let made = fin.made in
-    let have : AllOf encoding (units_of made) = rw fin.begun at all in
     let there : 0 < length (units_of made) = rw fin.begun at some in
     let long : length (units_of made) ≡ length made.rows = length-map made.rows _ in
     let sound : IsSound made = rw fin.begun at sound_begun in
     record {
       sound = sound;
       tests = tested-state state made fin.begun tested;
-      all = rows-of encoding made have;
+      all = rows-of encoding made (rw fin.begun at all);
       some = λ none. omega (arith, there, long, ap length none);
       rows = each-row _ _ _ (mean_of made) made.rows sound.units.rows;
     }
@@ -451,24 +444,10 @@ in-format {encoding} {made} own kind used =
     let column = λ (b : Bool). column-of encoding kind (rows_of b made.rows)
     (all_kept_by (is_chosen b) (λ row. row.encoding ≡ encoding) made.rows own.all) in
     let once = same-each counts_once (λ k. not (is_of_units k)) refl kind in
-    let tests = own.tests in
     let chosen = any-chosen (λ row. is_some (contribution_to kind row)) made.rows in
-    grind (
-      arith,
-      column true tests.compilation_rows,
-      column false tests.type_rows,
-      chosen,
-      used,
-      once,
-    )
-
--- a section of units that has bytes is one that a row names
-pub lie-used : (order : Endianness) (place : UnitSection) (offset : ℕ) (rows : List IndexEntry)
-    (bytes : List ℕ) → Lie order place offset (rows_at place rows) bytes → 0 < length bytes
-    → is_used rows (kind_of place) ≡ true
-lie-used order place offset [] bytes lie some = absurd (omega (arith, some, ap length lie))
-lie-used order place offset (r ∷ rs) bytes lie some =
-    grind (arith, lie-used order place offset rs bytes)
+    let c = column true own.tests.compilation_rows in
+    let t = column false own.tests.type_rows in
+    grind (arith, c, t, chosen, used, once)
 
 -- the contents that units share stay when a package is finished
 pub finished-shared : (made : InProgress) (file : File) → IsFinished made file
