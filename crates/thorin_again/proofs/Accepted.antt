@@ -21,49 +21,49 @@ use Rattle.dwp_elf.specs.Written.{written_elf}
 use Rattle.dwp_units.specs.Units.{units}
 use Rattle.indexmap.proofs.MapLemmas.{lookup_permutation}
 use Rattle.std.proofs.Common.{IsPermutation, ltb-true, nat_lt, ◌≢◌}
-use Rattle.std.proofs.lemmas.List.Sorted.{IsPermutation-middle, sum_by-IsPermutation}
-use Rattle.std.proofs.lemmas.List.{Elements.All-from_recursion, Folds.list_any_none}
-use Rattle.std.proofs.lemmas.List.{Sorted.IsPermutation-map, Sums.length-filter}
+use Rattle.std.proofs.lemmas.List.Sorted.{IsPermutation-map, sum_by-IsPermutation}
+use Rattle.std.proofs.lemmas.List.{Elements.All-from_recursion, Sorted.IsPermutation-middle}
 use Rattle.std.proofs.lemmas.Map.Keys.{IsDistinct-from_apart, IsDistinct-IsPermutation}
 use Rattle.std.proofs.lemmas.{Bool.eqb-false, Option.get_or_from_slice_get, Option.slice_get_within}
-use Rattle.std.proofs.{lemmas.Map.lookup-none, lemmas.Map.NonePasses, Math.ListN.get_or-map}
-use Rattle.std.{proofs.ByRecursion.all_kept_by, specs.Cmp.both_ways, specs.Cmp.IsEquivalence}
-use Rattle.std.{proofs.Math.Bool.and-false, specs.List.IsDistinct}
-use Rattle.thorin_again.proofs.Lists.{answers-whole, Encoded, first-of, IsEncoded, meant_or}
-use Rattle.thorin_again.proofs.Lists.{begun-now, input-order, rows-encoded, there-back, units-all}
-use Rattle.thorin_again.proofs.Meant.{again-is, found-range, found-row, parts, row-lies, row-tested}
-use Rattle.thorin_again.proofs.Opened.{Fares, in-format, lie-kept, opened-elf, own-made, then-fares}
-use Rattle.thorin_again.proofs.Opened.{IsReadOf, own-offsets, read-of, Unless, up-to-parts}
-use Rattle.thorin_again.proofs.Opened.{and-then, answered, OwnMade, present-written, rest-differ}
-use Rattle.thorin_again.proofs.Opened.{behind, finished-shared, front, offsets-are, own-parts-tried}
-use Rattle.thorin_again.proofs.Opened.{info-written, input-encoding, object-written, section_of}
-use Rattle.thorin_again.proofs.Sections.{any-chosen, at-row, by-passing, IsUnitOf, read-alone}
-use Rattle.thorin_again.proofs.Sections.{lie-used, of-section, place-eq, place-is, row-there}
+use Rattle.std.proofs.lemmas.{List.Folds.list_any_none, Map.lookup-none, Map.NonePasses}
+use Rattle.std.proofs.{ByRecursion.all_kept_by, Math.Bool.and-false, Math.ListN.get_or-map}
+use Rattle.std.specs.List.{IsDistinct}
+use Rattle.std.{proofs.lemmas.List.Sums.length-filter, specs.Cmp.both_ways, specs.Cmp.IsEquivalence}
+use Rattle.thorin_again.proofs.Lists.{answers-whole, Encoded, input-order, meant_or, rows-encoded}
+use Rattle.thorin_again.proofs.Lists.{begun-now, first-of, IsEncoded, there-back, units-all}
+use Rattle.thorin_again.proofs.Meant.{again-is, found-range, found-row, named-again, parts}
+use Rattle.thorin_again.proofs.Opened.{and-then, opened-elf, OwnMade, present-written, read-of}
+use Rattle.thorin_again.proofs.Opened.{answered, Fares, front, input-encoding, lie-kept, then-fares}
+use Rattle.thorin_again.proofs.Opened.{behind, info-written, own-made, rest-differ, section_of}
+use Rattle.thorin_again.proofs.Opened.{finished-shared, object-written, own-offsets, up-to-parts}
+use Rattle.thorin_again.proofs.Opened.{in-format, IsReadOf, offsets-are, own-parts-tried, Unless}
+use Rattle.thorin_again.proofs.Sections.{any-chosen, by-passing, IsUnitOf, of-section, place-eq}
+use Rattle.thorin_again.proofs.Sections.{at-row, lie-used, place-is, read-alone, row-there}
 use Rattle.thorin_again.specs.OwnInput.{IsOwn, own_source, written_object, written_used}
+use Rattle.thorin_again.specs.{Again.all_meant, Again.HaveEncodingOf, OwnRefusals.IsForeseen}
 use Rattle.thorin_again.specs.{Own.has_content, Own.has_sections, Own.packs_again, Plain.HoldsPlain}
 use Rattle.thorin_again.specs.{OwnAccepted.IsAccepted, OwnAccepted.IsAcceptedByNew, Plain.IsPlain}
-use Rattle.thorin_again.specs.{OwnUnits.HoldsOwn, Plain.NamesItself}
-use Rattle.thorin_again.{proofs.Kept.keep-names, specs.Again.all_meant, specs.Again.HaveEncodingOf}
-use Rattle.thorin_again.{proofs.Meant.named-again, specs.OwnRefusals.IsForeseen}
+use Rattle.thorin_again.{proofs.Kept.keep-names, specs.Plain.NamesItself}
+use Rattle.thorin_again.{proofs.Meant.row-lies, proofs.Meant.row-tested, specs.OwnUnits.HoldsOwn}
 use Rattle.thorin_errors.specs.Errors.{DuplicateUnit}
 use Rattle.thorin_index.specs.IndexText.{is_used}
-use Rattle.thorin_input.specs.Adjusting.{adjusted, Adjustor, moved, moved_range, other_index}
-use Rattle.thorin_input.specs.Adjusting.{has_column_for, own_index, row_of, without_column}
-use Rattle.thorin_input.specs.NewUnits.{SeenSections, with_each_section, with_read}
-use Rattle.thorin_input.specs.NewUnits.{is_met, with_first, with_section_at, with_section_in}
-use Rattle.thorin_input.specs.NewUnits.{none_met, once_test, with_each_read, with_met, with_section}
+use Rattle.thorin_input.specs.Adjusting.{adjusted, Adjustor, own_index}
+use Rattle.thorin_input.specs.Adjusting.{has_column_for, moved, moved_range, other_index, row_of}
+use Rattle.thorin_input.specs.Encodings.{file_encoding, own_encoding}
+use Rattle.thorin_input.specs.NewUnits.{is_met, once_test, SeenSections, with_read, with_section_at}
+use Rattle.thorin_input.specs.NewUnits.{none_met, with_each_read, with_each_section, with_met}
+use Rattle.thorin_input.specs.NewUnits.{with_first, with_section, with_section_in}
 use Rattle.thorin_input.specs.Rows.{adjusted_contribution, row_test, unit_contribution, unit_row}
-use Rattle.thorin_input.specs.{Encodings.file_encoding, Encodings.own_encoding, Used.counts_once}
-use Rattle.thorin_join.proofs.Files.{finished-grows, finished-is, finished-own, HasRows, part-there}
+use Rattle.thorin_join.proofs.Files.{finished-is, finished-order, finished-own, HasRows, part-there}
 use Rattle.thorin_join.proofs.Joined.{input-keeps, new-sound, sound-inside}
 use Rattle.thorin_join.proofs.Parts.{copied-or-offsets, parts-first, rows-read}
 use Rattle.thorin_join.proofs.Rows.{adjustor, place-put, range-none, some-index, whole-part}
-use Rattle.thorin_join.proofs.Units.{kind-place, same_name-self, same_name-sym, same_name-true}
-use Rattle.thorin_join.proofs.{Files.finished-order, Files.finished-strings, Units.keys-units}
+use Rattle.thorin_join.proofs.Units.{keys-units, kind-place, same_name-self, same_name-sym}
+use Rattle.thorin_join.proofs.{Files.finished-grows, Files.finished-strings, Moved.identity-shifted}
 use Rattle.thorin_join.specs.Builder.{finish_test, IsFinishedState, order_of, start, State, taken}
 use Rattle.thorin_join.specs.{Builder.with_source_or_new, Laid.same_place, State.abbreviations_test}
 use Rattle.thorin_join.specs.{Join.limit_of, Join.look_limit, Join.same_sort, StandApart.EachRow}
-use Rattle.thorin_join.{proofs.Moved.identity-shifted, proofs.Rows.own-index, specs.Laid.is_at}
+use Rattle.thorin_join.{proofs.Rows.own-index, proofs.Units.same_name-true, specs.Laid.is_at}
 use Rattle.dwp_base.specs.declared.section.SectionKind.TheVariants as kinds
 use Rattle.dwp_units.specs.declared.unit.UnitSection.TheVariants as places
 
@@ -77,10 +77,6 @@ moved-fine : (kind : SectionKind) (id : ℕ) (range : Option Contribution) (x : 
     × (0 < r.size)) → Fine (moved_range kind id range (contribution_put kind x before))
 unfolding moved
 moved-fine kind id range x before h = grind (arith, h, place-put kind x before, le-leb)
-
-none-fine : (kind : SectionKind) (x : List ℕ) (before : Contents) → (0 < length x → ⊥)
-    → Fine (without_column (contribution_put kind x before))
-none-fine kind x before h = grind arith
 
 each-fine : {X Y : Type 0} (f : X → Result Y ErrorValue) → ((x : X) → Fine (f x)) → (xs : List X)
     → Fine (read_each f xs)
@@ -126,8 +122,9 @@ module _ {encoding : Encoding} {file : File} {indexes : Indexes} {made : InProgr
       rw (some-index indexes.compilations indexes.types is.packed, own)
       (by-bool _ (has_column_for kind (own_index a row.id)) (λ mine. rw mine moved)
       (λ none. by-bool _ (has_column_for kind (other_index a row.id))
-      (λ others. rw (none, others) tt) (λ no. rw (none, no) (none-fine kind x before (λ some.
-      grind (arith, used some, none, no, compilations, types))))))
+      (λ others. rw (none, others) tt) (λ no. let empty : 0 < length x → ⊥ = λ some.
+      grind (arith, used some, none, no, compilations, types) in
+      rw (none, no) (grind (arith, empty)))))
 
   -- where the wholes lie
   pub row-given : (whole : IndexEntry) (x : SectionKind → List ℕ) (before : Contents)
@@ -405,16 +402,6 @@ module _ (state : State) (file : File) (sound : IsSoundBegun state.begun) (holds
       present-written kinds.Str file
       (grind (arith, nat_tests, has-both.1, offsets, strings, data-there f.made.strings))
 
-  -- rows name each kind that has bytes, but those that count once
-  kind-used : (kind : SectionKind) → 0 < length (content_of kind file.contents)
-      → counts_once kind ≡ false → is_used f.made.rows kind ≡ true
-  kind-used kinds.Info some once = lie-used file.order places.Info 0 f.made.rows _
-      (lie-kept _ _ has.sound.laid f.finished places.Info) some
-  kind-used kinds.Types some once = lie-used file.order places.Types 0 f.made.rows _
-      (lie-kept _ _ has.sound.laid f.finished places.Types) some
-  kind-used kind some once =
-      grind (arith, plain.named kind, finished-shared f.made file f.finished kind)
-
   -- they are, or refused with an error of some sort, where its string offsets and its units are
   taken-unless : (E : ErrorValue → Type 0) (before : State)
       → order_of before.begun file.order ≡ file.order
@@ -428,9 +415,13 @@ module _ (state : State) (file : File) (sound : IsSoundBegun state.begun) (holds
   taken-unless E before same takes =
       let t = up-to-parts state encoding file own before.begun same in
       let given = takes t.indexes t.read in
+      let lie = λ (place : UnitSection). lie-used file.order place 0 f.made.rows _
+      (lie-kept _ _ has.sound.laid f.finished place) in
+      let shared = finished-shared f.made file f.finished in
       let parts = own-parts-tried E (own_source file encoding t.indexes) file.contents
       (package_or_new (written_elf file) before.begun).strings refl differ (record {
-        format = λ kind some. in-format has kind (kind-used kind some);
+        format = λ kind some. in-format has kind (λ once.
+            grind (arith, lie places.Info, lie places.Types, plain.named kind, shared kind));
         offsets = λ some. (strings-there some, given.0);
       }) in
       let opens = opened-elf (file_text file) (written_elf file) back in

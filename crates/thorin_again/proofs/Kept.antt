@@ -31,18 +31,18 @@ use Rattle.thorin_index.specs.{EntryTests.same_encoding, IndexText.is_used}
 use Rattle.thorin_input.specs.Encodings.{encoding_of, first_encoding, has_encoding, section_has}
 use Rattle.thorin_input.specs.Format.{is_in_format}
 use Rattle.thorin_input.specs.{Adjusting.adjusted, Adjusting.moved, Rows.abbreviations_for}
-use Rattle.thorin_join.proofs.Joined.{can-lie, keys-held, Made, names-added, source-made, takes}
-use Rattle.thorin_join.proofs.Joined.{grows-with_parts, same-begun, sound-inside, with_all_parts}
-use Rattle.thorin_join.proofs.Parts.{content-with_bytes, joined_parts-other, parts-copied}
-use Rattle.thorin_join.proofs.Parts.{content-with_parts, each-part, each-unit as unit-by-unit, step}
-use Rattle.thorin_join.proofs.Rows.{adjusted-plain, front-long, Grows, is-unit_row, own-place}
-use Rattle.thorin_join.proofs.Rows.{content-put, grows-with_bytes, IsUnitRow, whole-part}
-use Rattle.thorin_join.proofs.Rows.{grows-trans, keep-part, row-name, row-own, row-part, whole-else}
-use Rattle.thorin_join.proofs.Units.{AllSo, each-joining, known-in, News, units-joined, UnitsJoined}
-use Rattle.thorin_join.proofs.Units.{AreAdded, each-named, IsKnown, Listed, sections-are, units-go}
-use Rattle.thorin_join.proofs.Units.{Goes, goes-alone, IsAdded, same_name-self, same_name-true}
-use Rattle.thorin_join.proofs.Units.{added-keys, each-all, identity-sort, name-identity, WasRead}
-use Rattle.thorin_join.proofs.{Moved.identity-shifted, Moved.newer-five, Units.kind-place}
+use Rattle.thorin_join.proofs.Joined.{can-lie, keys-held, Made, same-begun, source-made, takes}
+use Rattle.thorin_join.proofs.Joined.{grows-with_parts, names-added, sound-inside, with_all_parts}
+use Rattle.thorin_join.proofs.Parts.{content-with_bytes, each-part, each-unit as unit-by-unit, step}
+use Rattle.thorin_join.proofs.Parts.{content-with_parts, joined_parts-other, parts-copied}
+use Rattle.thorin_join.proofs.Rows.{Grows, grows-trans, grows-with_bytes, row-name, whole-else}
+use Rattle.thorin_join.proofs.Rows.{adjusted-plain, IsUnitRow, own-place, row-part, whole-part}
+use Rattle.thorin_join.proofs.Rows.{content-put, front-long, is-unit_row, keep-part, row-own}
+use Rattle.thorin_join.proofs.Units.{AllSo, Goes, kind-place, Listed, name-identity, News, WasRead}
+use Rattle.thorin_join.proofs.Units.{AreAdded, each-all, identity-sort, known-in, units-joined}
+use Rattle.thorin_join.proofs.Units.{added-keys, goes-alone, IsKnown, same_name-true, units-go}
+use Rattle.thorin_join.proofs.Units.{each-joining, each-named, IsAdded, same_name-self, UnitsJoined}
+use Rattle.thorin_join.proofs.{Moved.identity-shifted, Moved.newer-five, Units.sections-are}
 use Rattle.thorin_join.specs.Meaning.{named_at, named_each, named_sections}
 use Rattle.thorin_join.{proofs.Units.Reads, specs.StandApart.EachRow, specs.StandApart.rows_begun}
 use Rattle.dwp_base.specs.declared.section.SectionKind.TheVariants as kinds
@@ -296,12 +296,6 @@ module _ {source : Source} {before now : InProgress} (a : Made source before now
               ∙ put-stays (content_of k c) x (content-put k x c) (up k),
         )
 
-  -- what holds of rows in the format with the input's encoding stays so of all rows
-  pub rows-kept : (P : IndexEntry → Type 0) → ((row : IndexEntry) → IsInFormat row
-      → row.encoding ≡ source.encoding → P row) → EachRow P before.rows → EachRow P now.rows
-  rows-kept P new old = rows-added a (InFormat source) in-format (λ c. P) (λ c d n is grows up.
-      new (row_with c n) (new-format n is.0 is.1 is.3 c) (new-encoding n is.0 is.1 c)) (λ d up. old)
-
 -- an input
 pub input-rows : (P : IndexEntry → Type 0) (bytes : List ℕ) (begun now : Option InProgress)
     → ((row : IndexEntry) → IsInFormat row → input_encoding bytes ≡ Ok row.encoding → P row)
@@ -317,8 +311,10 @@ input-rows P bytes begun now new h old =
           let u = w.1 in
           let read : input_encoding bytes ≡ Ok u.source.encoding =
           rw (t.opens, u.object_is, u.encoding_is) refl in
-          subst (λ b. EachRow P (rows_begun b)) u.is (rows-kept (source-made u.source before u.made
-          u.with) P (λ row format encoding. new row format (read ∙ ap Ok (sym encoding))) was)
+          let a = source-made u.source before u.made u.with in
+          subst (λ b. EachRow P (rows_begun b)) u.is (rows-added a (InFormat u.source) (in-format a)
+          (λ c. P) (λ c d n is grows up. new (row_with c n) (new-format a n is.0 is.1 is.3 c)
+          (read ∙ ap Ok (sym (new-encoding a n is.0 is.1 c)))) (λ d up. was))
       | inr none ↦ subst (λ b. EachRow P (rows_begun b)) none.1 was
     ]
 
