@@ -21,49 +21,49 @@ use Rattle.dwp_elf.specs.Written.{written_elf}
 use Rattle.dwp_units.specs.Units.{units}
 use Rattle.indexmap.proofs.MapLemmas.{lookup_permutation}
 use Rattle.std.proofs.Common.{IsPermutation, ltb-true, nat_lt, ◌≢◌}
-use Rattle.std.proofs.lemmas.List.Sorted.{IsPermutation-map, sum_by-IsPermutation}
-use Rattle.std.proofs.lemmas.List.{Elements.All-from_recursion, Sorted.IsPermutation-middle}
+use Rattle.std.proofs.lemmas.List.Sorted.{IsPermutation-middle, sum_by-IsPermutation}
+use Rattle.std.proofs.lemmas.List.{Elements.All-from_recursion, Sorted.IsPermutation-map}
 use Rattle.std.proofs.lemmas.Map.Keys.{IsDistinct-from_apart, IsDistinct-IsPermutation}
 use Rattle.std.proofs.lemmas.{Bool.eqb-false, Option.get_or_from_slice_get, Option.slice_get_within}
 use Rattle.std.proofs.lemmas.{List.Folds.list_any_none, Map.lookup-none, Map.NonePasses}
 use Rattle.std.proofs.{ByRecursion.all_kept_by, Math.Bool.and-false, Math.ListN.get_or-map}
 use Rattle.std.specs.List.{IsDistinct}
 use Rattle.std.{proofs.lemmas.List.Sums.length-filter, specs.Cmp.both_ways, specs.Cmp.IsEquivalence}
-use Rattle.thorin_again.proofs.Lists.{answers-whole, Encoded, input-order, meant_or, rows-encoded}
-use Rattle.thorin_again.proofs.Lists.{begun-now, first-of, IsEncoded, there-back, units-all}
-use Rattle.thorin_again.proofs.Meant.{again-is, found-range, found-row, named-again, parts}
-use Rattle.thorin_again.proofs.Opened.{and-then, opened-elf, OwnMade, present-written, read-of}
-use Rattle.thorin_again.proofs.Opened.{answered, Fares, front, input-encoding, lie-kept, then-fares}
-use Rattle.thorin_again.proofs.Opened.{behind, info-written, own-made, rest-differ, section_of}
-use Rattle.thorin_again.proofs.Opened.{finished-shared, object-written, own-offsets, up-to-parts}
-use Rattle.thorin_again.proofs.Opened.{in-format, IsReadOf, offsets-are, own-parts-tried, Unless}
-use Rattle.thorin_again.proofs.Sections.{any-chosen, by-passing, IsUnitOf, of-section, place-eq}
-use Rattle.thorin_again.proofs.Sections.{at-row, lie-used, place-is, read-alone, row-there}
+use Rattle.thorin_again.proofs.Lists.{answers-whole, IsEncoded, meant_or, rows-encoded, units-all}
+use Rattle.thorin_again.proofs.Lists.{begun-now, Encoded, first-of, input-order, there-back}
+use Rattle.thorin_again.proofs.Meant.{found-range, named-again, parts, row-lies, row-tested}
+use Rattle.thorin_again.proofs.Opened.{and-then, answered, offsets-are, present-written, then-fares}
+use Rattle.thorin_again.proofs.Opened.{behind, Fares, input-encoding, IsReadOf, Unless, up-to-parts}
+use Rattle.thorin_again.proofs.Opened.{finished-shared, in-format, own-made, OwnMade, section_of}
+use Rattle.thorin_again.proofs.Opened.{front, info-written, lie-kept, object-written, read-of}
+use Rattle.thorin_again.proofs.Opened.{opened-elf, own-offsets, own-parts-tried, rest-differ}
+use Rattle.thorin_again.proofs.Sections.{any-chosen, by-passing, IsUnitOf, lie-used, of-section}
+use Rattle.thorin_again.proofs.Sections.{at-row, place-eq, place-is, read-alone, row-there}
 use Rattle.thorin_again.specs.OwnInput.{IsOwn, own_source, written_object, written_used}
 use Rattle.thorin_again.specs.{Again.all_meant, Again.HaveEncodingOf, OwnRefusals.IsForeseen}
 use Rattle.thorin_again.specs.{Own.has_content, Own.has_sections, Own.packs_again, Plain.HoldsPlain}
 use Rattle.thorin_again.specs.{OwnAccepted.IsAccepted, OwnAccepted.IsAcceptedByNew, Plain.IsPlain}
 use Rattle.thorin_again.{proofs.Kept.keep-names, specs.Plain.NamesItself}
-use Rattle.thorin_again.{proofs.Meant.row-lies, proofs.Meant.row-tested, specs.OwnUnits.HoldsOwn}
+use Rattle.thorin_again.{proofs.Meant.again-is, proofs.Meant.found-row, specs.OwnUnits.HoldsOwn}
 use Rattle.thorin_errors.specs.Errors.{DuplicateUnit}
 use Rattle.thorin_index.specs.IndexText.{is_used}
-use Rattle.thorin_input.specs.Adjusting.{adjusted, Adjustor, own_index}
-use Rattle.thorin_input.specs.Adjusting.{has_column_for, moved, moved_range, other_index, row_of}
+use Rattle.thorin_input.specs.Adjusting.{adjusted, Adjustor, moved, moved_range, own_index, row_of}
+use Rattle.thorin_input.specs.Adjusting.{has_column_for, other_index}
 use Rattle.thorin_input.specs.Encodings.{file_encoding, own_encoding}
-use Rattle.thorin_input.specs.NewUnits.{is_met, once_test, SeenSections, with_read, with_section_at}
-use Rattle.thorin_input.specs.NewUnits.{none_met, with_each_read, with_each_section, with_met}
-use Rattle.thorin_input.specs.NewUnits.{with_first, with_section, with_section_in}
+use Rattle.thorin_input.specs.NewUnits.{SeenSections, with_each_read, with_each_section}
+use Rattle.thorin_input.specs.NewUnits.{is_met, once_test, with_read, with_section, with_section_in}
+use Rattle.thorin_input.specs.NewUnits.{none_met, with_first, with_met, with_section_at}
 use Rattle.thorin_input.specs.Rows.{adjusted_contribution, row_test, unit_contribution, unit_row}
-use Rattle.thorin_join.proofs.Files.{finished-is, finished-order, finished-own, HasRows, part-there}
+use Rattle.thorin_join.proofs.Files.{finished-grows, finished-is, finished-own, HasRows, part-there}
 use Rattle.thorin_join.proofs.Joined.{input-keeps, new-sound, sound-inside}
 use Rattle.thorin_join.proofs.Parts.{copied-or-offsets, parts-first, rows-read}
-use Rattle.thorin_join.proofs.Rows.{adjustor, place-put, range-none, some-index, whole-part}
-use Rattle.thorin_join.proofs.Units.{keys-units, kind-place, same_name-self, same_name-sym}
-use Rattle.thorin_join.proofs.{Files.finished-grows, Files.finished-strings, Moved.identity-shifted}
+use Rattle.thorin_join.proofs.Rows.{adjustor, own-index, place-put, some-index, whole-part}
+use Rattle.thorin_join.proofs.Units.{keys-units, kind-place, same_name-sym, same_name-true}
+use Rattle.thorin_join.proofs.{Files.finished-order, Files.finished-strings, Moved.identity-shifted}
 use Rattle.thorin_join.specs.Builder.{finish_test, IsFinishedState, order_of, start, State, taken}
 use Rattle.thorin_join.specs.{Builder.with_source_or_new, Laid.same_place, State.abbreviations_test}
 use Rattle.thorin_join.specs.{Join.limit_of, Join.look_limit, Join.same_sort, StandApart.EachRow}
-use Rattle.thorin_join.{proofs.Rows.own-index, proofs.Units.same_name-true, specs.Laid.is_at}
+use Rattle.thorin_join.{proofs.Rows.range-none, proofs.Units.same_name-self, specs.Laid.is_at}
 use Rattle.dwp_base.specs.declared.section.SectionKind.TheVariants as kinds
 use Rattle.dwp_units.specs.declared.unit.UnitSection.TheVariants as places
 
@@ -177,12 +177,6 @@ module _ (Fresh : Type 0) (E : ErrorValue → Type 0)
   abbrev add : Adding
   add = adding source before parts_taken
 
-  -- each row names its unit
-  named-all : EachRow (NamesItself file.order encoding file.contents) made.rows
-  named-all = rw (finished-order made file is.finished) (keep-names made.file.order encoding
-      made.file.contents file.contents (finished-grows made file is.finished) made.rows
-      (sound-inside made is.own.sound) plain.units)
-
   -- in a package without units there is one more then
   abbrev Added : DwarfObject → New → New → Type 0
   Added name new next = Fresh → (unit : NewUnit) × (next.units ≡ new.units ++ (name, unit) ∷ [])
@@ -199,10 +193,9 @@ module _ (Fresh : Type 0) (E : ErrorValue → Type 0)
       (bytes : from.bytes ≡ content_of (kind_of place) file.contents)
       (unmet : is_met place met ≡ false) where
     unit-fares : (h : Header) (new : New) (row : IndexEntry) (kept : Option (List ℕ))
-        (name : DwarfObject) → (Fresh → kept ≡ None)
-        → row_test add.source.indexes from.kind name h ≡ Ok tt
-        → unit_row add.source.indexes add.whole name ≡ Ok row
-        → Fares E (Added name new) (with_unit kept add from name h new)
+        (name : DwarfObject) → (Fresh → kept ≡ None) → row_test add.source.indexes from.kind name h
+        ≡ Ok tt → unit_row add.source.indexes add.whole name ≡ Ok row → Fares E (Added name new)
+        (with_unit kept add from name h new)
     unfolding with_unit with_first
     unit-fares h new row kept name none tested given = grind (arith, none, may, address)
 
@@ -227,16 +220,19 @@ module _ (Fresh : Type 0) (E : ErrorValue → Type 0)
         let place_at = length u.before in
         let long = ap length u.split ∙ length-append u.before (r ∷ rs) in
         let at = row-there u in
+        let names : EachRow (NamesItself file.order encoding file.contents) made.rows =
+        rw (finished-order made file is.finished) (keep-names made.file.order encoding
+        made.file.contents file.contents (finished-grows made file is.finished) made.rows
+        (sound-inside made is.own.sound) plain.units) in
         let alone = at-row (NamesItself file.order encoding file.contents) made.rows place_at r
-        named-all at u.alone u.rest (read-alone u) in
+        names at u.alone u.rest (read-alone u) in
         let named : name_for source from.kind h ≡ Ok r.id = rw from_is (named-again is u
         (identity-shifted _ u.offset u.alone h u.shifted ∙ alone.1)) in
-        let parts_long = copied-or-offsets
-        (λ k. length (joined_parts k parts_taken) ≡ length (content_of k file.contents))
-        (λ k copied. ap length (parts-first source is.packed before.strings parts_taken after
-        parts_are k copied ∙ is.held k))
-        ((rows-read source is.packed before.strings parts_taken after table
-        parts_are).size ∙ ap length (is.held StrOffsets)) in
+        let parts_long = copied-or-offsets (λ k. length (joined_parts k parts_taken) ≡ length
+        (content_of k file.contents)) (λ k copied. ap length (parts-first source is.packed
+        before.strings parts_taken after parts_are k copied ∙ is.held k)) ((rows-read source
+        is.packed before.strings parts_taken after table parts_are).size ∙ ap length (is.held
+        StrOffsets)) in
         let given = row-given is plain u add.whole (λ k. joined_parts k parts_taken)
         before.file.contents parts_long (whole-part encoding before.file.contents parts_taken) in
         let free = λ (f : Fresh). left f place_at r at (ap (λ p. is_met p met) (sym (place-is u))
@@ -244,8 +240,7 @@ module _ (Fresh : Type 0) (E : ErrorValue → Type 0)
         then-fares E (Added r.id new) _ (with_read add from new (Ok h))
         (λ next. with_each_read add from next reads) (rw named (unit-fares h new given.0
         (kept_bytes add.held new.units r.id) r.id (λ f.
-        rw (none_there f, lookup-none _ _ (free f)) refl)
-        (rw from_is (row-tested is u)) given.1))
+        rw (none_there f, lookup-none _ _ (free f)) refl) (rw from_is (row-tested is u)) given.1))
         (λ next more. later next (λ f n row there to_come last.
         let other : n ≢ place_at = λ same. grind (arith, last, there, at, u.here, long) in
         rw (more f).1 (All-append (λ u. same_name row.id u.0 ≡ false) new.units (_ ∷ [])

@@ -35,16 +35,16 @@ use Rattle.thorin_join.proofs.Joined.{can-lie, keys-held, Made, same-begun, sour
 use Rattle.thorin_join.proofs.Joined.{grows-with_parts, names-added, sound-inside, with_all_parts}
 use Rattle.thorin_join.proofs.Parts.{content-with_bytes, each-part, each-unit as unit-by-unit, step}
 use Rattle.thorin_join.proofs.Parts.{content-with_parts, joined_parts-other, parts-copied}
-use Rattle.thorin_join.proofs.Rows.{Grows, grows-trans, grows-with_bytes, row-name, whole-else}
-use Rattle.thorin_join.proofs.Rows.{adjusted-plain, IsUnitRow, own-place, row-part, whole-part}
-use Rattle.thorin_join.proofs.Rows.{content-put, front-long, is-unit_row, keep-part, row-own}
-use Rattle.thorin_join.proofs.Units.{AllSo, Goes, kind-place, Listed, name-identity, News, WasRead}
-use Rattle.thorin_join.proofs.Units.{AreAdded, each-all, identity-sort, known-in, units-joined}
-use Rattle.thorin_join.proofs.Units.{added-keys, goes-alone, IsKnown, same_name-true, units-go}
-use Rattle.thorin_join.proofs.Units.{each-joining, each-named, IsAdded, same_name-self, UnitsJoined}
-use Rattle.thorin_join.proofs.{Moved.identity-shifted, Moved.newer-five, Units.sections-are}
+use Rattle.thorin_join.proofs.Rows.{Grows, grows-trans, is-unit_row, row-own, whole-else}
+use Rattle.thorin_join.proofs.Rows.{adjusted-plain, front-long, IsUnitRow, keep-part, row-part}
+use Rattle.thorin_join.proofs.Rows.{content-put, grows-with_bytes, own-place, row-name, whole-part}
+use Rattle.thorin_join.proofs.Units.{AllSo, known-in, News, Reads, same_name-self, same_name-true}
+use Rattle.thorin_join.proofs.Units.{AreAdded, identity-sort, name-identity, units-go, units-joined}
+use Rattle.thorin_join.proofs.Units.{added-keys, each-all, each-joining, goes-alone, sections-are}
+use Rattle.thorin_join.proofs.Units.{each-named, Goes, IsAdded, IsKnown, kind-place, UnitsJoined}
+use Rattle.thorin_join.proofs.{Moved.identity-shifted, Moved.newer-five, Units.Listed}
 use Rattle.thorin_join.specs.Meaning.{named_at, named_each, named_sections}
-use Rattle.thorin_join.{proofs.Units.Reads, specs.StandApart.EachRow, specs.StandApart.rows_begun}
+use Rattle.thorin_join.{proofs.Units.WasRead, specs.StandApart.EachRow, specs.StandApart.rows_begun}
 use Rattle.dwp_base.specs.declared.section.SectionKind.TheVariants as kinds
 use Rattle.dwp_units.specs.declared.unit.UnitSection.TheVariants as places
 
@@ -82,14 +82,6 @@ each-new add Q R (n ∷ ns) [] are h k = absurd are
 each-new add Q R (n ∷ ns) (r ∷ rs) are h k =
     ((r, are.0, h.0, k.0), each-new add Q R ns rs are.1 h.1 k.1)
 
--- what stays so of a package with one more of such units
-pub each-added : (P : InProgress → Type 0) (Q : DwarfObject × NewUnit → Type 0)
-    → ((p : InProgress) (u : DwarfObject × NewUnit) → Q u → P p → P (with_unit_added p u))
-    → (p : InProgress) (us : News) → Each Q us → P p → P (with_new_units p us)
-each-added P Q keeps = unit-by-unit (λ p us now. Each Q us → P p → P now) (λ p are h. h)
-    (λ p u us now later are h. later are.1 h)
-    (λ p u us now later are h. later are.1 (keeps p u are.0 h))
-
 -- the row of a unit that is added to these contents
 abbrev pub row_with : Contents → DwarfObject × NewUnit → IndexEntry
 row_with c u = row_at u.1.row c u.0 u.1.bytes u.1.place
@@ -97,12 +89,6 @@ row_with c u = row_at u.1.row c u.0 u.1.bytes u.1.place
 -- what holds of it, wherever the unit's own bytes lie
 abbrev pub RowHas : (IndexEntry → Type 0) → DwarfObject × NewUnit → Type 0
 RowHas P u = (c : Contents) → P (row_with c u)
-
--- the row of a unit has what it shares
-shared-row : (shared : IndexEntry) (c : Contents) (name : DwarfObject) (x : List ℕ)
-    (place : UnitSection) (kind : SectionKind) → is_shared kind ≡ true
-    → contribution_to kind (row_at shared c name x place) ≡ contribution_to kind shared
-shared-row shared c name x place kind is = grind arith
 
 grows-self : (c : Contents) → Grows c c
 grows-self c kind = record { rest = []; is = sym (append-nil (content_of kind c)) }
@@ -119,7 +105,9 @@ module _ {source : Source} {before now : InProgress} (a : Made source before now
   pub with-each : (P : InProgress → Type 0) (Q : DwarfObject × NewUnit → Type 0)
       → ((p : InProgress) (u : DwarfObject × NewUnit) → Q u → P p → P (with_unit_added p u))
       → Each Q a.new.units → P parted → P now
-  with-each P Q keeps new h = subst P a.is (each-added P Q keeps parted a.new.units new h)
+  with-each P Q keeps new h = subst P a.is (unit-by-unit (λ p us now. Each Q us → P p → P now)
+      (λ p are h. h) (λ p u us now later are h. later are.1 h)
+      (λ p u us now later are h. later are.1 (keeps p u are.0 h)) parted a.new.units new h)
 
   pub with-any : (P : InProgress → Type 0) → ((p : InProgress) (u : DwarfObject × NewUnit) → P p
       → P (with_unit_added p u)) → P parted → P now
@@ -165,7 +153,9 @@ module _ {source : Source} {before now : InProgress} (a : Made source before now
       → (kind : SectionKind) → is_shared kind ≡ true → contribution_to kind (row_with c n)
       ≡ contribution_put kind (joined_parts kind a.parts) before.file.contents
   plain-part c n r is plain kind shared =
-      shared-row n.1.row c n.0 n.1.bytes n.1.place kind shared ∙ same-ok {E = ErrorValue} _ _
+      let same : contribution_to kind (row_with c n) ≡ contribution_to kind n.1.row =
+      grind (arith, row-part n.1.row c n.0 n.1.bytes n.1.place kind) in
+      same ∙ same-ok {E = ErrorValue} _ _
       (sym ((is-unit_row source.indexes _ r.0 n.1.row is.row).parts kind shared)
       ∙ adjusted-plain source.indexes r.0 kind _ plain)
       ∙ whole-part source.encoding before.file.contents a.parts kind shared
@@ -180,12 +170,11 @@ module _ {source : Source} {before now : InProgress} (a : Made source before now
       (news-are (λ place unit. Unit {0}) (each-all _ (λ used place at k unit there. tt) _))
 
   -- what holds of the rows before, however contents grow, and of those of such units, holds of all
-  pub rows-added : (T : UnitSection → Header → Type 0) → Each (IsNew T) a.new.units
-      → (P : Contents → IndexEntry → Type 0) → ((c d : Contents) (n : DwarfObject × NewUnit)
-      → IsNew T n → Grows parted.file.contents c
-      → Grows (with_bytes (kind_of n.1.place) n.1.bytes c) d → P d (row_with c n))
-      → ((d : Contents) → Grows before.file.contents d → EachRow (P d) before.rows)
-      → EachRow (P now.file.contents) now.rows
+  pub rows-added : (T : UnitSection → Header → Type 0) → Each (IsNew T) a.new.units → (P : Contents
+      → IndexEntry → Type 0) → ((c d : Contents) (n : DwarfObject × NewUnit) → IsNew T n
+      → Grows parted.file.contents c → Grows (with_bytes (kind_of n.1.place) n.1.bytes c) d
+      → P d (row_with c n)) → ((d : Contents) → Grows before.file.contents d
+      → EachRow (P d) before.rows) → EachRow (P now.file.contents) now.rows
   rows-added T news P new old =
       let base = parted.file.contents in
       let more = grows-with_parts a.parts before.file.contents in
@@ -273,9 +262,13 @@ module _ {source : Source} {before now : InProgress} (a : Made source before now
     new-format w c kind some =
         let own : is_in_format source.encoding (kind_of n.1.place) ≡ true =
         grind (arith, is.place, w.from, w.so) in
-        let format : is_in_format source.encoding kind ≡ true =
-        grind (arith, row-part n.1.row c n.0 n.1.bytes n.1.place kind, nothing-outside kind, some)
-        in
+        let format : is_in_format source.encoding kind ≡ true = grind (
+          arith,
+          row-part n.1.row c n.0
+              n.1.bytes n.1.place kind,
+          nothing-outside kind,
+          some,
+        ) in
         grind (arith, new-encoding c, some, format)
 
     -- its own bytes lie where it says, whatever follows them
@@ -365,8 +358,7 @@ module _ {source : Source} {before now : InProgress} (plain : is_package source.
       let f = first-front kinds.Abbrev source.object.sections in
       let grown = grows-trans base (with_bytes k x c) d
       (grows-trans base c (with_bytes k x c) grows (grows-with_bytes k x c)) up in
-      let part : part_of (content_of kinds.Abbrev d) (row_with c n).debug_abbrev
-      ≡ table ++ f.rest =
+      let part : part_of (content_of kinds.Abbrev d) (row_with c n).debug_abbrev ≡ table ++ f.rest =
       ap (part_of (content_of kinds.Abbrev d)) (plain-part a c n r is plain kinds.Abbrev refl)
       ∙ put-stays (content_of kinds.Abbrev before.file.contents) (joined_parts kinds.Abbrev a.parts)
       (content-with_parts kinds.Abbrev a.parts before.file.contents) (grown kinds.Abbrev)
@@ -375,8 +367,7 @@ module _ {source : Source} {before now : InProgress} (plain : is_package source.
         (λ i. identity (section order (part i)) (same i))
             ∙ identity-stays order table f.rest v.alone (Some r.0)
             (sym (identity-shifted (section order table) v.behind v.alone r.1.unit v.shifted)
-            ∙ named) ∙ ap (λ x. Ok (Some x))
-            (sym (row-name n.1.row c n.0 x n.1.place ∙ is.name)),
+            ∙ named) ∙ ap (λ x. Ok (Some x)) (sym (row-name n.1.row c n.0 x n.1.place ∙ is.name)),
       )
 
   pub names-kept : list_all (section_has source.encoding order) source.object.sections ≡ true

@@ -20,18 +20,18 @@ use Rattle.dwp_index.specs.Package.{found_counted, package_of, unit_at_row, unit
 use Rattle.dwp_units.proofs.Readings.{one_answer}
 use Rattle.dwp_units.specs.Units.{header_at, older_at, unit_at, units, units_within}
 use Rattle.std.proofs.Common.{get_or, unwrap_or, ◌↔◌}
-use Rattle.std.proofs.lemmas.List.Elements.{All-cons, All-from_recursion, All-map, All-nil}
-use Rattle.std.proofs.lemmas.List.Elements.{All-head, All-tail, recursion_from_All}
+use Rattle.std.proofs.lemmas.List.Elements.{All-cons, All-head, All-map, All-nil, All-tail}
+use Rattle.std.proofs.lemmas.List.Elements.{All-from_recursion, recursion_from_All}
 use Rattle.std.proofs.lemmas.{Map.Views.IfSome-lookup_from_All, Option.slice_get-get_or}
-use Rattle.thorin_again.proofs.Kept.{encoding-eq, HasInfo, named-kept, of-one, own-lies, rows-added}
-use Rattle.thorin_again.proofs.Kept.{input-rows, names-kept, new-encoding, news-are, order-added}
+use Rattle.thorin_again.proofs.Kept.{HasInfo, info-there, input-rows, new-encoding, rows-added}
+use Rattle.thorin_again.proofs.Kept.{encoding-eq, names-kept, of-one, OfOne, order-added, own-lies}
 use Rattle.thorin_again.proofs.Opened.{first-written, HaveEncoding, input-encoding, IsOwnRow}
 use Rattle.thorin_again.proofs.Opened.{mean_of, OwnMade, rows-of}
 use Rattle.thorin_again.proofs.Sections.{of-section, read-alone}
-use Rattle.thorin_again.proofs.{Kept.info-there, Kept.OfOne, Offsets.no-turn, Offsets.tiled-kept}
+use Rattle.thorin_again.proofs.{Kept.named-kept, Kept.news-are, Offsets.no-turn, Offsets.tiled-kept}
 use Rattle.thorin_again.specs.InFormat.{AreInFormat, HasEncodingOfOne, HaveEncodingsOf, IsInFormat}
-use Rattle.thorin_again.specs.OneEncoding.{AnswersAs, GivesWhole, HaveEncodingOnceWritten}
-use Rattle.thorin_again.specs.OneEncoding.{AnswersOnceWritten, IsOfEncoding, IsOfOneEncoding}
+use Rattle.thorin_again.specs.OneEncoding.{AnswersAs, IsOfEncoding, IsOfOneEncoding}
+use Rattle.thorin_again.specs.OneEncoding.{AnswersOnceWritten, GivesWhole, HaveEncodingOnceWritten}
 use Rattle.thorin_again.specs.Plain.{HasNamedUnits, HasTiledOffsets, HoldsPlain, IsPlain}
 use Rattle.thorin_again.specs.PlainInputs.{AreTaken, EachAdds, IsOfPlainObjects, IsPlainOf}
 use Rattle.thorin_again.specs.{Again.input_encoding, InFormat.IsOneOf, OwnInput.written_object}
@@ -40,8 +40,8 @@ use Rattle.thorin_input.specs.Encodings.{encoding_of, file_encoding, is_index, o
 use Rattle.thorin_input.specs.Encodings.{first_encoding, section_has}
 use Rattle.thorin_input.specs.Indexes.{index_in, indexes_of}
 use Rattle.thorin_join.proofs.Files.{finished-is, finished-order, finished-own}
-use Rattle.thorin_join.proofs.Joined.{all_there, made-order, same-begun, sound-inside, Takes, takes}
-use Rattle.thorin_join.proofs.Joined.{input-keeps, new-sound, source-made, TakesUnits}
+use Rattle.thorin_join.proofs.Joined.{all_there, input-keeps, made-order, sound-inside}
+use Rattle.thorin_join.proofs.Joined.{new-sound, same-begun, source-made, Takes, takes, TakesUnits}
 use Rattle.thorin_join.specs.Builder.{finish_test, names_in, order_of, start, State, taken}
 use Rattle.thorin_join.specs.{Builder.IsFinishedState, StandApart.EachRow, StandApart.rows_begun}
 use Rattle.thorin_join.{proofs.Rows.keep-part, specs.Join.GivesUnit, specs.Join.look_limit}
@@ -103,10 +103,10 @@ pub units-names : (begun : Option InProgress) → length (units_begun begun) ≡
 units-names begun = grind (arith, length-map)
 
 -- an input that is taken keeps it so
-pub taken-holds : (bytes : List ℕ) (old new : State) → HoldsOwn old → taken bytes old ≡ Ok new
-    → HoldsOwn new
+pub taken-holds : (bytes : List ℕ) (old new : State) → IsSoundBegun old.begun → HoldsOwn old
+    → taken bytes old ≡ Ok new → HoldsOwn new
 unfolding own_encoding file_encoding input_encoding
-taken-holds bytes old new holds h = record {
+taken-holds bytes old new sound holds h = record {
   some = λ e k. omega (arith, ((own-adds bytes old new e h).0 k).more, units-names new.begun);
   all = λ e k.
       let a = (own-adds bytes old new e h).0 k in
@@ -196,7 +196,7 @@ pub inputs-hold : (accepted : List (List ℕ)) (state : State) → AreTaken acce
 inputs-hold accepted state are = in-order (λ bytes. Unit {0}) (λ s. IsSoundBegun s.begun
     × HoldsOwn s × HoldsPlain s) (λ s targets h. assumption) (λ bytes old new q h took.
     let keeps = input-keeps bytes old.begun new.begun h.0 (begun-now bytes old new took) in
-    (keeps.sound, taken-holds bytes old new h.1 took, taken-plain bytes old new h.0 h.2 took))
+    (keeps.sound, taken-holds bytes old new h.0 h.1 took, taken-plain bytes old new h.0 h.2 took))
     accepted start state are (λ k d within. tt) (grind arith)
 
 -- plain objects of one encoding
@@ -303,15 +303,6 @@ abbrev pub IsEncoded : Endianness → Meaning → Type 0
 IsEncoded order unit = (place : UnitSection) (found : Header) (rest : Input)
     → unit_at place (section order unit.bytes) ≡ Ok (found, rest) → found.encoding ≡ unit.encoding
 
--- so of units with all that belongs to each
-abbrev pub AreEncoded : Endianness → Members → Type 0
-AreEncoded order units = All (λ (u : DwarfObject × Meaning). IsEncoded order u.1) units
-
--- a package keeps its byte order
-new-order : (file : Elf) (begun : Option InProgress) → (package_or_new file begun).file.order
-    ≡ order_of begun file.order
-new-order file = same-begun (λ b. order_of b file.order) file refl
-
 -- the byte order of a package after an input: that before, or the input's own
 pub input-order : (bytes : List ℕ) (file : Elf) (begun now : Option InProgress) (order : Endianness)
     → opened bytes ≡ Ok file → with_input bytes begun ≡ Ok now
@@ -322,7 +313,7 @@ input-order bytes file begun now order opens h =
       | inl w ↦ ap (λ b. order_of b order) (sym w.1.is)
           ∙ order-added (source-made w.1.source _ w.1.made w.1.with)
       | inr none ↦ ap (λ b. order_of b order) (sym none.1)
-    ] ∙ new-order t.file begun
+    ] ∙ same-begun (λ b. order_of b t.file.order) t.file refl begun
     ∙ ap (λ (e : Elf). order_of begun e.order) (one_answer (opened bytes) t.opens opens)
 
 -- so is what the unit of a row means, of each row of a package in its byte order
@@ -358,13 +349,11 @@ input-encoded bytes begun now one sound h before =
           places-encoding place new.3.place (section order bytes) (found, rest)
           (known.alone, known.rest) (ap (λ l. unit_at place (section order l)) (sym own) ∙ read)
           known.read ∙ sym known.shifted.encoding ∙ new.3.so.1 ∙ sym
-          (new-encoding a n new.0 new.1 c))
-          (λ d up. recursion_from_All (Encodes order d) old.rows
+          (new-encoding a n new.0 new.1 c)) (λ d up. recursion_from_All (Encodes order d) old.rows
           (λ k e within place found rest read.
           let row = get_or old.rows k e in
-          let kept = keep-part old.file.contents d row up
-          (All-from_recursion _ old.rows inside k e within)
-          (kind_of (place_of row.id row.debug_types)) in
+          let kept = keep-part old.file.contents d row up (All-from_recursion _ old.rows inside k e
+          within) (kind_of (place_of row.id row.debug_types)) in
           All-from_recursion (Encodes order old.file.contents) old.rows (rw (← same) at was) k e
           within place found rest (rw kept at read))) in
           subst Encoded u.is (rw (order-added a ∙ sym same) rows)
@@ -374,7 +363,8 @@ input-encoded bytes begun now one sound h before =
 -- look-ups that give these units give all their strings
 pub answers-whole : (order : Endianness) (units : Members) (file : File)
     → elf_of (file_text file) ≡ Ok (written_elf file) → file.order ≡ order
-    → AreEncoded order units → (pack : Package) → package_of (file_text file) ≡ Ok pack
+    → All (λ (u : DwarfObject × Meaning). IsEncoded order u.1) units → (pack : Package)
+    → package_of (file_text file) ≡ Ok pack
     → ((name : DwarfObject) → MatchOption (lookup (same_name name) units)
     (GivesNone pack name (look_limit units name)) (GivesUnit pack name (look_limit units name)))
     → AnswersAs units (file_text file)
@@ -427,18 +417,12 @@ rows-encoded {encoding} {made} own names =
     λ place found rest is. places-encoding place owns.place (section order bytes) (found, rest) u.0
     is u.1 ∙ named.0 ∙ sym all)
 
--- where there are bytes, something is read of them
-units-there : (order : Endianness) (bytes : List ℕ) → 0 < length bytes
-    → units places.Info (section order bytes) ≡ [] → ⊥
-unfolding units units_within
-units-there order bytes some none = grind arith
-
 -- so has the first unit that is read of info
 pub first-of : (made : InProgress) (file : File) (encoding : Encoding) → IsSound made
     → IsFinished made file → KindsDiffer file.contents → Encoded (Some made)
     → HaveEncoding encoding made.rows → 0 < length (content_of (kind_of places.Info) file.contents)
     → encoding_of (written_object file) ≡ Ok encoding
-unfolding encoding_of
+unfolding encoding_of units units_within
 first-of made file encoding sound fin differ encoded alike some =
     let order = made.file.order in
     let contents = made.file.contents in
@@ -450,7 +434,8 @@ first-of made file encoding sound fin differ encoded alike some =
     (λ are all none. absurd (none refl)) (λ r rs got other later are all. later are.1 all.1)
     (λ r rs h got u later are all none. ap Ok (u.shifted.encoding
     ∙ are.0 (place_of r.id r.debug_types) u.alone u.rest (read-alone u) ∙ all.0))
-    sound.laid.once sound.laid.info encoded alike (units-there order _ (rw own at some))
+    sound.laid.once sound.laid.info encoded alike
+    (λ none. let there = rw own at some in grind (arith, there, none))
 
 -- all have the encoding too, and info has bytes where there are units
 abbrev Filled : Encoding → Option InProgress → Type 0

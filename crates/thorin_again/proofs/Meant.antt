@@ -170,10 +170,9 @@ module _ {encoding : Encoding} {file : File} {indexes : Indexes} {made : InProgr
       grind (arith, bytes-own u, is.owns.place_is, is.owns.bytes) in
       let inside : lie_inside source (Some parts.row) ≡ true = λ i. is_none (find (λ k. outside k i)
       shared_kinds) in
-      let strings_are = (λ i. strings_of file.order (encoding_is i)
-      ((read.held kinds.Str ∙ read.strings_are) i) (bytes-are kinds.StrOffsets i))
-      ∙ strings-are _ _ _ _ _
-      (is.shares.string made.strings read.own.sound.units.table (take-length made.strings)) in
+      let strings_are = (λ i. strings_of file.order (encoding_is i) ((read.held kinds.Str ∙
+      read.strings_are) i) (bytes-are kinds.StrOffsets i)) ∙ strings-are _ _ _ _ _ (is.shares.string
+      made.strings read.own.sound.units.table (take-length made.strings)) in
       rw inside (ap (meaning_with source u.own (Some parts.row)) strings_are
       ∙ (λ i. Some (record {
         bytes = own_is i;
@@ -347,10 +346,9 @@ module _ {encoding : Encoding} {file : File} {indexes : Indexes} {made : InProgr
       (rw take-append_seam at (All-take (IsTested input) n _ both)) in
       let t = units-are places.Types split.1 split.3
       (rw drop-append_seam at (All-drop (IsTested input) n _ both)) in
-      let joined : all_meant (members (mean_of made) (rows_at places.Info made.rows ++
-      rows_at places.Types
-      made.rows)) ≡ units_meant (split.0 ++ split.1) =
-      simp map-append (ap₂ (λ a b. a ++ b) (sym i) (sym t)) in
+      let joined : all_meant (members (mean_of made) (rows_at places.Info made.rows ++ rows_at
+      places.Types made.rows)) ≡ units_meant (split.0 ++ split.1) = simp map-append (ap₂ (λ a b. a
+      ++ b) (sym i) (sym t)) in
       IsPermutation-trans _ _ _ (IsPermutation-map _ _ _ (IsPermutation-map _ made.rows _ apart))
       (rw joined (IsPermutation-map (meant input) _ all split.4))
 

@@ -13,22 +13,22 @@ use Joined.{same_Some, slice_range, Some, Source, Str, string_at, string_in, Str
 use Joined.{sym, take, take-length, true, with_source, zero, [], ℕ, ◌*◌, ◌++◌, ◌+◌, ◌<◌, ◌>>=◌, ◌∙◌}
 use Joined.{◌∷◌, ◌≡◌, ◌≤◌, ◌⊎◌}
 use Rattle.dwp_base.specs.Numbers.{number}
-use Rattle.std.proofs.Common.{add-mul, eqb-true, leb, leb-false, lt-ltb, true≢false, zero-mul}
-use Rattle.std.proofs.Common.{⊎_elim}
+use Rattle.std.proofs.Common.{add-mul, eqb-true, leb, leb-false, lt-ltb, true≢false, ⊎_elim}
+use Rattle.std.proofs.Common.{zero-mul}
 use Rattle.std.proofs.{lemmas.Bool.eqb-false, lemmas.Nat.row_fits, Math.Seq.drop-append-add}
-use Rattle.thorin_again.proofs.Kept.{content-added, parted, row_with, RowHas, rows-share, with-each}
-use Rattle.thorin_again.proofs.{Kept.once-more, Kept.order-added, Kept.with-any, Sections.tile-end}
-use Rattle.thorin_again.specs.Plain.{GiveStrings, HasOneOf, IsAmong, IsOfSome, IsWholeRange, Tile}
-use Rattle.thorin_again.specs.{OwnRefusals.UnlessStringOffset, Plain.HasTiledOffsets}
-use Rattle.thorin_join.proofs.Parts.{each-part, joined_parts-other, no-entries, rewritten-plain}
-use Rattle.thorin_join.proofs.Parts.{has-other, joined_parts-more, Rewritten, units-strings}
+use Rattle.thorin_again.proofs.Kept.{content-added, once-more, parted, row_with, RowHas, rows-share}
+use Rattle.thorin_again.proofs.{Kept.order-added, Kept.with-any, Kept.with-each, Sections.tile-end}
+use Rattle.thorin_again.specs.Plain.{GiveStrings, HasTiledOffsets, IsOfSome, IsWholeRange, Tile}
+use Rattle.thorin_again.specs.{OwnRefusals.UnlessStringOffset, Plain.HasOneOf, Plain.IsAmong}
+use Rattle.thorin_join.proofs.Joined.{Made as Added, source-made}
+use Rattle.thorin_join.proofs.Parts.{each-part, has-more, has-other, rewritten-plain, units-strings}
+use Rattle.thorin_join.proofs.Parts.{joined_parts-more, joined_parts-other, no-entries, Rewritten}
 use Rattle.thorin_join.proofs.Rows.{own-bytes, place-put, range-front, range_for}
-use Rattle.thorin_join.proofs.{Joined.Made as Added, Joined.source-made, Parts.has-more}
 use Rattle.thorin_join.{proofs.Ranges.count-again, proofs.Ranges.range-of, specs.StandApart.EachRow}
 use Rattle.thorin_package_input.specs.PackagedOffsets.{ranges_test, rewritten_from}
 use Rattle.thorin_package_input.specs.PackagedReading.{range_bytes}
-use Rattle.thorin_strings.specs.StringOffsets.{entry_bytes, header_of, offset_at, remapped_entry}
-use Rattle.thorin_strings.specs.StringOffsets.{remapped_entries}
+use Rattle.thorin_strings.specs.StringOffsets.{entry_bytes, header_of, offset_at, remapped_entries}
+use Rattle.thorin_strings.specs.StringOffsets.{remapped_entry}
 
 -- ranges that lie one directly behind the other
 module _ (order : Endianness) (encoding : Encoding) where
@@ -84,15 +84,12 @@ module _ (order : Endianness) (encoding : Encoding) where
         (grind (arith, nat_tests, count, room, whole.long, read k)) in
         (s.0, grind (arith, nat_tests, room, whole.long, s.1))
 
-  -- a range of these bytes is whole, and each of its entries names a string
-  abbrev pub CanRewrite : (section bytes : List ℕ) → Contribution → Type 0
-  CanRewrite section bytes r = (whole : IsWholeRange order encoding r.size)
-      × AreNamed section (range_bytes bytes r) whole.count
-
-  -- such ranges are rewritten in turn, unless the offset of a string doesn't fit
+  -- whole ranges, each of whose entries names a string, are rewritten in turn, unless the offset of
+  -- a string doesn't fit
   pub all-rewritten : (section bytes : List ℕ) (at : ℕ) (ranges : List Contribution)
       (strings : List (List ℕ)) → ((r : Contribution) → IsAmong r ranges
-      → CanRewrite section bytes r)
+      → (whole : IsWholeRange order encoding r.size)
+      × AreNamed section (range_bytes bytes r) whole.count)
       → UnlessStringOffset (rewritten_from order encoding section bytes at ranges strings)
   unfolding rewritten_from
   all-rewritten section bytes at [] strings can = tt

@@ -27,25 +27,25 @@ use Rattle.dwp_table.specs.Columns.{column_of}
 use Rattle.std.proofs.{ByRecursion.all_kept_by, lemmas.List.Elements.recursion_from_All}
 use Rattle.std.proofs.{Common.bytes_eq, lemmas.Bool.or_right, Math.ListN.get_or-map}
 use Rattle.thorin_again.proofs.Offsets.{all-rewritten, are-named, tile-tested}
-use Rattle.thorin_again.proofs.Sections.{any-chosen, at-row, one-is-there, passing, some-has}
-use Rattle.thorin_again.proofs.Sections.{has-range, ranges-are, tile-lies}
-use Rattle.thorin_again.specs.OwnInput.{CanTake, IsOwn, own_source, TakesParts, written_object}
+use Rattle.thorin_again.proofs.Sections.{any-chosen, at-row, has-range, passing, ranges-are}
+use Rattle.thorin_again.proofs.Sections.{one-is-there, some-has, tile-lies}
+use Rattle.thorin_again.specs.OwnInput.{CanTake, IsOwn, own_source, TakesParts, TakesUpToParts}
 use Rattle.thorin_again.specs.OwnUnits.{AllOf}
-use Rattle.thorin_again.specs.{Again.input_encoding, OwnInput.TakesUpToParts, OwnInput.written_used}
+use Rattle.thorin_again.specs.{Again.input_encoding, OwnInput.written_object, OwnInput.written_used}
 use Rattle.thorin_again.specs.{OwnRefusals.UnlessStringOffset, Plain.HasTiledOffsets, Plain.IsPlain}
 use Rattle.thorin_index.proofs.ReadAgain.{index_is_read, written_rows}
 use Rattle.thorin_index.{proofs.Held.have_passed, proofs.Held.used_known, specs.IndexText.is_used}
 use Rattle.thorin_input.specs.Indexes.{index_in, indexes_of, version_test}
-use Rattle.thorin_input.specs.Used.{counts_once, has_kind, opened, used_bytes, used_from, used_kind}
+use Rattle.thorin_input.specs.Used.{counts_once, has_kind, is_present, opened, used_from, used_kind}
 use Rattle.thorin_input.specs.{Encodings.encoding_of, Format.is_in_format, Format.is_of_units}
-use Rattle.thorin_input.{proofs.Walking.found-any, specs.Used.is_present}
-use Rattle.thorin_join.proofs.Files.{chosen-fit, finished-own, no-bytes, nothing, tested-state}
-use Rattle.thorin_join.proofs.Files.{finished-content, finished-order, HasRows, members, Tested}
-use Rattle.thorin_join.proofs.{Files.finished-strings, Parts.rewritten-package, Parts.slice-long}
-use Rattle.thorin_join.proofs.{Rows.part-inside, Units.distinct_chosen}
-use Rattle.thorin_join.specs.Builder.{finish_test, IsFinishedState, order_of, State, with_units}
+use Rattle.thorin_input.{proofs.Walking.found-any, specs.Used.used_bytes}
+use Rattle.thorin_join.proofs.Files.{chosen-fit, finished-order, finished-strings, tested-state}
+use Rattle.thorin_join.proofs.Files.{finished-content, finished-own, no-bytes, nothing, Tested}
+use Rattle.thorin_join.proofs.{Parts.rewritten-package, Parts.slice-long, Units.distinct_chosen}
+use Rattle.thorin_join.specs.Builder.{finish_test, IsFinishedState, same_order, source_for, State}
 use Rattle.thorin_join.specs.Laid.{IsLaid, Lie, rows_at}
-use Rattle.thorin_join.specs.{Builder.same_order, Builder.source_for, StandApart.EachRow}
+use Rattle.thorin_join.{proofs.Files.HasRows, proofs.Files.members, specs.StandApart.EachRow}
+use Rattle.thorin_join.{proofs.Rows.part-inside, specs.Builder.order_of, specs.Builder.with_units}
 use Rattle.thorin_package_input.proofs.Rows.{range_is}
 use Rattle.thorin_package_input.specs.{PackagedOffsets.rewritten_from, PackagedReading.range_bytes}
 use Rattle.dwp_base.specs.declared.section.SectionKind.TheVariants as kinds
@@ -300,9 +300,8 @@ rows-of e made all =
     let is = all k (unit d) (omega (arith, within, long)) in
     grind (arith, is, get_or-map unit made.rows k d))
 
-each-row : (order : Endianness) (c : Contents) (strings : List (List ℕ))
-    (mean : IndexEntry → Meaning) (rows : List IndexEntry)
-    → AreRowsOf order c strings rows (members mean rows)
+each-row : (order : Endianness) (c : Contents) (strings : List (List ℕ)) (mean : IndexEntry
+    → Meaning) (rows : List IndexEntry) → AreRowsOf order c strings rows (members mean rows)
     → EachRow (λ row. IsRowOf order c strings row (row.id, mean row)) rows
 each-row order c strings mean [] are = tt
 each-row order c strings mean (r ∷ rs) are = (are.0, each-row order c strings mean rs are.1)

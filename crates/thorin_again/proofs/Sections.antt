@@ -151,9 +151,8 @@ module _ (order : Endianness) (contents : Contents) (place : UnitSection) (rows 
   -- from rows on whose units begin at an offset of the section
   from : (before todo : List IndexEntry) (pre bytes : List ℕ) (offset n : ℕ) → rows ≡ before ++ todo
       → HaveOneRange todo → All (IsBelow (kind_of place) offset) before → Lie order place offset
-      (rows_at place todo) bytes → content_of (kind_of place) contents ≡ pre ++ bytes
-      → length pre ≡ offset
-      → length bytes ≤ n → P todo (units_within n place (plain order offset bytes))
+      (rows_at place todo) bytes → content_of (kind_of place) contents ≡ pre ++ bytes → length pre
+      ≡ offset → length bytes ≤ n → P todo (units_within n place (plain order offset bytes))
   unfolding units_within
   from before [] pre bytes offset zero split once below lie content at fuel = none
   from before [] pre bytes offset (suc n) split once below lie content at fuel = rw lie none
@@ -194,22 +193,19 @@ module _ (order : Endianness) (contents : Contents) (place : UnitSection) (rows 
       }) (from (before ++ r ∷ []) rs (pre ++ own) head.rest end (n - 1) next once.1
       (All-push (IsBelow (kind_of place) end) before r
       (All-weaker (IsBelow (kind_of place) offset) (IsBelow (kind_of place) end) (λ x h c e.
-      omega (arith, h c e))
-      before below) (λ c e. grind (arith, head.range, head.is.some)))
+      omega (arith, h c e)) before below) (λ c e. grind (arith, head.range, head.is.some)))
       l.1 (content_is ∙ sym (append_assoc pre own head.rest))
       (length-append pre own ∙ ap (λ k. k + length own) at) (omega (arith, head.is.some)))))
       (λ other. passed r rs _ other (from (before ++ r ∷ []) rs pre bytes offset n next once.1
       (All-push (IsBelow (kind_of place) offset) before r below (λ c e.
-      grind (arith, once.0 place other)))
-      (rw other at lie) content at fuel))
+      grind (arith, once.0 place other))) (rw other at lie) content at fuel))
 
   pub of-section : HaveOneRange rows → Lie order place 0 (rows_at place rows)
       (content_of (kind_of place) contents)
       → P rows (units place (section order (content_of (kind_of place) contents)))
   unfolding units
   of-section once lie = from [] rows [] _ 0 _ refl once (All-nil (IsBelow (kind_of place) 0)) lie
-      refl
-      refl (omega arith)
+      refl refl (omega arith)
 
 -- a section of units that has bytes is one that a row names
 pub lie-used : (order : Endianness) (place : UnitSection) (offset : ℕ) (rows : List IndexEntry)
