@@ -15,20 +15,21 @@ use Rattle.thorin_builder.specs.Taking.{TakesRead, TakesReferred, TakesSkeleton,
 use Rattle.thorin.specs.{declared.packing.Input.Input, Run.IsWritten, Run.Ran, Run.TakesInput}
 use Rattle.thorin_errors.specs.declared.error.InputError.TheVariants.{Io, Memory as no_memory}
 use Rattle.thorin_builder.specs.Taking.{Came, came, Outcome, TakesBytes, TakesExecutableRead}
-use Rattle.std.proofs.lemmas.List.{Folds.list_any-append, map-set, Sorted.IsPermutation-sym}
+use Rattle.std.proofs.lemmas.List.{Folds.list_any-append, Sorted.IsPermutation-sym}
 use Rattle.thorin.specs.Groups.{IsPackageOfAll, IsPackedAlone, IsPackedInGroups, taken_each}
 use Rattle.{dwp_base.proofs.Bools.both as both-true, thorin_join.proofs.Joined.input-keeps}
-use Rattle.std.proofs.Math.{ListN.get_or-map, Seq.drop-append_seam, Seq.take-append_seam}
+use Rattle.std.proofs.Math.{Seq.drop-append_seam, Seq.take-append_seam}
 use Rattle.thorin.specs.Groups.{AreJoined, ArePackedAlone, HaveTheirEncodings, inputs_of}
 use Rattle.thorin_join.proofs.Units.{apart-none, joined_distinct, same_name-true}
 use Rattle.thorin_join.specs.Builder.{finish_test, IsFinishedState, start, State, taken}
 use Rattle.thorin_executable.specs.Skeletons.{Listed, named_skeletons_of, skeletons_of}
 use Rattle.std.{proofs.lemmas.Map.Keys.IsDistinct-from_apart, specs.Option.option_or}
 use Rattle.thorin_join.specs.{Join.IsPackageOf, Join.JoinAll, Meaning.input_meaning}
-use Rattle.std.proofs.Common.{flat_map, IsPermutation, map-id, rules, swap, ◌==◌}
+use Rattle.std.proofs.Common.{flat_map, IsPermutation, map-id, rules, ◌==◌}
 use Rattle.thorin_again.proofs.Accepted.{count-again, equivalence, found-again}
 use Rattle.std.specs.List.{drop-map, IsDistinct, Sorted.apply_swaps, take-map}
-use Rattle.{dwp_elf.specs.Written.written_elf, indexmap.specs.Layout.hash_map}
+use Rattle.{dwp_elf.specs.Written.written_elf, indexmap.proofs.ReorderLemmas.map-swap}
+use Rattle.indexmap.specs.Layout.{hash_map}
 use Rattle.thorin_again.{proofs.Lists.begun-now, specs.PlainInputs.AreTaken}
 use Rattle.thorin_builder.{proofs.Inputs.Offer, specs.Taking.with_target}
 use Rattle.thorin_errors.specs.declared.error.InputError.{InputError}
@@ -94,10 +95,10 @@ none-accepted {old = old} nothing = rw (nothing.1, nothing.0) ((old.targets, ref
 
 -- so it is by what came of something
 abbrev Accepting : (State → Came → Type 0) → Type 0
-Accepting takes = (old new : State) (outcome : Outcome) (accepted : List (List ℕ))
-    → takes old (came outcome new accepted) → Accepts accepted old new
+Accepting takes = (old : State) (c : Came) → takes old c → Accepts c.accepted old c.new
 
-of-bytes : (bytes : List ℕ) → Accepting (TakesBytes bytes)
+of-bytes : (bytes : List ℕ) (old new : State) (outcome : Outcome) (accepted : List (List ℕ))
+    → TakesBytes bytes old (came outcome new accepted) → Accepts accepted old new
 of-bytes bytes old new (Ok x) accepted takes = rw takes.1 (
   (old.targets, new, takes.0.meaning, (new.targets, refl)),
   (units_in new, takes.0.joins, refl),
@@ -105,57 +106,57 @@ of-bytes bytes old new (Ok x) accepted takes = rw takes.1 (
 of-bytes bytes old new (Err e) accepted takes = none-accepted (takes.0.unchanged, takes.1)
 
 of-read : (read : Result (List ℕ) InputError) → Accepting (TakesRead read)
-of-read (Ok bytes) old new outcome accepted takes = of-bytes bytes old new outcome accepted takes
-of-read (Err e) old new outcome accepted takes = none-accepted takes.1
+of-read (Ok bytes) old c takes = of-bytes bytes old c.new c.outcome c.accepted takes
+of-read (Err e) old c takes = none-accepted takes.1
 
 module _ (offer : Offer) (missing : MissingReferencedObjectBehaviour) where
   of-referred : (read : Result (List ℕ) InputError) → Accepting (TakesReferred missing read)
-  of-referred (Ok bytes) old new outcome accepted takes =
-      of-bytes bytes old new outcome accepted takes
-  of-referred (Err (Io cause)) old new outcome accepted takes = none-accepted takes.1
-  of-referred (Err no_memory) old new outcome accepted takes = none-accepted takes.1
+  of-referred (Ok bytes) old c takes = of-bytes bytes old c.new c.outcome c.accepted takes
+  of-referred (Err (Io cause)) old c takes = none-accepted takes.1
+  of-referred (Err no_memory) old c takes = none-accepted takes.1
 
   of-skeleton : (named : DwarfObject × List ℕ) → Accepting (TakesSkeleton offer missing named)
-  of-skeleton named old new outcome accepted (inl there) = none-accepted there.2
-  of-skeleton named old new outcome accepted (inr (inl takes)) =
+  of-skeleton named old c (inl there) = none-accepted there.2
+  of-skeleton named old c (inr (inl takes)) =
       let file = takes.file in
-      rw takes.accepted_is (from-target named.0 file.accepted old new (of-referred file.read
-      (with_target named.0 old) new outcome file.accepted file.taken))
-  of-skeleton named old new outcome accepted (inr (inr none)) = none-accepted none.1
+      rw takes.accepted_is (from-target named.0 file.accepted old c.new (of-referred file.read
+      (with_target named.0 old) (came c.outcome c.new file.accepted) file.taken))
+  of-skeleton named old c (inr (inr none)) = none-accepted none.1
 
   of-skeletons : (list : List (DwarfObject × List ℕ)) (error : Option ErrorValue)
       → Accepting (TakesSkeletons offer missing list error)
-  of-skeletons [] error old new outcome accepted takes = none-accepted takes.1
-  of-skeletons (n ∷ ns) error old new outcome accepted (s, Ok x, takes, goes) =
-      more-accepted s.here s.later accepted old s.middle new goes.1
-      (of-skeleton n old s.middle (Ok x) s.here takes)
-      (of-skeletons ns error s.middle new outcome s.later goes.0)
-  of-skeletons (n ∷ ns) error old new outcome accepted (s, Err e, takes, goes) =
-      rw (goes.2, goes.1) (of-skeleton n old s.middle (Err e) s.here takes)
+  of-skeletons [] error old c takes = none-accepted takes.1
+  of-skeletons (n ∷ ns) error old c (s, Ok x, takes, goes) =
+      more-accepted s.here s.later c.accepted old s.middle c.new goes.1
+      (of-skeleton n old (came (Ok x) s.middle s.here) takes)
+      (of-skeletons ns error s.middle (came c.outcome c.new s.later) goes.0)
+  of-skeletons (n ∷ ns) error old c (s, Err e, takes, goes) =
+      rw (goes.2, goes.1) (of-skeleton n old (came (Err e) s.middle s.here) takes)
 
   of-executable : (names : List ℕ → Listed) (read : Result (List ℕ) InputError)
       → Accepting (TakesExecutableRead names offer missing read)
-  of-executable names (Ok bytes) old new outcome accepted takes =
-      of-skeletons takes.named takes.error old new outcome accepted takes.taken
-  of-executable names (Err e) old new outcome accepted takes = none-accepted takes.1
+  of-executable names (Ok bytes) old c takes =
+      of-skeletons takes.named takes.error old c takes.taken
+  of-executable names (Err e) old c takes = none-accepted takes.1
 
 of-input : (offer : Offer) (input : Input)
     → Accepting (λ old c. TakesInput offer input old c.outcome c.new c.accepted)
-of-input offer (inputs.Object path) old new outcome accepted (t, is) =
-    rw is (of-read t.read old new outcome t.accepted t.taken)
-of-input offer (inputs.Bytes bytes) old new outcome accepted takes =
-    of-bytes bytes.now old new outcome accepted takes
-of-input offer (inputs.Executable path missing) old new outcome accepted (t, is) =
-    rw is (of-executable offer missing skeletons_of t.read old new outcome t.accepted t.taken)
-of-input offer (inputs.ExecutableSkippingNameless path missing) old new outcome accepted (t, is) =
-    rw is (of-executable offer missing named_skeletons_of t.read old new outcome t.accepted t.taken)
+of-input offer (inputs.Object path) old c (t, is) =
+    rw is (of-read t.read old (came c.outcome c.new t.accepted) t.taken)
+of-input offer (inputs.Bytes bytes) old c takes =
+    of-bytes bytes.now old c.new c.outcome c.accepted takes
+of-input offer (inputs.Executable path missing) old c (t, is) = rw is
+    (of-executable offer missing skeletons_of t.read old (came c.outcome c.new t.accepted) t.taken)
+of-input offer (inputs.ExecutableSkippingNameless path missing) old c (t, is) =
+    rw is (of-executable offer missing named_skeletons_of t.read old
+    (came c.outcome c.new t.accepted) t.taken)
 
 pub run-accepts : (offer : Offer) (list : List Input) (old new : State) (outcomes : List Outcome)
     (accepted : List (List ℕ)) → Ran offer list old outcomes new accepted → Accepts accepted old new
 run-accepts offer [] old new [] accepted ran = none-accepted ran
 run-accepts offer (i ∷ is) old new (o ∷ os) accepted (s, takes, rest, all) =
     more-accepted s.here s.later accepted old s.middle new all
-    (of-input offer i old s.middle o s.here takes)
+    (of-input offer i old (came o s.middle s.here) takes)
     (run-accepts offer is s.middle new os s.later rest)
 run-accepts offer _ old new _ accepted ran = absurd ran
 
@@ -405,24 +406,18 @@ taken-joins (bytes ∷ rest) old new sound are =
 
 -- ---- units in another order
 
-swap-map : {A B : Type 0} (f : A → B) (xs : List A) (i j : ℕ)
-    → swap (map f xs) i j ≡ map f (swap xs i j)
-swap-map f [] i j = refl
-swap-map f (x ∷ xs) i j = simp (map-set, get_or-map f (x ∷ xs) j x, get_or-map f (x ∷ xs) i x)
-
-swaps-map : {A B : Type 0} (f : A → B) (xs : List A) (moves : List (ℕ × ℕ))
-    → apply_swaps (map f xs) moves ≡ map f (apply_swaps xs moves)
-swaps-map f xs [] = refl
-swaps-map f xs (m ∷ ms) = rw (swaps-map f xs ms) (swap-map f (apply_swaps xs ms) m.0 m.1)
-
 -- another order of what is made of a list is made of the list in another order
 lifted : {A B : Type 0} (f : A → B) (xs : List A) (ys : List B) → IsPermutation (map f xs) ys
     → (zs : List A) × (ys ≡ map f zs) × IsPermutation xs zs
 lifted f xs ys h = (
   apply_swaps xs h.moves,
-  h.is ∙ swaps-map f xs h.moves,
+  h.is ∙ swapped h.moves,
   record { moves = h.moves; below = rw (← length-map xs f) h.below; is = refl },
 )
+  where
+    swapped : (moves : List (ℕ × ℕ)) → apply_swaps (map f xs) moves ≡ map f (apply_swaps xs moves)
+    swapped [] = refl
+    swapped (m ∷ ms) = rw (swapped ms) (sym (map-swap f (apply_swaps xs ms) m.0 m.1))
 
 -- ---- groups
 

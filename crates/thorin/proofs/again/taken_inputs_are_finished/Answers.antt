@@ -4,7 +4,7 @@
 use Rattle.thorin_join.proofs.Terms as Joined
 use Joined.{ap, arith, bind-was, Bool, codes, content_of, Contribution, drop, Each, Encoding}
 use Joined.{Endianness, Err, ErrorValue, filter, Format, IndexEntry, inl, InProgress, inr}
-use Joined.{is_compilation, is_some, IsSound, IsSoundBegun, length, length-append, length-drop}
+use Joined.{is_compilation, is_some, IsSound, length, length-append, length-drop}
 use Joined.{LieInside, List, nat_tests, None, not, Ok, Option, refl, Result, SectionKind, Some}
 use Joined.{subst, true, ℕ, [], ◌*◌, ◌+◌, ◌-◌, ◌<◌, ◌>>=◌, ◌^◌, ◌∷◌, ◌≡◌, ◌≤◌, ◌⊎◌}
 use Rattle.thorin_again.specs.{InFormat.HasEncodingOfOne, InFormat.IsInFormat, PlainInputs.AreTaken}
@@ -116,18 +116,8 @@ abbrev HasColumns : ℕ → IndexEntry → Type 0
 HasColumns version row = (kind : SectionKind) → is_some (contribution_to kind row) ≡ true
     → is_some (column_of version kind) ≡ true
 
-no-column : (version : ℕ) (kind : SectionKind) (range : Option Contribution) (error : ErrorValue)
-    → (is_some range ≡ true → is_some (column_of version kind) ≡ true)
-    → format_test version kind range ≡ Err error → ⊥
-no-column version kind range error has h = grind (arith, has)
-
 same-self : (encoding : Encoding) → same_encoding encoding encoding ≡ true
 same-self encoding = grind (arith, nat_tests)
-
-other-encoding : (encoding : Encoding) (row : IndexEntry) (error : ErrorValue)
-    → encoding_test encoding row ≡ Err error
-    → (error ≡ MixedInputEncodings) × (encoding ≡ row.encoding → ⊥)
-other-encoding encoding row error h = grind (arith, same-self row.encoding)
 
 -- ---- the tests of an index
 
@@ -173,7 +163,7 @@ module _ (inputs : List (List ℕ)) (state : State) (error : ErrorValue) where
       subst (λ v. is_some (column_of (index_version_of v) kind) ≡ true) same (in_format kind some))
       rows format passed in
       let f = contribution-failed (HasColumns version) (format_test version) error rows columns h in
-      no-column version f.2 (contribution_to f.2 f.0) error (f.1 f.2) f.3
+      grind (arith, f.1 f.2, f.3)
 
   mixed : (row : IndexEntry) (rows : List IndexEntry)
       → EachRow (HasEncodingOfOne inputs) (row ∷ rows)
@@ -181,7 +171,8 @@ module _ (inputs : List (List ℕ)) (state : State) (error : ErrorValue) where
   mixed row rows encodings h =
       let r = each-failed (HasEncodingOfOne inputs) (encoding_test row.encoding) error (row ∷ rows)
       encodings h in
-      let other = other-encoding row.encoding r.0 error r.2 in (
+      let other : (error ≡ MixedInputEncodings) × (row.encoding ≡ r.0.encoding → ⊥) =
+      grind (arith, r.2, same-self r.0.encoding) in (
         record {
           one = encodings.0.0;
           one_among = encodings.0.1;

@@ -1,8 +1,8 @@
 -- The type units that an input's steps pass over and find to differ are those of its list of units.
-use Rattle.thorin_join.proofs.Terms.{DwarfObject, IndexEntry, InProgress, Ok, Option, sym, TypeUnit}
+use Rattle.thorin_join.proofs.Terms.{DwarfObject, IndexEntry, InProgress, Ok, Option, sym}
 use Rattle.thorin_join.proofs.Terms.{Elf, inr, List, map, map-append, Source, ℕ, [], ◌++◌, ◌∷◌, ◌≡◌}
 use Rattle.thorin_join.specs.{Builder.package_or_new, Represents.meaning_at, Represents.units_begun}
-use Rattle.thorin_join.proofs.Terms.{ap, append-nil, Compilation, inl, Meaning, same-ok, same_name}
+use Rattle.thorin_join.proofs.Terms.{ap, append-nil, inl, Meaning, same-ok, same_name}
 use Rattle.thorin_join.proofs.{Joined.source-made, Joined.takes, Joined.with_all_parts, Terms.Some}
 use Rattle.thorin.specs.Differing.{differing, differing_by, input_units, object_units, read_bytes}
 use Rattle.thorin_join.proofs.Terms.{append_assoc, bind-was, None, refl, source_units, UnitRead}
