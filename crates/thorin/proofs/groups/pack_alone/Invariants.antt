@@ -1,6 +1,5 @@
 use Rattle.thorin.specs.Groups.{bytes_in, taken_each}
-use Rattle.thorin_join.proofs.Terms.{drop, ◌≡◌}
-use Rattle.thorin_join.specs.Builder.{start}
+use Rattle.thorin_join.{proofs.Terms.drop, proofs.Terms.◌≡◌, specs.Builder.start}
 use Rattle.thorin.proofs.groups.pack_alone.Given as goal
 
 -- what comes of the inputs that are left comes of all

@@ -1,18 +1,17 @@
 -- The type units that an input's steps pass over and find to differ are those of its list of units.
-use Rattle.thorin_join.proofs.Terms.{DwarfObject, IndexEntry, InProgress, Ok, Option, sym}
-use Rattle.thorin_join.proofs.Terms.{Elf, inr, List, map, map-append, Source, ℕ, [], ◌++◌, ◌∷◌, ◌≡◌}
-use Rattle.thorin_join.specs.{Builder.package_or_new, Represents.meaning_at, Represents.units_begun}
-use Rattle.thorin_join.proofs.Terms.{ap, append-nil, inl, Meaning, same-ok, same_name}
-use Rattle.thorin_join.proofs.{Joined.source-made, Joined.takes, Joined.with_all_parts, Terms.Some}
 use Rattle.thorin.specs.Differing.{differing, differing_by, input_units, object_units, read_bytes}
-use Rattle.thorin_join.proofs.Terms.{append_assoc, bind-was, None, refl, source_units, UnitRead}
-use Rattle.thorin_join.proofs.{Terms.Used, Units.Steps, Units.units-read}
-use Rattle.std.proofs.{Common.rules, lemmas.Map.Made.lookup-map_values, lemmas.Simd.map-map}
-use Rattle.{dwp_units.specs.Units.Unit as Header, thorin_again.proofs.Lists.begun-now}
 use Rattle.thorin_input.specs.NewUnits.{Adding, New, NewUnit, with_first, with_unit}
-use Rattle.thorin_join.{proofs.Parts.each-unit, specs.Builder.differing_begun}
-use Rattle.thorin_join.specs.State.{adding, held_units, with_source}
-use Rattle.thorin.specs.Differing.{Bytes, own_bytes}
+use Rattle.thorin_join.proofs.Joined.{source-made, takes, with_all_parts}
+use Rattle.thorin_join.proofs.Terms.{Elf, inl, List, None, Option, refl, Some, UnitRead, Used, ◌++◌}
+use Rattle.thorin_join.proofs.Terms.{[], ap, inr, map, Ok, sym, ℕ, ◌∷◌, ◌≡◌}
+use Rattle.thorin_join.proofs.Terms.{append-nil, append_assoc, IndexEntry, InProgress, source_units}
+use Rattle.thorin_join.proofs.Terms.{bind-was, DwarfObject, map-append, Meaning, same-ok, same_name}
+use Rattle.thorin_join.specs.{Builder.package_or_new, Represents.meaning_at, Represents.units_begun}
+use Rattle.thorin_join.{proofs.Parts.each-unit, specs.State.adding, specs.State.held_units}
+use Rattle.thorin_join.{proofs.Units.Steps, proofs.Units.units-read, specs.Builder.differing_begun}
+use Rattle.{dwp_units.specs.Units.Unit as Header, std.proofs.lemmas.Map.Made.lookup-map_values}
+use Rattle.{std.proofs.Common.rules, thorin.specs.Differing.Bytes, thorin.specs.Differing.own_bytes}
+use Rattle.{std.proofs.lemmas.Simd.map-map, thorin_again.proofs.Lists.begun-now}
 use Rattle.thorin.proofs.laws.passed_type_units_are_compared.Goals as goal
 
 -- ---- what steps do
@@ -48,19 +47,6 @@ module _ (adding : Adding) where
 
 -- ---- a package
 
-source-differs : (source : Source) (before now : InProgress) (all : List (DwarfObject × UnitRead))
-    → with_source source before ≡ Ok now → source_units source ≡ Ok all
-    → now.differing ≡ before.differing ++ differing (held_units before) [] (read_bytes all)
-source-differs source before now all h k =
-    let m = source-made source before now h in
-    let read = units-read (adding source before m.parts) m.new m.new_are in
-    let parted = with_all_parts before m.parts m.after (before.differing ++ m.new.differing) in
-    let keep = each-unit (λ p us now. now.differing ≡ p.differing) (λ p. refl)
-    (λ p u us now same. same) (λ p u us now same. same) parted m.new.units in
-    let differ = steps-differ (adding source before m.parts)
-    (record { units = []; differing = [] }) m.new read.all read.steps in
-    cc (m.is, keep, differ, read.is, k)
-
 -- a package that was begun before, or is new
 old-differs : (file : Elf) (begun : Option InProgress) (units : Bytes)
     → (package_or_new file begun).differing
@@ -85,7 +71,14 @@ returns c bytes old new units h k =
           let u = there.1 in
           let s = bind-was (source_units u.source) _ units
           (rw (there.0, u.object_is, u.encoding_is, u.indexes_are) at read) in
-          cc (u.is, source-differs u.source made u.made s.0 u.with s.1, s.2, before)
+          let m = source-made u.source made u.made u.with in
+          let steps = units-read (adding u.source made m.parts) m.new m.new_are in
+          let keep = each-unit (λ p us now. now.differing ≡ p.differing) (λ p. refl)
+          (λ p u us now same. same) (λ p u us now same. same)
+          (with_all_parts made m.parts m.after (made.differing ++ m.new.differing)) m.new.units in
+          let differ = steps-differ (adding u.source made m.parts)
+          (record { units = []; differing = [] }) m.new steps.all steps.steps in
+          cc (u.is, m.is, keep, differ, steps.is, s.1, s.2, before)
       | inr none ↦
           let no_units = same-ok [] units (rw none.0 at read) in
           cc (none.1, no_units, append-nil made.differing, before)
