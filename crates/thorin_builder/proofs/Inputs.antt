@@ -8,7 +8,7 @@ use Joined.{entry_count, ErrorValue, filter, first, IndexEntry, InProgress, is_s
 use Joined.{kept_bytes, keys, list_any, lookup, map-append, Meaning, name_for, New, new_units}
 use Joined.{NewUnit, none-some, packaged_offsets, parts_of, ReadError, remapped, rewritten}
 use Joined.{same_name, slice_range, Source, Str, take-length, units_begun, units_in, Used}
-use Joined.{with_each_part, with_input, with_offsets, with_part, with_source, with_string}
+use Joined.{with_each_part, with_input, with_offsets, with_part, with_string}
 use Joined.{with_unit, ◌>>=◌}
 use Rattle.thorin_errors.specs.declared.error.MissingReferencedObjectBehaviour.{MissingReferencedObjectBehaviour}
 use Rattle.thorin_builder.specs.Taking.{MayRead, Outcome, TakesNamed, TakesSkeleton, TakesSkeletons}
@@ -25,10 +25,10 @@ use Rattle.{thorin_join.proofs.Units.keys-units, thorin_strings.proofs.Remapping
 use Rattle.std.proofs.Common.{bytes_eq, length-take, slice_get, string_eq, take-take, true≢false}
 use Rattle.thorin_input.specs.NewUnits.{SeenSections, with_each_read, with_read, with_section_at}
 use Rattle.{indexmap.specs.IndexMap.insert_entry, thorin_input.proofs.NewUnitLemmas.same_name-is}
-use Rattle.std.proofs.Common.{Bool, find, List, None, OnOk, refl, Some, subst, take, true, zero}
+use Rattle.std.proofs.Common.{Bool, find, List, None, OnOk, refl, Some, subst, take, zero}
 use Rattle.thorin_builder.specs.{Reading.error_in, StateView.begun_of, StateView.in_progress_of}
 use Rattle.thorin_builder.specs.Repeated.{AddsAgain, AddsAgainTo, AreTaken, IsLater, Remembers}
-use Rattle.thorin_join.specs.State.{abbreviations_test, adding, Extends, held_units, with_all}
+use Rattle.thorin_join.specs.State.{Extends, held_units}
 use Rattle.std.proofs.lemmas.{Grind.length_at_push, Simd.map-map, Slice.Eq.bytes_eq-Decides}
 use Rattle.thorin_builder.specs.Repeated.{ExtendsBegun, IsLaterBegun, IsTaken, with_more}
 use Rattle.thorin_input.specs.{Encodings.own_encoding, NewUnits.with_section, View.part}
@@ -101,13 +101,6 @@ pub strings-extend : {p : InProgress} {strings : List (List ℕ)}
     → take (length p.strings) strings ≡ p.strings → Extends p (record p { strings = strings })
 strings-extend {p = p} kept =
     still-extends (extends-refl p) (λ b h. h) kept (take-length p.differing)
-
--- the steps of an input
-pub with_source-is : (source : Source) (p : InProgress) (parts : Contents × List (List ℕ))
-    (new : New) → parts_of source p.strings ≡ Ok parts → source.object.has_abbreviations ≡ true →
-    new_units (adding source p parts.0) ≡ Ok new → with_source source p ≡ Ok (with_all p parts new)
-unfolding with_source abbreviations_test
-with_source-is source p parts new hp ha hn = rw (hp, hn, ha) refl
 
 abbrev pub Offer : Type 1
 Offer = List ℕ → Result (List ℕ) IoError → Type 0

@@ -43,10 +43,9 @@ fn first_missing(
         ≡ s.0 ∷ filter (is_missing contained.now.keys) (drop s.1 targets.now.keys)) }
 {
     for place in start..targets.len() {
-        if let Some(target) = targets.get_index(place) {
-            if !contained.contains(target) {
-                return Some((*target, place + 1));
-            }
+        let target = &targets[place];
+        if !contained.contains(target) {
+            return Some((*target, place + 1));
         }
     }
     None

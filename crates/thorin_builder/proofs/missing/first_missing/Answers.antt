@@ -1,9 +1,8 @@
-use Rattle.std.proofs.Common.{ap, arith, Bool, cond, drop, false, List, not, ◌+◌, ◌∙◌, ◌∷◌, ◌≡◌}
-use Rattle.{dwp_base.proofs.Finds.slice_get_none, thorin_builder.proofs.Inputs.missing-is}
+use Rattle.std.proofs.Common.{Bool, cond, drop, List, not, refl, slice_get, sym, ◌+◌, ◌∙◌, ◌∷◌, ◌≡◌}
+use Rattle.std.proofs.Common.{ap, false, Some, true, ℕ}
 use Rattle.std.proofs.lemmas.Option.{get_or_from_slice_get, slice_get_within}
-use Rattle.std.proofs.Common.{refl, rules, slice_get, Some, sym, true, ℕ}
-use Rattle.thorin_join.{proofs.Terms.filter, specs.Builder.is_missing}
-use Rattle.std.proofs.lemmas.List.{at_drop_more}
+use Rattle.{std.proofs.lemmas.List.at_drop_more, thorin_join.proofs.Terms.filter}
+use Rattle.{thorin_builder.proofs.Inputs.missing-is, thorin_join.specs.Builder.is_missing}
 use Rattle.thorin_builder.proofs.missing.first_missing.Goals as goal
 
 -- the first of those that are left passes, or is passed over
@@ -17,21 +16,15 @@ first-left p xs i x b at is =
 pub returns-then-not-contains : goal.returns-then-not-contains
 returns-then-not-contains c =
     let names = c.args.contained.now.keys in
+    let target = c.index-target.result.now in
     sym c.loop-place.invariant ∙ first-left (is_missing names) c.args.targets.now.keys
-    c.loop-place.place c.in-Some.target.now true
-    (search (rules, c.in-Some.ensures.key, c.get_index.ensures.key))
-    (missing-is c.in-Some.target.now names _ c.contains.ensures ∙ ap not c.if-not-contains.true)
+    c.loop-place.place target true c.index-target.ensures
+    (missing-is target names _ c.contains.ensures ∙ ap not c.if-not-contains.true)
 
 pub loop-place-preserved : goal.loop-place-preserved
 loop-place-preserved c =
     let names = c.args.contained.now.keys in
-    elim c.match-get_index.branch [
-      | goal.in-Some+else-not-contains w ↦
-          sym (first-left (is_missing names) c.args.targets.now.keys c.loop-place.place
-          w.in-Some.target.now false
-          (search (rules, w.in-Some.ensures.key, c.get_index.ensures.key))
-          (missing-is w.in-Some.target.now names _ w.contains.ensures
-          ∙ ap not w.if-not-contains.false)) ∙ c.loop-place.invariant
-      | goal.in_default w ↦ absurd (slice_get_none c.args.targets.now.keys c.loop-place.place
-          (omega arith) (search (rules, w.in_default, c.get_index.ensures.key)))
-    ]
+    let target = c.index-target.result.now in
+    sym (first-left (is_missing names) c.args.targets.now.keys c.loop-place.place target false
+    c.index-target.ensures (missing-is target names _ c.contains.ensures
+    ∙ ap not c.if-not-contains.false)) ∙ c.loop-place.invariant

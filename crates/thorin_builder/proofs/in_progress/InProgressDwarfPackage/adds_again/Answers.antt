@@ -1,19 +1,18 @@
-use Rattle.thorin_join.proofs.Terms.{append-nil, content_of, Contents, contribution_to, DwarfObject}
-use Rattle.thorin_join.proofs.Terms.{IndexEntry, InProgress, input_file_of, kind_of, New, part_of}
-use Rattle.std.proofs.Common.{ap, List, map, None, Ok, refl, rules, subst, sym, ℕ, [], ◌∙◌, ◌≡◌}
-use Rattle.thorin_input.specs.Encodings.{encoding_of, file_encoding, one_encoding, own_encoding}
+use Rattle.std.proofs.Common.{[], ap, List, map, None, Ok, refl, rules, subst, sym, ℕ, ◌∙◌, ◌≡◌}
 use Rattle.thorin_builder.proofs.Inputs.{later-refl, parts-later, strings-extend, units-later}
-use Rattle.{thorin_builder.specs.StateView.in_progress_of, thorin_input.specs.Held.unit_bytes}
-use Rattle.thorin_join.proofs.Terms.{parts_of, place_of, Source, take-length, with_input}
-use Rattle.{dwp_elf_read.specs.View.elf, thorin_join.proofs.Rows.not-shared}
-use Rattle.thorin_join.specs.Builder.{source_for, with_source_or_new, with_units}
-use Rattle.thorin_builder.specs.declared.repeated.UnitlessInput.{UnitlessInput}
-use Rattle.thorin_join.proofs.Terms.{with_new_units, with_parts, with_source}
-use Rattle.thorin_join.proofs.Parts.{content-with_parts, parts-none}
 use Rattle.thorin_builder.specs.Repeated.{AddsNoUnit, IsLater, with_more}
-use Rattle.std.proofs.lemmas.{Option.IfSome_then, Result.IfOk-weaker}
-use Rattle.thorin_builder.proofs.Inputs.{with_again, with_source-is}
-use Rattle.thorin_join.specs.State.{Extends, held_units, with_all}
+use Rattle.thorin_builder.specs.declared.repeated.UnitlessInput.{UnitlessInput}
+use Rattle.thorin_input.specs.Encodings.{encoding_of, file_encoding, one_encoding, own_encoding}
+use Rattle.thorin_join.proofs.Terms.{Contents, kind_of, parts_of, place_of, with_parts, with_source}
+use Rattle.thorin_join.proofs.Terms.{InProgress, new_units, take-length, with_input, with_new_units}
+use Rattle.thorin_join.proofs.Terms.{append-nil, content_of, DwarfObject, IndexEntry, input_file_of}
+use Rattle.thorin_join.proofs.Terms.{contribution_to, New, part_of, Source}
+use Rattle.thorin_join.proofs.{Parts.content-with_parts, Parts.parts-none, Rows.not-shared}
+use Rattle.thorin_join.specs.Builder.{source_for, with_source_or_new, with_units}
+use Rattle.thorin_join.specs.State.{abbreviations_test, adding, Extends, held_units, with_all}
+use Rattle.{dwp_elf_read.specs.View.elf, thorin_input.specs.Held.unit_bytes}
+use Rattle.{std.proofs.lemmas.Option.IfSome_then, thorin_builder.proofs.Inputs.with_again}
+use Rattle.{std.proofs.lemmas.Result.IfOk-weaker, thorin_builder.specs.StateView.in_progress_of}
 use Rattle.thorin_builder.proofs.in_progress.InProgressDwarfPackage.adds_again.Goals as goal
 use Rattle.thorin_input.specs.View as view
 
@@ -37,13 +36,17 @@ returns-then-not-with_units-clause-found c =
 -- an input that adds no unit adds the same to each package that this one becomes
 source-again : (source : Source) (again : UnitlessInput) (made later : InProgress) → AddsNoUnit
     source again made → IsLater made later → with_source source later ≡ Ok (with_again again later)
-unfolding with_all with_new_units
+unfolding with_source abbreviations_test with_all with_new_units
 source-again source again made later h k =
     let parts = map view.part again.parts.items in
     let new : New = record { units = []; differing = map (λ s. s.0) again.differing.items } in
-    with_source-is source later (parts, later.strings) new
-    (parts-later source made.strings later.strings (parts, made.strings) h.parts k.strings)
-    h.abbreviations (rw k.held (units-later source _ _ (held_units made) k.more new h.units refl))
+    let units : new_units (adding source later parts) ≡ Ok new =
+    rw k.held (units-later source _ _ (held_units made) k.more new h.units refl) in
+    rw (
+      parts-later source made.strings later.strings (parts, made.strings) h.parts k.strings,
+      units,
+      h.abbreviations,
+    ) refl
 
 -- units keep their bytes, since no part of an input is of a section of units
 held-apart : (source : Source) (strings : List (List ℕ)) (parts : Contents)

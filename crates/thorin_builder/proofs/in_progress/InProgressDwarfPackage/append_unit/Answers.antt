@@ -1,6 +1,5 @@
-use Rattle.{thorin_index.proofs.Held.at_least, thorin_join.proofs.Terms.take-append-le}
-use Rattle.std.proofs.Math.Seq.{take-append_seam}
-use Rattle.std.proofs.Common.{◌∙◌}
+use Rattle.{std.proofs.Common.◌∙◌, thorin_index.proofs.Held.at_least}
+use Rattle.{std.proofs.Math.Seq.take-append_seam, thorin_join.proofs.Terms.take-append-le}
 use Rattle.thorin_builder.proofs.in_progress.InProgressDwarfPackage.append_unit.Goals as goal
 
 pub returns-in-Ok-clause-extends : goal.returns-in-Ok-clause-extends

@@ -1,9 +1,8 @@
-use Rattle.thorin_builder.specs.{BuilderView.building, StateView.begun_of}
-use Rattle.thorin_builder.proofs.Inputs.{joined-later, taken-as}
 use Rattle.thorin_again.proofs.Lists.{taken-holds, taken-plain}
+use Rattle.thorin_builder.proofs.Inputs.{joined-later, taken-as}
 use Rattle.thorin_join.specs.Builder.{own_after, State}
-use Rattle.std.proofs.lemmas.Bool.Decides.{nat_tests}
-use Rattle.std.proofs.Common.{arith, ◌≡◌}
+use Rattle.{std.proofs.Common.arith, std.proofs.Common.◌≡◌, thorin_builder.specs.StateView.begun_of}
+use Rattle.{std.proofs.lemmas.Bool.Decides.nat_tests, thorin_builder.specs.BuilderView.building}
 use Rattle.thorin_builder.proofs.package.DwarfPackage.add_object_bytes.Goals as goal
 
 -- a refused object leaves it so
