@@ -3,46 +3,47 @@
 -- what it had. What an input adds that adds no unit, however often it is taken, is the same over
 -- more strings, and beside more units.
 use Rattle.thorin_join.proofs.Terms as Joined
-use Joined.{Adding, append-nil, append_assoc, Contents, Contribution, DwarfObject, Encoding}
-use Joined.{entry_count, ErrorValue, filter, first, IndexEntry, InProgress, is_some, Joins}
-use Joined.{kept_bytes, keys, list_any, lookup, map-append, Meaning, name_for, New, new_units}
-use Joined.{NewUnit, none-some, packaged_offsets, parts_of, ReadError, remapped, rewritten}
-use Joined.{same_name, slice_range, Source, Str, take-length, units_begun, units_in, Used}
-use Joined.{with_each_part, with_input, with_offsets, with_part, with_string}
-use Joined.{with_unit, ◌>>=◌}
-use Rattle.thorin_errors.specs.declared.error.MissingReferencedObjectBehaviour.{MissingReferencedObjectBehaviour}
-use Rattle.thorin_builder.specs.Taking.{MayRead, Outcome, TakesNamed, TakesSkeleton, TakesSkeletons}
-use Rattle.thorin_builder.specs.declared.in_progress.InProgressDwarfPackage.{InProgressDwarfPackage}
-use Rattle.thorin_builder.specs.{declared.reader.NotTaken.NotTaken, Taking.came, Taking.with_target}
-use Rattle.thorin_input.specs.NewUnits.{none_met, once_test, or_held, with_each_section, with_first}
-use Rattle.thorin_builder.specs.Reading.{DeclinesNamed, input_error_in, IsRead, outcome_of, unread}
-use Rattle.thorin_builder.specs.{declared.repeated.UnitlessInput.UnitlessInput, Reading.OnDeclined}
-use Rattle.{std.specs.declared.io.Error.Error as IoError, thorin_executable.specs.Skeletons.Listed}
-use Rattle.std.proofs.Common.{arith, false, Global, le-ltb, length, Option, Result, rules, String}
-use Rattle.std.proofs.Common.{length-append, string_bytes, [], ◌++◌, ◌+◌, ◌∙◌, ◌∷◌, ◌≡◌, ◌≢◌, ◌⊎◌}
-use Rattle.std.proofs.{lemmas.Bool.cond-true, Math.Seq.take-append-add, Math.Seq.take-append_seam}
-use Rattle.{thorin_join.proofs.Units.keys-units, thorin_strings.proofs.Remapping.kept_more}
-use Rattle.std.proofs.Common.{bytes_eq, length-take, slice_get, string_eq, take-take, true≢false}
-use Rattle.thorin_input.specs.NewUnits.{SeenSections, with_each_read, with_read, with_section_at}
-use Rattle.{indexmap.specs.IndexMap.insert_entry, thorin_input.proofs.NewUnitLemmas.same_name-is}
-use Rattle.std.proofs.Common.{Bool, find, List, None, OnOk, refl, Some, subst, take, zero}
-use Rattle.thorin_builder.specs.{Reading.error_in, StateView.begun_of, StateView.in_progress_of}
-use Rattle.thorin_builder.specs.Repeated.{AddsAgain, AddsAgainTo, AreTaken, IsLater, Remembers}
-use Rattle.thorin_join.specs.State.{Extends, held_units}
-use Rattle.std.proofs.lemmas.{Grind.length_at_push, Simd.map-map, Slice.Eq.bytes_eq-Decides}
-use Rattle.thorin_builder.specs.Repeated.{ExtendsBegun, IsLaterBegun, IsTaken, with_more}
-use Rattle.thorin_input.specs.{Encodings.own_encoding, NewUnits.with_section, View.part}
-use Rattle.{dwp_strings.specs.Strings.offset_of, dwp_units.specs.Units.Unit as Header}
-use Rattle.thorin_package_input.specs.PackagedOffsets.{offset_ranges, rewritten_from}
-use Rattle.thorin_join.specs.Builder.{is_missing, names_in, own_after, State, taken}
-use Rattle.dwp_elf.specs.{FileText.Object as File, Growing.Begins, Growing.IsGrown}
-use Rattle.dwp_table.specs.declared.object.DebugTypeSignature.{DebugTypeSignature}
-use Rattle.thorin_errors.specs.declared.error.{Error.Error, InputError.InputError}
-use Rattle.thorin_strings.specs.StringOffsets.{remapped_entries, remapped_entry}
-use Rattle.std.proofs.Common.{ap, Err, inl, inr, map, not, Ok, suc, sym, ℕ}
-use Rattle.thorin_errors.specs.{Answers.MemoryAside, Inputs.input_error}
+use Joined.{Adding, filter, first, Joins, kept_bytes, lookup, map-append, remapped, units_in, ◌>>=◌}
+use Joined.{Contents, Encoding, InProgress, is_some, list_any, Meaning, name_for, NewUnit, parts_of}
+use Joined.{IndexEntry, new_units, none-some, ReadError, rewritten, same_name, with_part, with_unit}
+use Joined.{append-nil, entry_count, ErrorValue, slice_range, take-length, units_begun, with_string}
+use Joined.{append_assoc, Contribution, DwarfObject, packaged_offsets, with_each_part, with_offsets}
+use Joined.{keys, New, Source, Str, Used, with_input}
+use Rattle.dwp_elf.specs.Growing.{Begins, IsGrown}
 use Rattle.dwp_strings.proofs.Named.{there_later, there_once_used}
+use Rattle.dwp_table.specs.declared.object.DebugTypeSignature.{DebugTypeSignature}
+use Rattle.std.proofs.Common.{Bool, cond, drop, false, find, List, None, OnOk, rules, String, subst}
+use Rattle.std.proofs.Common.{Err, inl, inr, map, refl, Some, suc, sym, take, take-take, zero, ◌++◌}
+use Rattle.std.proofs.Common.{[], ap, Ok, ℕ, ◌+◌, ◌∙◌, ◌∷◌, ◌≡◌, ◌≢◌, ◌⊎◌}
+use Rattle.std.proofs.Common.{add-one, arith, Global, le-ltb, length, length-append, Option, Result}
+use Rattle.std.proofs.Common.{bytes_eq, length-take, slice_get, string_bytes, string_eq, true≢false}
+use Rattle.std.proofs.{lemmas.Bool.cond-true, Math.Seq.take-append-add, Math.Seq.take-append_seam}
+use Rattle.thorin_builder.specs.Reading.{error_in, input_error_in, OnDeclined, outcome_of, unread}
+use Rattle.thorin_builder.specs.Repeated.{AddsAgain, AddsAgainTo, AreTaken, ExtendsBegun, Remembers}
+use Rattle.thorin_builder.specs.Repeated.{IsLater, IsLaterBegun, IsTaken, with_more}
+use Rattle.thorin_builder.specs.StateView.{begun_of, in_progress_of}
+use Rattle.thorin_builder.specs.Taking.{TakesExecutableBy, TakesFile, TakesSkeleton, TakesSkeletons}
+use Rattle.thorin_builder.specs.Taking.{came, Manner, MayRead, Outcome, TakesNamed, with_target}
+use Rattle.thorin_builder.specs.declared.in_progress.InProgressDwarfPackage.{InProgressDwarfPackage}
+use Rattle.thorin_builder.specs.declared.repeated.UnitlessInput.{UnitlessInput}
 use Rattle.thorin_errors.specs.Errors.{error_of, Memory}
+use Rattle.thorin_errors.specs.declared.error.MissingReferencedObjectBehaviour.{MissingReferencedObjectBehaviour}
+use Rattle.thorin_input.specs.NewUnits.{SeenSections, with_each_read, with_section, with_section_at}
+use Rattle.thorin_input.specs.NewUnits.{none_met, once_test, or_held, with_each_section, with_first}
+use Rattle.thorin_join.specs.Builder.{names_in, own_after, State, taken}
+use Rattle.thorin_join.{proofs.Units.keys-units, specs.State.Extends, specs.State.held_units}
+use Rattle.thorin_package_input.specs.PackagedOffsets.{offset_ranges, rewritten_from}
+use Rattle.thorin_strings.specs.StringOffsets.{remapped_entries, remapped_entry}
+use Rattle.{dwp_elf.specs.FileText.Object as File, indexmap.specs.IndexMap.insert_entry}
+use Rattle.{dwp_strings.specs.Strings.offset_of, dwp_units.specs.Units.Unit as Header}
+use Rattle.{std.proofs.lemmas.Grind.length_at_push, thorin_errors.specs.declared.error.Error.Error}
+use Rattle.{std.proofs.lemmas.Simd.map-map, thorin_builder.specs.declared.reader.NotTaken.NotTaken}
+use Rattle.{std.proofs.lemmas.Slice.Eq.bytes_eq-Decides, thorin_builder.specs.Reading.DeclinesNamed}
+use Rattle.{std.specs.declared.io.Error.Error as IoError, thorin_strings.proofs.Remapping.kept_more}
+use Rattle.{thorin_errors.specs.Answers.MemoryAside, thorin_input.proofs.NewUnitLemmas.same_name-is}
+use Rattle.{thorin_errors.specs.Inputs.input_error, thorin_input.specs.NewUnits.with_read}
+use Rattle.{thorin_errors.specs.declared.error.InputError.InputError, thorin_input.specs.View.part}
+use Rattle.{thorin_executable.specs.Skeletons.Listed, thorin_input.specs.Encodings.own_encoding}
 use Rattle.dwp_table.specs.contracts.object.DwarfObjectPartialEq.TheImpl as derived
 
 -- a name is among others, or is missing there
@@ -50,9 +51,17 @@ pub among_is : (a : DwarfObject) (names : List DwarfObject) → list_any (derive
     ≡ list_any (same_name a) names
 among_is a names = ap (λ f. list_any f names) (same_name-is a)
 
-pub missing-is : (a : DwarfObject) (names : List DwarfObject) (there : Bool)
-    → there ≡ list_any (derived.eq-value.it a) names → is_missing names a ≡ not there
-missing-is a names there is = ap not (sym (is ∙ among_is a names))
+-- what is chosen of those that are left, by the first of them
+abbrev pub with_chosen : {A : Type 0} → (A → Bool) → Option A → List A → List A
+with_chosen p (Some x) rest = cond (p x) (x ∷ rest) rest
+with_chosen p None rest = rest
+
+pub first_left : {A : Type 0} (p : A → Bool) (xs : List A) (i : ℕ)
+    → filter p (drop i xs) ≡ with_chosen p (slice_get xs i) (filter p (drop (i + 1) xs))
+first_left p [] zero = refl
+first_left p [] (suc i) = rw add-one refl
+first_left p (x ∷ xs) zero = refl
+first_left p (x ∷ xs) (suc i) = rw add-one (rw add-one at (first_left p xs i))
 
 -- the first that passes is the first of those that do
 pub first_passing : {A : Type 0} (p : A → Bool) (xs : List A)
@@ -77,9 +86,15 @@ begins-refl : (a : Contents) → Begins a a
 begins-refl [] = tt
 begins-refl (c ∷ cs) = (refl, record { rest = []; is = sym (append-nil c.1) }, begins-refl cs)
 
+pub extends_by : (p q : InProgress) → q.file ≡ p.file → q.rows ≡ p.rows
+    → q.differing ≡ p.differing → take (length p.strings) q.strings ≡ p.strings → Extends p q
+extends_by p q file rows differing kept =
+    let contents = begins-refl p.file.contents in
+    rw (file, rows, differing)
+    (assumption (contents, kept, take-length p.rows, take-length p.differing))
+
 pub extends-refl : (p : InProgress) → Extends p p
-extends-refl p = let contents = begins-refl p.file.contents in
-    assumption (contents, take-length p.strings, take-length p.rows, take-length p.differing)
+extends-refl p = extends_by p p refl refl refl (take-length p.strings)
 
 -- what keeps those before it keeps those before them
 still-kept : {A : Type 0} (old now new : List A) → take (length old) now ≡ old
@@ -96,11 +111,6 @@ still-extends {before} {p} {f} {strings} {differing} h grown kept more =
     let texts = still-kept before.strings p.strings strings h.strings kept in
     let types = still-kept before.differing p.differing differing h.differing more in
     assumption (grown before.file h.file, texts, types)
-
-pub strings-extend : {p : InProgress} {strings : List (List ℕ)}
-    → take (length p.strings) strings ≡ p.strings → Extends p (record p { strings = strings })
-strings-extend {p = p} kept =
-    still-extends (extends-refl p) (λ b h. h) kept (take-length p.differing)
 
 abbrev pub Offer : Type 1
 Offer = List ℕ → Result (List ℕ) IoError → Type 0
@@ -194,14 +204,29 @@ module _ {offer : Offer} {missing : MissingReferencedObjectBehaviour} {all left 
 pub names_begun : (state : State) → keys (units_in state) ≡ names_in state.begun
 names_begun state = grind (rules, keys-units)
 
--- of an input that wasn't read: what its read may answer, the reason for which it is declined, and
--- its error
-pub unread-is : {D : Type 0} (offered : Result (List ℕ) IoError → Type 0) (declines : D → Type 0)
-    (why : NotTaken InputError D) → IsRead offered declines (Err why)
-    → MayRead offered (Err (input_error_in why))
-    × OnDeclined {X = Unit {0}} (Err (unread why)) declines
-    × (error_in (unread why) ≡ input_error (input_error_in why))
-unread-is offered declines why is = (grind rules, grind rules, grind rules)
+-- what comes of an input that wasn't read
+module _ {D : Type 0} (why : NotTaken InputError D) where
+  unread-error : error_in (unread why) ≡ input_error (input_error_in why)
+  unread-error = grind rules
+
+  pub unread_file : {offered : Result (List ℕ) IoError → Type 0} {old : State} → MayRead offered
+      (Err (input_error_in why)) → TakesFile offered old (Err (error_in (unread why))) old
+  unread_file may = rw unread-error (record {
+    read = Err (input_error_in why);
+    within = may;
+    accepted = [];
+    taken = (refl, (refl, refl));
+  })
+
+  pub unread_executable : {manner : Manner} {offer : Offer} {path : List ℕ} {old : State}
+      → MayRead (offer path) (Err (input_error_in why))
+      → TakesExecutableBy manner offer path old (Err (error_in (unread why))) old
+  unread_executable may = rw unread-error (record {
+    read = Err (input_error_in why);
+    within = may;
+    accepted = [];
+    taken = (refl, (refl, refl));
+  })
 
 -- an input that is declined
 module _ {D : Type 0} where

@@ -6,10 +6,9 @@ ghost use Rattle.thorin_builder.specs.Taking.{nameless_skipped, TakesExecutable,
 ghost use Rattle.thorin_builder.specs.Taking.{all_named, came, IsUnread, TakesNamed, TakesSkeleton};
 ghost use Rattle.thorin_builder.specs.Taking.{TakesExecutableBy, TakesExecutableSkippingNameless};
 ghost use Rattle.thorin_builder.specs.Reading.{DeclinesExecutable, DeclinesNamed, OnDeclined};
-ghost use Rattle.std.specs.Path.{path_bytes};
+ghost use Rattle.{std.specs.Path.path_bytes, thorin_join.specs.State.InProgress};
 ghost use Rattle.thorin_builder.specs.{Reading.outcome_of, Taking.is_there, Taking.Takes};
 ghost use Rattle.thorin_builder.specs.Repeated.{AddsAgainTo, AreTaken, IsLaterBegun, Remembers};
-ghost use Rattle.thorin_join.specs.State.{InProgress};
 ghost use Rattle.thorin_executable.specs.Skeletons.{skeletons_by};
 
 use crate::package::DwarfPackage;
@@ -128,6 +127,7 @@ impl<'output, 'session: 'output, Sess: Session<RelocationEntry>> DwarfPackage<
     }
 
     /// Adds the objects that an executable names; units that name none are refused or passed over.
+    #[tactic(auto, using(crate::proofs::Inputs::unread_executable))]
     fn add_executable_as<R: InputReader>(
         &mut self,
         reader: &R,

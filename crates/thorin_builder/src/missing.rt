@@ -32,6 +32,7 @@ impl Iterator for MissingTargets<'_> {
 }
 
 /// The first unit from a place on that isn't contained, and the place after it.
+#[tactic(auto, using(crate::proofs::Inputs::first_left, crate::proofs::Inputs::among_is))]
 fn first_missing(
     contained: &IndexSet<DwarfObject>,
     targets: &IndexSet<DwarfObject>,

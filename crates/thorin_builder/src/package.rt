@@ -5,8 +5,7 @@ ghost use Rattle.thorin_join.specs.Builder as spec;
 ghost use Rattle.std.specs.Prelude.{filter, IfErr, IfOk, IsTrue, length, List, map, [], ℕ, ◌≡◌};
 ghost use Rattle.std.specs.Prelude.{IfSome, OnErr, OnOk, Option, true};
 ghost use Rattle.dwp_bytes.specs.declared.encoding.Encoding.{Encoding as OwnEncoding};
-ghost use Rattle.thorin_errors.specs.Answers.{Gives};
-ghost use Rattle.std.specs.Path.{path_bytes};
+ghost use Rattle.{std.specs.Path.path_bytes, thorin_errors.specs.Answers.Gives};
 ghost use Rattle.thorin_join.specs.{Builder.IsFinishedState, Join.IsPackageOnceWritten, Join.Joins};
 ghost use Rattle.thorin_join.specs.{Meaning.keys, Represents.IsSoundBegun, Represents.units_in};
 ghost use Rattle.thorin_builder.specs.Missing.{missing_left, without_targets};
@@ -116,6 +115,7 @@ impl<'output, 'session: 'output, Sess: Session<RelocationEntry>> DwarfPackage<
     /// Adds the object that a reader reads at a path, into room that is free again afterwards.
     /// Errors: `Failed` by those of `add_input_object`; `Declined` where the reader declines the
     /// file.
+    #[tactic(auto, using(crate::proofs::Inputs::unread_file))]
     pub fn add_input_by<R: InputReader>(
         &mut self,
         reader: &R,

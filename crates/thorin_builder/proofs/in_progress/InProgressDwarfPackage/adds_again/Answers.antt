@@ -1,5 +1,5 @@
 use Rattle.std.proofs.Common.{[], ap, List, map, None, Ok, refl, rules, subst, sym, ℕ, ◌∙◌, ◌≡◌}
-use Rattle.thorin_builder.proofs.Inputs.{later-refl, parts-later, strings-extend, units-later}
+use Rattle.thorin_builder.proofs.Inputs.{later-refl, parts-later, extends_by, units-later}
 use Rattle.thorin_builder.specs.Repeated.{AddsNoUnit, IsLater, with_more}
 use Rattle.thorin_builder.specs.declared.repeated.UnitlessInput.{UnitlessInput}
 use Rattle.thorin_input.specs.Encodings.{encoding_of, file_encoding, one_encoding, own_encoding}
@@ -98,5 +98,6 @@ pub returns-clause-same : goal.returns-clause-same
 returns-clause-same c =
     let made = in_progress_of c.args.self.now in
     let again = c.try_again-found.ensures in
-    c.restore.ensures made (subst (Extends made) (sym again.strings) (strings-extend again.kept))
+    c.restore.ensures made (subst (Extends made) (sym again.strings)
+    (extends_by made (record made { strings = _ }) refl refl refl again.kept))
     c.in_ok-mark.ensures.mark
