@@ -9,7 +9,7 @@ use dwp_table::CONTRIBUTION_KINDS;
 use std::alloc::{AllocError, Global};
 use std::io::{self, Write};
 use thorin_commands::{Packing, reason};
-use thorin_find::FileKind;
+use thorin_find::PackageKind;
 use thorin_inputs::{Compression, cut_hint};
 use thorin_print::{Failure, print};
 use thorin_reading::PlainReader;
@@ -91,25 +91,25 @@ fn section_names(alloc: Global) -> Result<String, AllocError> {
 fn why_malformed(
     alloc: Global,
     compression: Compression,
-    kind: FileKind,
+    kind: PackageKind,
 ) -> Result<String, AllocError> {
     match (compression, kind) {
         (Compression::Left, _) => String::from_str(alloc, "compressed: --decompress reads it"),
         (Compression::Overlaps | Compression::Unread(_), _) => {
             format!(in alloc; "compressed: {compression}")
         }
-        (_, FileKind::Malformed(PackageError::Elf(cause))) => {
+        (_, PackageKind::Malformed(PackageError::Elf(cause))) => {
             format!(in alloc; "{cause}{}", cut_hint(&cause))
         }
-        (_, FileKind::Malformed(error)) => format!(in alloc; "{error}"),
+        (_, PackageKind::Malformed(error)) => format!(in alloc; "{error}"),
         _ => String::from_str(alloc, "`thorin check` tells its faults"),
     }
 }
 
 /// What is said of a file that is an object where a package is wanted; nothing of another.
-fn object_note(kind: FileKind) -> &'static str {
+fn object_note(kind: PackageKind) -> &'static str {
     match kind {
-        FileKind::Object => "an object: `thorin pack` makes a package of it",
+        PackageKind::Object => "an object: `thorin pack` makes a package of it",
         _ => "",
     }
 }
@@ -191,15 +191,15 @@ fn machine_name(machine: u16) -> &'static str {
 pub(crate) fn note_listed<E: Write>(
     alloc: Global,
     name: &str,
-    kind: FileKind,
+    kind: PackageKind,
     on_terminal: bool,
     err: &mut E,
 )
     ensures { Grows (E.contents err.old) (E.contents err.new) }
 {
     match kind {
-        FileKind::Object => note(alloc, name, object_note(kind), err),
-        FileKind::NoIndex if on_terminal => note(alloc, name, "no index: not a package", err),
+        PackageKind::Object => note(alloc, name, object_note(kind), err),
+        PackageKind::NoIndex if on_terminal => note(alloc, name, "no index: not a package", err),
         _ => {}
     }
 }

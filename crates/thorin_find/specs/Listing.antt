@@ -26,8 +26,8 @@ use Rattle.thorin_find.specs.Names.{source_name, object_name}
 use Rattle.thorin_print.specs.declared.form.Form.{Form}
 use Rattle.thorin_print.specs.declared.form.Form.TheVariants.{Lines, Json}
 use Rattle.thorin_print.specs.Spelled.{spelled_or}
-use Rattle.thorin_find.specs.declared.files.FileKind.{FileKind}
-use Rattle.thorin_find.specs.declared.files.FileKind.TheVariants as files
+use Rattle.thorin_find.specs.declared.files.PackageKind.{PackageKind}
+use Rattle.thorin_find.specs.declared.files.PackageKind.TheVariants as files
 use Rattle.thorin_find.specs.declared.listing.ListForm.{ListForm}
 use Rattle.thorin_print.specs.Lines.{hex16, line_end}
 use Rattle.thorin_find.specs.Lines.{short_kind}
@@ -43,12 +43,12 @@ abbrev pub has_no_index : Package → Bool
 has_no_index pack = is_none pack.compilations && is_none pack.types
 
 -- what a file is that can be read: without an index it is an object where it has split units
-abbrev pub kind_in : Package → FileKind
+abbrev pub kind_in : Package → PackageKind
 kind_in pack = if not (has_no_index pack) then files.Package
     else if length (content pack.contents Info) == 0 then files.NoIndex else files.Object
 
 -- what any is
-abbrev pub kind_of : Result Package PackageError → FileKind
+abbrev pub kind_of : Result Package PackageError → PackageKind
 kind_of (Ok pack) = kind_in pack
 kind_of (Err error) = files.Malformed error
 

@@ -92,7 +92,7 @@ pub fn has_no_index(pack: &PackageFile<'_>) -> bool
 
 /// What a file is.
 #[derive(Clone, Copy)]
-pub enum FileKind {
+pub enum PackageKind {
     /// A package: it has an index.
     Package,
     /// An object: it has split units and no index.
@@ -104,13 +104,13 @@ pub enum FileKind {
 }
 
 /// What a file is that has these bytes.
-pub fn kind_of(bytes: &[u8]) -> FileKind
+pub fn kind_of(bytes: &[u8]) -> PackageKind
     ensures { result ≡ kind_of (package_of bytes.now) }
 {
     match PackageFile::parse(bytes) {
-        Ok(pack) if !has_no_index(&pack) => FileKind::Package,
-        Ok(pack) if pack.content(SectionKind::Info).is_empty() => FileKind::NoIndex,
-        Ok(_pack) => FileKind::Object,
-        Err(error) => FileKind::Malformed(error),
+        Ok(pack) if !has_no_index(&pack) => PackageKind::Package,
+        Ok(pack) if pack.content(SectionKind::Info).is_empty() => PackageKind::NoIndex,
+        Ok(_pack) => PackageKind::Object,
+        Err(error) => PackageKind::Malformed(error),
     }
 }

@@ -8,7 +8,7 @@ mod listing;
 mod names;
 mod sizes;
 
-pub use files::{FileKind, FileReader, HostReader, Unread, has_no_index, kind_of, read_named};
+pub use files::{FileReader, HostReader, PackageKind, Unread, has_no_index, kind_of, read_named};
 pub use finding::{
     FindForm, FindWords, find_by, put_json_unit, put_object, short_kind, string_count,
 };

@@ -8,7 +8,7 @@ use dwp_decompress::{Asked, DecompressError, plain_length};
 use std::alloc::Global;
 use std::cell::Cell;
 use std::io;
-use thorin_find::{FileKind, FileReader, kind_of};
+use thorin_find::{FileReader, PackageKind, kind_of};
 use thorin_inputs::{Compression, decompress};
 
 /// The files of another reader, each decompressed where that is asked for. Of a file whose
@@ -22,7 +22,7 @@ pub struct PlainReader<'f, F> {
     alloc: Global,
     /// What the last file is: still compressed or not, and a package or not.
     compression: Cell<Compression>,
-    kind: Cell<FileKind>,
+    kind: Cell<PackageKind>,
 }
 
 impl<'f, F: FileReader> PlainReader<'f, F> {
@@ -36,7 +36,7 @@ impl<'f, F: FileReader> PlainReader<'f, F> {
             decompresses,
             alloc,
             compression: Cell::new(Compression::None),
-            kind: Cell::new(FileKind::NoIndex),
+            kind: Cell::new(PackageKind::NoIndex),
         }
     }
 
@@ -46,7 +46,7 @@ impl<'f, F: FileReader> PlainReader<'f, F> {
     }
 
     /// What the last file that was read is, as it was taken.
-    pub fn kind(&self) -> FileKind {
+    pub fn kind(&self) -> PackageKind {
         self.kind.get()
     }
 }
