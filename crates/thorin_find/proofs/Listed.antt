@@ -1,17 +1,17 @@
 -- The lines of a list, slot by slot: some are printed, the others wait. And what was listed.
-use Rattle.std.proofs.Common.{append-nil, append_assoc, if◌then◌else◌, Ok, Option, take-append-drop}
-use Rattle.std.proofs.Common.{arith, Bool, drop, Err, false, length, List, refl, Result, take, true}
 use Rattle.thorin_find.specs.Listing.{AddsLine, behind_line, ListsPackage, PrintsFront, PrintsLines}
+use Rattle.std.proofs.Common.{if◌then◌else◌, inl, inr, length, List, Ok, Option, refl, Result, sym}
 use Rattle.thorin_find.specs.{declared.listing.ListForm.ListForm, Files.FailsToRead, Files.Offer}
 use Rattle.dwp_index.specs.declared.{error.PackageError.PackageError, units.UnitEntry.UnitEntry}
 use Rattle.thorin_find.specs.Listing.{answer_of, IsListedIn, ListsBytes, slot_line, UnitLines}
+use Rattle.std.proofs.Common.{take, take-append-drop, true, [], ℕ, ◌&&◌, ◌++◌, ◌∙◌, ◌∷◌, ◌≡◌}
 use Rattle.thorin_find.specs.Listing.{AreByRow, Begins, lines_of, Lists, ListView, view_of}
 use Rattle.thorin_print.{proofs.Printed.nothing, specs.declared.output.Failure.Failure}
-use Rattle.std.proofs.Common.{[], ap, inl, inr, sym, ℕ, ◌&&◌, ◌++◌, ◌∙◌, ◌∷◌, ◌≡◌}
-use Rattle.thorin_print.specs.Answers.{Answer, Comes, HasBeginning, IsOfPrinting}
+use Rattle.std.proofs.Common.{append-nil, append_assoc, arith, Bool, drop, Err, false}
 use Rattle.std.{proofs.Math.Seq.take-append_seam, specs.Io.KnownBytes.Appends}
 use Rattle.dwp_index.specs.Package.{found, FoundUnit, Package, package_of}
 use Rattle.std.proofs.KnownBytes.{Appends-nil, Appends-trans, Keeps-refl}
+use Rattle.thorin_print.specs.Answers.{Comes, HasBeginning, IsOfPrinting}
 use Rattle.thorin_print.specs.declared.output.Failure.TheVariants as failures
 
 -- ---- a text that waits
@@ -136,10 +136,8 @@ listed_alone : (columns : Bool) (form : ListForm) (lines : UnitLines) (is_all : 
     → lines.is_all ≡ is_all → IsListedIn columns form lines
     (record { printed = lines.printed; answer = answer_of lines.is_all })
 listed_alone true form lines is_all e = refl
-listed_alone false form lines true e =
-    record { totals = []; no_totals = λ e. refl; is = rw (e, append-nil) refl }
-listed_alone false form lines false e =
-    record { totals = []; no_totals = λ e. refl; is = rw e refl }
+listed_alone false form lines is_all e =
+    record { totals = []; no_totals = λ e. refl; is = grind (arith, append-nil lines.printed) }
 
 module _ (form : ListForm) (is_all : Bool) (old new : List ℕ) (given : Result ℕ Failure)
     (answered : given ≡ answer_of is_all) where
@@ -169,10 +167,6 @@ module _ (form : ListForm) (is_all : Bool) (old new : List ℕ) (given : Result 
 
 -- ---- lines that were printed, and what stands behind them
 
--- a front before it all
-abbrev before : List ℕ → Answer → Answer
-before front a = record { printed = front ++ a.printed; answer = a.answer }
-
 listed_behind : (columns : Bool) (form : ListForm) (lines : UnitLines) (is_all : Bool)
     (front waiting text : List ℕ) (given : Result ℕ Failure) → is_all ≡ lines.is_all
     → lines.printed ≡ front ++ waiting
@@ -180,15 +174,10 @@ listed_behind : (columns : Bool) (form : ListForm) (lines : UnitLines) (is_all :
     (record { printed = text; answer = given })
     → IsListedIn columns form lines (record { printed = front ++ text; answer = given })
 listed_behind true form lines is_all front waiting text given all split h = rw (← all) h
-listed_behind false form lines true front waiting text given all split h = record {
+listed_behind false form lines is_all front waiting text given all split h = record {
   totals = h.totals;
   no_totals = h.no_totals;
-  is = rw (← all, split, append_assoc) (ap (before front) h.is);
-}
-listed_behind false form lines false front waiting text given all split h = record {
-  totals = h.totals;
-  no_totals = h.no_totals;
-  is = rw (← all, split) (ap (before front) h.is);
+  is = grind (arith, h.is, append_assoc front waiting h.totals);
 }
 
 begun_front : (old middle new : Option (List ℕ)) (front rest : List ℕ) → Appends old middle front

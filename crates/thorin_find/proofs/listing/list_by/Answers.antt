@@ -1,12 +1,11 @@
-use Rattle.std.proofs.{Common.refl, KnownBytes.Appends-nil, lemmas.Result.err_from_is_err_and}
-use Rattle.thorin_find.proofs.Listed.{begun_listing, not_listed, rest_begun, whole_listing}
-use Rattle.thorin_find.proofs.Listed.{file_read}
+use Rattle.thorin_find.proofs.Listed.{begun_listing, file_read, not_listed, rest_begun}
+use Rattle.thorin_find.proofs.{Listed.whole_listing, Sought.exit_is}
+use Rattle.std.proofs.{Common.refl, KnownBytes.Appends-nil}
 use Rattle.thorin_find.proofs.listing.list_by.Goals as goal
 
 pub returns-in_err-bytes : goal.returns-in_err-bytes
 returns-in_err-bytes g c =
-    let p = err_from_is_err_and c.from_residual.result c.from_residual.ensures.1 in
-    rw (p.1, p.2) (not_listed _ _ _ _ _ c.in_err-bytes.ensures.refused)
+    rw (exit_is c.from_residual.ensures.1) (not_listed _ _ _ _ _ c.in_err-bytes.ensures.refused)
 
 pub returns-in_default : goal.returns-in_default
 returns-in_default g c =
@@ -15,18 +14,16 @@ returns-in_default g c =
 
 pub returns-in_err-is_all : goal.returns-in_err-is_all
 returns-in_err-is_all g c =
-    let exit = c.from_residual-in_err-is_all in
-    let p = err_from_is_err_and exit.result exit.ensures.1 in
-    rw (p.1, p.2) (file_read _ _ _ _ _ _ _ _ c.in_ok-bytes.ensures.read c.as_slice.ensures.value
+    rw (exit_is c.from_residual-in_err-is_all.ensures.1)
+    (file_read _ _ _ _ _ _ _ _ c.in_ok-bytes.ensures.read c.as_slice.ensures.value
     (rw c.in-Ok.ensures (begun_listing _ _ c.as_slice-entries.result.now
     (rw c.as_slice-entries.ensures.value c.in_ok-entries.ensures) _ _ _
     c.in_err-is_all.ensures.part)))
 
 pub returns-in_err-given : goal.returns-in_err-given
 returns-in_err-given g c =
-    let exit = c.from_residual-in_err-given in
-    let p = err_from_is_err_and exit.result exit.ensures.1 in
-    rw (p.1, p.2) (file_read _ _ _ _ _ _ _ _ c.in_ok-bytes.ensures.read c.as_slice.ensures.value
+    rw (exit_is c.from_residual-in_err-given.ensures.1)
+    (file_read _ _ _ _ _ _ _ _ c.in_ok-bytes.ensures.read c.as_slice.ensures.value
     (rw c.in-Ok.ensures (rest_begun _ _ c.as_slice-entries.result.now
     (rw c.as_slice-entries.ensures.value c.in_ok-entries.ensures) _ _ _
     c.in_ok-is_all.ensures.lines.front)))
