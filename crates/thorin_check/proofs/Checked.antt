@@ -1,44 +1,45 @@
 -- Where no fault was told, the package is sound. And what was told of the units that an executable
 -- names, and what was checked.
-use Rattle.std.proofs.Common.{[], ap, append-nil, append_assoc, get_or, length, None, Ok, Option, ℕ}
-use Rattle.std.proofs.lemmas.List.Sorted.{All-permutation, Contains-permutation, length_permutation}
-use Rattle.std.proofs.{Common.Result, Common.subst, KnownBytes.Appends-trans, KnownBytes.Keeps-refl}
-use Rattle.thorin_check.specs.Checking.{ChecksIndexed, FailsOne, TellsExecutable, TellsStringsOfAll}
-use Rattle.thorin_check.specs.Faults.{missing_text, room_of, TellsLooked, TellsRowsOf, TellsStrings}
-use Rattle.thorin_check.specs.Telling.{fault_count, ForEach, InTurn, Progress, Tells, TellsOr, Told}
-use Rattle.std.proofs.Common.{Bor, Err, inl, inr, suc, sym, ◌+◌, ◌<◌, ◌∙◌, ◌∷◌, ◌≡◌, ◌≢◌, ◌≤◌, ◌⊎◌}
-use Rattle.std.proofs.Common.{arith, Bool, codes, false, List, OnOk, refl, Some, true, zero, ◌++◌}
-use Rattle.thorin_check.specs.Faults.{long_bytes, strings_of, TellsFound, TellsInRow, TellsListed}
-use Rattle.thorin_check.specs.Faults.{longest_path, missing_faults, TellsNumbered, TellsStringsOf}
-use Rattle.{dwp_base.specs.declared.section.SectionKind.SectionKind, dwp_index.specs.Index.Index}
+use Rattle.thorin_check.specs.Faults.{TellsListed, TellsLooked, TellsNamed, TellsNumbered, TellsOwn}
+use Rattle.{dwp_base.specs.declared.section.SectionKind.SectionKind, thorin_check.specs.Ends.AllEnd}
+use Rattle.thorin_check.specs.{Rendering.FaultValue, Rendering.of_unit, Sound.NameOnce, Sound.slots}
+use Rattle.std.proofs.Common.{get_or, inl, inr, length, List, None, Ok, OnOk, Option, refl, Result}
+use Rattle.std.proofs.lemmas.List.Sorted.{All-permutation, Contains-permutation, IsPermutation-sym}
+use Rattle.thorin_check.specs.Faults.{longest_path, missing_faults, missing_text, room_of, row_end}
+use Rattle.thorin_check.specs.Indexes.{column_faults, lacks_column, mixed_versions, section_faults}
+use Rattle.thorin_check.specs.Telling.{fault_count, ForEach, InTurn, Is, Progress, Tells, TellsOr}
+use Rattle.std.proofs.Common.{Some, subst, suc, sym, true, zero, [], ℕ, ◌++◌, ◌+◌, ◌<◌, ◌∙◌, ◌∷◌}
+use Rattle.std.proofs.Common.{ap, append-nil, append_assoc, arith, Bool, Bor, codes, Err, false}
 use Rattle.dwp_index.specs.declared.{error.PackageError.PackageError, units.UnitEntry.UnitEntry}
 use Rattle.dwp_table.specs.{Columns.contribution_kinds, declared.object.DwarfObject.DwarfObject}
+use Rattle.std.proofs.{KnownBytes.Appends-trans, KnownBytes.Keeps-refl, lemmas.Option.same_Some}
+use Rattle.thorin_check.specs.Checking.{Checks, ChecksBytes, ChecksIndexed, FailsOne, Finishes}
 use Rattle.std.proofs.lemmas.List.FromFn.{get_or-map-range_with_len, length-map-range_with_len}
-use Rattle.thorin_check.specs.{Own.own_of, Rendering.FaultValue, Rendering.of_unit, Telling.Is}
-use Rattle.thorin_check.specs.Sound.{AreNamed, Executables, HasUnitsOf, IsSoundUnit, NameOnce}
-use Rattle.thorin_check.specs.{Ends.AllEnd, Indexes.column_faults, Sound.IsSound, Sound.slots}
-use Rattle.thorin_check.specs.Checking.{ChecksBytes, IsOfChecking, IsOfReading, TellsPackage}
-use Rattle.thorin_check.specs.Faults.{long_size, row_fault, TellsEnd, TellsNamed, TellsUnit}
-use Rattle.thorin_check.specs.{Apart.AreApartIn, Indexes.lacks_column, Strings.HasStringsOf}
-use Rattle.std.specs.{declared.io.Error.Error as IoError, List.flat_map, Result.result_err}
-use Rattle.thorin_check.specs.Checking.{Checks, Finishes, status_of, TellsSlot, TellsSlots}
+use Rattle.std.{proofs.lemmas.Bool.Decides.nat_tests, specs.declared.io.Error.Error as IoError}
+use Rattle.thorin_check.specs.Checking.{IsOfChecking, IsOfReading, status_of, TellsExecutable}
+use Rattle.thorin_check.specs.Faults.{row_fault, strings_of, TellsEnd, TellsFound, TellsInRow}
+use Rattle.thorin_check.specs.Sound.{AreNamed, Executables, HasUnitsOf, IsSound, IsSoundUnit}
+use Rattle.thorin_check.specs.{declared.executables.Reading.Reading, Indexes.versions_faults}
+use Rattle.{thorin_check.specs.Strings.HasStringsOf, thorin_errors.specs.Answers.MemoryAside}
+use Rattle.thorin_check.specs.Faults.{TellsRowsOf, TellsStrings, TellsStringsOf, TellsUnit}
+use Rattle.std.proofs.lemmas.List.{length-map, nil_from_length, Sorted.length_permutation}
 use Rattle.thorin_print.{proofs.Printed.none_grown, specs.declared.output.Failure.Failure}
-use Rattle.std.proofs.lemmas.List.Elements.{All-cons, All-contains, All-nil, All-weaker}
-use Rattle.{std.specs.List.All, thorin_check.specs.declared.executables.Reading.Reading}
-use Rattle.thorin_check.specs.Indexes.{mixed_versions, section_faults, versions_faults}
-use Rattle.std.proofs.lemmas.{List.length-map, List.nil_from_length, Option.same_Some}
-use Rattle.thorin_check.proofs.Packages.{all_ends, own_once, range_ends, row_of_found}
-use Rattle.thorin_check.specs.Faults.{is_bare, IsBroken, IsUnread, row_end, TellsOwn}
-use Rattle.std.proofs.lemmas.{Bool.Decides.nat_tests, List.Sorted.IsPermutation-sym}
+use Rattle.thorin_check.specs.Faults.{is_bare, IsBroken, IsUnread, long_bytes, long_size}
+use Rattle.{std.specs.List.All, std.specs.List.flat_map, thorin_check.specs.Own.own_of}
 use Rattle.thorin_check.proofs.Told.{counted_from, stopped_behind, then_or, told_as}
+use Rattle.thorin_check.specs.Checking.{TellsPackage, TellsSlot, TellsStringsOfAll}
+use Rattle.thorin_check.proofs.Packages.{unit_ends, lies_in, own_once, range_ends}
+use Rattle.{thorin_check.specs.Telling.Told, thorin_errors.specs.Errors.error_of}
 use Rattle.thorin_errors.specs.declared.error.Error.{Error, TheVariants.Memory}
 use Rattle.thorin_find.specs.{Files.FailsToRead, Files.Offer, Listing.AreByRow}
+use Rattle.std.proofs.lemmas.List.Elements.{All-cons, All-contains, All-nil}
 use Rattle.thorin_print.specs.Answers.{Grows, IsOfPrinting, Outcome, Prints}
 use Rattle.dwp_index.specs.Package.{found, FoundUnit, Package, package_of}
 use Rattle.thorin_executable.specs.Skeletons.{Listed, Named, skeletons_by}
-use Rattle.thorin_errors.specs.{Answers.MemoryAside, Errors.error_of}
+use Rattle.{dwp_index.specs.Index.Index, std.specs.Result.result_err}
 use Rattle.dwp_bytes.specs.StringOffsets.{entry_in, string_in}
 use Rattle.thorin_find.specs.Finding.{string_count, string_of}
+use Rattle.std.proofs.Common.{◌≡◌, ◌≢◌, ◌≤◌, ◌⊎◌}
 use Rattle.dwp_base.specs.declared.section.SectionKind.TheVariants as kinds
 
 -- ---- no faults
@@ -47,8 +48,8 @@ none_of_both : (first rest : List FaultValue) → [] ≡ first ++ rest → (firs
 none_of_both [] rest e = (refl, sym e)
 none_of_both (fault ∷ first) rest e = absurd cc
 
-pub none_in_turn : (P Q : List FaultValue → Type 0) → InTurn P Q [] → P [] × Q []
-none_in_turn P Q t =
+none_in_turn : {P Q : List FaultValue → Type 0} → InTurn P Q [] → P [] × Q []
+none_in_turn {P} {Q} t =
     let none = none_of_both t.first t.rest t.all in
     (subst P none.0 t.is_first, subst Q none.1 t.is_rest)
 
@@ -56,7 +57,7 @@ pub none_for_each : {X : Type 0} (P : X → List FaultValue → Type 0) (xs : Li
     → ForEach P xs [] → All (λ x. P x []) xs
 none_for_each P [] h = All-nil (λ x. P x [])
 none_for_each P (x ∷ xs) h =
-    let both = none_in_turn (P x) (ForEach P xs) h in
+    let both = none_in_turn {P = P x} {Q = ForEach P xs} h in
     All-cons (λ x. P x []) x xs both.0 (none_for_each P xs both.1)
 
 -- ---- a unit
@@ -95,7 +96,7 @@ module _ (unit : FoundUnit) where
   one_read object h i lt =
       let size : length (strings_of unit) ≡ string_count unit =
       length-map-range_with_len (λ k. (k, string_of unit k)) 0 (string_count unit) in
-      let within : i < length (strings_of unit) = subst (λ n. i < n) (sym size) lt in
+      let within : i < length (strings_of unit) = rw size lt in
       let each = none_for_each (TellsNumbered object) (strings_of unit) h in
       let is : get_or (strings_of unit) i (i, string_of unit i) ≡ (i, string_of unit i) =
       get_or-map-range_with_len (λ k. (k, string_of unit k)) 0 (string_count unit) i i
@@ -118,9 +119,8 @@ module _ (pack : Package) (objects : List DwarfObject)
       one.object (none_for_each (λ object. TellsStringsOf object (found pack object)) objects none)
       one.is_one in
       let all = all_read_of one.unit one.object (rw one.is_found at told) in
-      let ends = range_ends pack one.object one.unit one.is_found range one.is_range all in
-      all_ends pack object unit is _ refl
-      (λ other e. rw (← same_Some range other (sym has ∙ e)) ends)
+      unit_ends pack object unit is range has
+      (range_ends pack one.object one.unit one.is_found range one.is_range all)
 
 -- ---- a sound unit
 
@@ -131,13 +131,12 @@ unfolding TellsUnit
 sound_unit pack objects none entry h =
     let looked = looked_up pack entry (found pack entry.object) h.0 in
     let row = in_its_row pack entry looked.0 looked.2 in
-    let place = row_of_found pack entry.object looked.0 looked.1 in
     let has = rw looked.1 at (h.1 refl) in
     record {
       unit = looked.0;
       is_found = looked.1;
       in_row = row.0;
-      inside = place.inside;
+      inside = lies_in pack entry.object looked.0 looked.1;
       has_abbreviations = row.1;
       own = row.2;
       strings = strings_end pack objects none entry.object looked.0 looked.1 has;
@@ -223,28 +222,24 @@ pub no_fault_told : (offer : Offer) (executables : Executables) (pack : Package)
     (entries : List UnitEntry) → AreByRow pack entries
     → TellsPackage offer executables pack entries [] → IsSound offer executables pack
 no_fault_told offer executables pack entries by_row t =
-    let parts = none_in_turn _ _ t in
-    let units = none_in_turn (TellsSlots pack parts.0.0 entries)
-    (TellsStringsOfAll pack parts.0.0) parts.0.2 in
-    let others = none_in_turn _ _ parts.1 in
-    let tables = none_in_turn _ _ others.0 in
-    let sections = none_in_turn _ _ tables.0 in
-    let behind = none_in_turn _ _ tables.1 in
-    let indexes = none_in_turn _ _ behind.0 in
-    let rows = none_in_turn _ _ behind.1 in
+    let parts = none_in_turn t in
+    let units = none_in_turn parts.0.2 in
+    let others = none_in_turn parts.1 in
+    let tables = none_in_turn others.0 in
+    let sections = none_in_turn tables.0 in
+    let behind = none_in_turn tables.1 in
+    let indexes = none_in_turn behind.0 in
+    let rows = none_in_turn behind.1 in
+    let each = none_for_each (TellsSlot pack parts.0.0) entries units.0.0 in
     let sound = All-permutation (IsSoundUnit pack) entries (slots pack)
     (IsPermutation-sym (slots pack) entries by_row.all)
-    (All-weaker (λ entry. TellsSlot pack parts.0.0 entry []) (IsSoundUnit pack)
-    (sound_unit pack parts.0.0 units.1) entries
-    (none_for_each (TellsSlot pack parts.0.0) entries units.0.0)) in
+    (λ i d lt. sound_unit pack parts.0.0 units.1 _ (each i d lt)) in
     let as_many = length_permutation (slots pack) entries by_row.all in
     let entry = λ (slot : UnitEntry). Contains-permutation (slots pack) entries slot by_row.all in
     record {
       sound = record {
         units = sound;
-        apart = All-weaker (AreApartIn pack entries) (AreApartIn pack (slots pack))
-            (λ kind h a b is_a is_b. h a b (entry a is_a) (entry b is_b)) contribution_kinds
-            (units.0.1 refl);
+        apart = λ i d lt a b is so. units.0.1 refl i d lt a b (entry a is) (entry b so);
         compilations_named = rows_named pack entries by_row (codes "cu") false
             pack.compilations rows.0;
         types_named = rows_named pack entries by_row (codes "tu") true pack.types rows.1;
@@ -254,18 +249,12 @@ no_fault_told offer executables pack entries by_row t =
             (codes " is empty or absent") sections.0);
         has_strings = none_wrong kinds.Str _ (codes " is empty or absent") sections.1;
         one_version = one_version (mixed_versions pack) indexes.0;
-        has_columns = All-weaker (λ kind. Is (column_faults kind (lacks_column pack kind)) [])
-            (λ kind. lacks_column pack kind ≡ false)
-            (λ kind. none_wrong kind (lacks_column pack kind)
-            (codes ": no index has a column for it")) contribution_kinds
+        has_columns = λ i d lt. none_wrong _ _ (codes ": no index has a column for it")
             (none_for_each (λ kind. Is (column_faults kind (lacks_column pack kind)))
-            contribution_kinds indexes.1);
+            contribution_kinds indexes.1 i d lt);
       };
-      named = All-weaker
-          (λ executable. TellsExecutable offer executables.reading pack executable.now [])
-          (λ executable. HasUnitsOf offer executables.reading pack executable.now)
-          (λ executable. has_units offer executables.reading pack executable.now)
-          executables.paths (none_for_each _ executables.paths others.1);
+      named = λ i d lt. has_units offer executables.reading pack _
+          (none_for_each _ executables.paths others.1 i d lt);
     }
 
 -- ---- the status
@@ -280,19 +269,11 @@ some_fault faults status e is none = let told = rw none at e in omega arith
 
 -- ---- units that an executable names
 
-module _ (executable : List ℕ) (named : Named)
-    (looked : Result (Option FoundUnit) PackageError) where
-  pub missing_some : (unit : FoundUnit) → looked ≡ Ok (Some unit)
-      → [] ≡ missing_faults executable named looked
-  missing_some unit e = rw e refl
-
-  pub missing_unread : (cause : PackageError) → looked ≡ Err cause
-      → [] ≡ missing_faults executable named looked
-  missing_unread cause e = rw e refl
-
-  pub missing_none : looked ≡ Ok None → (text : List ℕ) → text ≡ missing_text executable named.1
-      → of_unit named.0 text ∷ [] ≡ missing_faults executable named looked
-  missing_none e text is = rw (e, is) refl
+pub missing_none : (executable : List ℕ) (named : Named)
+    (looked : Result (Option FoundUnit) PackageError) → looked ≡ Ok None → (text : List ℕ)
+    → text ≡ missing_text executable named.1
+    → of_unit named.0 text ∷ [] ≡ missing_faults executable named looked
+missing_none executable named looked e text is = rw (e, is) refl
 
 -- the end behind one more, that takes some room
 end_behind : (executable : List ℕ) (room less : ℕ) (x : Named) (first : List Named)

@@ -2,48 +2,44 @@
 -- are read alike; the unit that a look-up finds is that of a row, whose ranges lie inside their
 -- sections; the identifiers that units' own bytes give; which strings end, as the last zero byte of
 -- all tells, and the strings of units, by the string offsets that they share.
-use Rattle.dwp_index.specs.Package.{first_outside, found_counted, lies_inside, unit_at_row, unit_in}
-use Rattle.std.proofs.Common.{[], Bool, eqb, Err, find, None, refl, sym, take, true, ◌+◌, ◌-◌, ◌||◌}
-use Rattle.std.proofs.Common.{add-one, get_or-drop, IsTrue, length, length-drop, nat_eq, option_map}
-use Rattle.std.proofs.Common.{arith, drop, false, get_or, List, Option, Result, Some, zero, ℕ, ◌++◌}
-use Rattle.std.proofs.lemmas.List.Elements.{All-more, All-push, Contains-append_left, Contains-push}
+use Rattle.thorin_check.specs.Gathered.{Adds, AllEndIn, Gathered, Gathers, IsGathered, IsGatheredIn}
 use Rattle.thorin_check.specs.Strings.{HasStringsIn, HasStringsOf, IsRangeOfOne, range_by, range_of}
 use Rattle.thorin_check.specs.declared.{overlaps.Placed.Placed, strings.UnreadStrings.UnreadStrings}
-use Rattle.dwp_index.specs.Package.{FoundUnit, index_for, is_outside, part_of, place_of, row_bytes}
-use Rattle.dwp_index.{proofs.Packages.by_row, specs.Contents.content, specs.Contents.Sections}
-use Rattle.std.proofs.lemmas.{Bool.cases_lt, List.drop-take, List.get_or_default, Option.same_Some}
-use Rattle.std.specs.{BTreeMap.insert_entry, Option.option_eq, Result.result_err, Result.result_ok}
-use Rattle.thorin_check.specs.Apart.{AreApart, AreApartIn, HasRange, HasRanges, IsApart, tables_by}
-use Rattle.dwp_base.specs.declared.{endian.Endianness.Endianness, section.SectionKind.SectionKind}
-use Rattle.thorin_check.specs.Remembered.{bytes_at, is_in_types, numbers_of, place_in, section_by}
+use Rattle.{dwp_base.specs.declared.endian.Endianness.Endianness, thorin_find.specs.Names.header_in}
+use Rattle.std.proofs.lemmas.List.Elements.{All-nil, All-push, Contains-append_left, Contains-push}
+use Rattle.{dwp_bytes.specs.Input.section, dwp_table.specs.declared.object.DwarfObject.DwarfObject}
+use Rattle.std.proofs.Common.{Option, option_map, refl, Result, Some, suc, sym, true, zero, [], ℕ}
+use Rattle.dwp_index.specs.Package.{is_outside, kind_of, lies_inside, Package, part_of, place_of}
+use Rattle.std.proofs.Common.{get_or-drop, inl, inr, IsTrue, length, length-drop, List, None, Ok}
+use Rattle.thorin_check.specs.{declared.abbreviations.UnitPlace.UnitPlace, Remembered.section_by}
+use Rattle.std.proofs.lemmas.{List.Folds.list_any_at, List.Folds.list_any_none, Option.same_Some}
+use Rattle.{dwp_bytes.specs.declared.encoding.Encoding.Encoding, std.proofs.lemmas.Bool.cases_lt}
 use Rattle.dwp_index.specs.declared.{error.PackageError.PackageError, units.UnitEntry.UnitEntry}
-use Rattle.dwp_table.specs.{Columns.contribution_kinds, declared.object.DwarfObject.DwarfObject}
-use Rattle.thorin_check.specs.Gathered.{AllEndIn, Gathered, IsGathered, IsGatheredIn, string_by}
-use Rattle.thorin_check.specs.{declared.strings.StringRange.StringRange, Own.own_by, Own.own_of}
-use Rattle.std.specs.{declared.cmp.Ordering.Ordering, List.Sorted.IsPermutation, Map.values_of}
-use Rattle.thorin_check.specs.declared.abbreviations.{PlaceRead.PlaceRead, UnitPlace.UnitPlace}
+use Rattle.dwp_base.specs.declared.section.{Contribution.Contribution, SectionKind.SectionKind}
+use Rattle.dwp_index.specs.Package.{first_outside, found, found_counted, FoundUnit, index_for}
+use Rattle.thorin_check.specs.Remembered.{bytes_at, is_in_types, numbers_of, own_at, place_in}
 use Rattle.dwp_base.proofs.{Bools.by-bool, EveryKind.each, EveryKind.HoldsAll, Steps.same-ok}
 use Rattle.dwp_base.specs.declared.section.SectionKind.TheVariants.{Abbrev, Str, StrOffsets}
-use Rattle.dwp_base.{proofs.Bools.neither, specs.declared.section.Contribution.Contribution}
-use Rattle.std.proofs.lemmas.List.{Elements.All-nil, Folds.list_any_at, Folds.list_any_none}
-use Rattle.std.proofs.lemmas.{Bool.Decides.nat_tests, Map.Views.All-values-insert_entry}
-use Rattle.std.specs.List.{All, AllAdjacentBelow, AllPairs, Contains, IsAmong, list_any}
-use Rattle.thorin_check.specs.Overlaps.{overlap, range_by_index, same_range, slot_range}
-use Rattle.{dwp_table.specs.Columns.column_of, thorin_identity.specs.Identity.identity}
+use Rattle.{std.proofs.lemmas.Bool.Decides.nat_tests, thorin_find.specs.Finding.string_of}
+use Rattle.thorin_check.specs.Apart.{AreApartIn, HasRange, HasRanges, IsApart, tables_by}
+use Rattle.std.proofs.Common.{add-one, arith, Bool, drop, eqb, Err, false, find, get_or}
+use Rattle.thorin_check.specs.Overlaps.{has_units, overlap, range_by_index, same_range, slot_range}
+use Rattle.std.proofs.lemmas.List.{drop-take, get_or_default, Sorted.all_adjacent_more}
 use Rattle.dwp_bytes.specs.StringOffsets.{entry_count, entry_in, string_at, string_in}
-use Rattle.std.proofs.Common.{inl, inr, not, Ok, suc, ◌<◌, ◌∙◌, ◌∷◌, ◌≡◌, ◌≤◌, ◌⊎◌}
-use Rattle.std.proofs.lemmas.List.Sorted.{all_adjacent_more, Contains-permutation}
-use Rattle.thorin_find.specs.{Finding.string_of, Names.first_of, Names.header_in}
+use Rattle.thorin_check.specs.declared.strings.{Ends.Ends, StringRange.StringRange}
 use Rattle.dwp_index.specs.Index.{column_place, Index, range_in, Ranges, row_in}
-use Rattle.dwp_bytes.specs.{declared.encoding.Encoding.Encoding, Input.section}
-use Rattle.thorin_check.specs.Gathered.{Adds, Gathers, IsOfUnit, Listed, Lists}
+use Rattle.std.specs.List.{All, AllAdjacentBelow, AllPairs, Contains, list_any}
+use Rattle.std.proofs.Common.{◌++◌, ◌+◌, ◌-◌, ◌<◌, ◌∙◌, ◌∷◌, ◌≡◌, ◌≤◌, ◌⊎◌}
+use Rattle.thorin_check.specs.Gathered.{IsOfUnit, Listed, Lists, string_by}
 use Rattle.thorin_check.specs.Ends.{AllEnd, HasEnds, is_inside, IsReach}
-use Rattle.thorin_check.specs.{declared.strings.Ends.Ends, Faults.is_of}
-use Rattle.dwp_index.specs.Finding.{LiesInside, own_bytes, own_place}
-use Rattle.thorin_check.specs.Remembered.{IsReadIn, own_at, said_of}
+use Rattle.dwp_index.specs.Package.{row_bytes, unit_at_row, unit_in}
+use Rattle.thorin_check.specs.{Faults.is_of, Own.own_by, Own.own_of}
 use Rattle.memchr.specs.Find.{is_byte, IsLastByte, Nowhere, Passes}
-use Rattle.dwp_index.specs.Package.{found, kind_of, Package}
+use Rattle.dwp_table.specs.Columns.{column_of, contribution_kinds}
+use Rattle.dwp_index.specs.Finding.{LiesInside, own_bytes}
+use Rattle.std.specs.{Option.option_eq, Result.result_err}
 use Rattle.dwp_units.specs.Units.{Unit as Header, units}
+use Rattle.dwp_index.specs.Contents.{content, Sections}
 use Rattle.dwp_base.specs.declared.section.SectionKind.TheVariants as kinds
 use Rattle.thorin_check.specs.contracts.abbreviations.UnitPlacePartialEq.TheImpl as places
 use Rattle.thorin_check.specs.contracts.strings.StringRangePartialEq.TheImpl as string_ranges
@@ -83,15 +79,12 @@ index_has : (index : Option Index) (row : ℕ) (kind : SectionKind) (c : Contrib
 unfolding range_in
 index_has index row kind c is = grind (arith, nat_tests)
 
-not_overlap : (p q : Placed) (a b : Contribution) → 0 < a.size → 0 < b.size
-    → p.offset ≡ a.offset.0 → p.size ≡ a.size → q.offset ≡ b.offset.0 → q.size ≡ b.size
-    → IsApart p q ⊎ IsApart q p → overlap (Some a) (Some b) ≡ false
-not_overlap p q a b some more p_at p_of q_at q_of apart = grind (arith, nat_tests)
-
-read_alike : (p q : Placed) (a : Contribution) (s t : Option Contribution) → 0 < a.size
-    → p.offset ≡ a.offset.0 → p.size ≡ a.size → q.offset ≡ a.offset.0 → q.size ≡ a.size
-    → p.tables ≡ s → q.tables ≡ t → IsApart p q ⊎ IsApart q p → s ≡ t
-read_alike p q a s t some p_at p_of q_at q_of p_by q_by apart = grind (arith)
+-- where one is apart from the other they don't overlap, and are read alike if they are the same
+both_apart : (p q : Placed) (a b : Contribution) (s t : Option Contribution) → 0 < a.size
+    → 0 < b.size → IsApart p q ⊎ IsApart q p → p.offset ≡ a.offset.0 → p.size ≡ a.size
+    → p.tables ≡ s → q.offset ≡ b.offset.0 → q.size ≡ b.size → q.tables ≡ t
+    → (overlap (Some a) (Some b) ≡ false) × (a ≡ b → s ≡ t)
+both_apart p q a b s t some more apart p_at p_of p_by q_at q_of q_by = grind (arith, nat_tests)
 
 module _ (pack : Package) (slots : List UnitEntry) (kind : SectionKind) (ranges : List Placed)
     (has : HasRanges pack slots kind ranges) (apart : AllPairs IsApart ranges) where
@@ -110,47 +103,22 @@ module _ (pack : Package) (slots : List UnitEntry) (kind : SectionKind) (ranges 
       ]
 
   slots_by : (a b : UnitEntry) → Contains slots a → Contains slots b → (r s : Option Contribution)
-      → slot_range pack a kind ≡ r → slot_range pack b kind ≡ s → overlap r s ≡ false
-  slots_by a b is so None s here there = refl
-  slots_by a b is so (Some r) None here there = refl
+      → slot_range pack a kind ≡ r → slot_range pack b kind ≡ s → (overlap r s ≡ false)
+      × (has_units kind ≡ true → (range : Contribution) → r ≡ Some range → s ≡ Some range
+      → slot_range pack a Abbrev ≡ slot_range pack b Abbrev)
+  slots_by a b is so None s here there = (refl, λ units range e. absurd cc)
+  slots_by a b is so (Some r) None here there = (refl, λ units range e f. absurd cc)
   slots_by a b is so (Some r) (Some s) here there =
       let one = has a is r here in
       let other = has b so s there in
-      not_overlap one.0 other.0 r s (index_has (index_for pack a.object) a.row kind r here)
-      (index_has (index_for pack b.object) b.row kind s there) one.2 one.3 other.2 other.3
-      (placed_apart one.0 other.0 one.1 other.1)
+      let both = both_apart one.0 other.0 r s _ _
+      (index_has (index_for pack a.object) a.row kind r here)
+      (index_has (index_for pack b.object) b.row kind s there)
+      (placed_apart one.0 other.0 one.1 other.1) one.2 one.3 one.4 other.2 other.3 other.4 in
+      (both.0, λ units range e f. rw units at (both.1 (same_Some r s (e ∙ sym f))))
 
   pub slots_apart : AreApartIn pack slots kind
-  slots_apart a b is so = (
-    slots_by a b is so (slot_range pack a kind) (slot_range pack b kind) refl refl,
-    λ units range here there.
-        let one = has a is range here in
-        let other = has b so range there in
-        rw units at (read_alike one.0 other.0 range _ _
-        (index_has (index_for pack a.object) a.row kind range here) one.2 one.3 other.2 other.3
-        one.4 other.4 (placed_apart one.0 other.0 one.1 other.1)),
-  )
-
--- one section more
-module _ (pack : Package) (slots : List UnitEntry) (kinds : List SectionKind) (i : ℕ)
-    (d : SectionKind) (lt : i < length kinds) where
-  pub apart_on : (any fits : Bool) (ranges lent : List Placed) → lent ≡ ranges
-      → (any ≡ false → AreApart pack slots (take i kinds))
-      → HasRanges pack slots (get_or kinds i d) ranges → (fits ≡ true → AllPairs IsApart lent)
-      → (any || not fits) ≡ false → AreApart pack slots (take (i + 1) kinds)
-  apart_on any fits ranges lent same before has apart e =
-      let both = neither any (not fits) e in
-      let yes : fits ≡ true = grind (arith, both.1) in
-      All-more (AreApartIn pack slots) kinds i d lt (before both.0)
-      (slots_apart pack slots (get_or kinds i d) ranges has (rw same at (apart yes)))
-
--- ranges in another order
-pub ranges_sorted : (pack : Package) (slots : List UnitEntry) (kind : SectionKind)
-    (old new : List Placed) → IsPermutation old new → HasRanges pack slots kind old
-    → HasRanges pack slots kind new
-ranges_sorted pack slots kind old new same has slot is range here =
-    let there = has slot is range here in
-    (there.0, Contains-permutation old new there.0 same there.1, there.2, there.3, there.4)
+  slots_apart a b is so = slots_by a b is so _ _ refl refl
 
 -- ---- ranges that are gathered
 
@@ -160,12 +128,12 @@ HasFirst pack slots kind i ranges = (k : ℕ) (d : UnitEntry) → k < i → (ran
     → slot_range pack (get_or slots k d) kind ≡ Some range
     → HasRange ranges range (tables_by kind (slot_range pack (get_or slots k d) Abbrev))
 
-module _ (pack : Package) (slots : List UnitEntry) (kind : SectionKind) (i : ℕ) where
-  pub first_all : (ranges : List Placed) → length slots ≤ i → HasFirst pack slots kind i ranges
-      → HasRanges pack slots kind ranges
-  first_all ranges le has slot is range here =
-      let lt = is.1 in
-      let there = has is.0 slot (omega arith) range (rw is.2 here) in rw is.2 at there
+pub first_all : (pack : Package) (slots : List UnitEntry) (kind : SectionKind) (i : ℕ)
+    (ranges : List Placed) → length slots ≤ i → HasFirst pack slots kind i ranges
+    → HasRanges pack slots kind ranges
+first_all pack slots kind i ranges le has slot is range here =
+    let lt = is.1 in
+    let there = has is.0 slot (omega arith) range (rw is.2 here) in rw is.2 at there
 
 -- ---- the ranges of a unit
 
@@ -184,10 +152,7 @@ module _ (contents : Sections) (row : Ranges) where
   absent_inside : (kind : SectionKind) → column_of 5 kind ≡ None → column_of 2 kind ≡ None
       → IsInside kind
   unfolding range_in column_place
-  absent_inside kind standard gnu range is =
-      let column : column_of row.version kind ≡ None = by-bool _ (nat_eq row.version 5)
-      (λ e. rw e standard) (λ e. rw e gnu) in
-      let none : range_in row kind ≡ None = rw column refl in absurd cc
+  absent_inside kind standard gnu range is = grind (arith, nat_tests)
 
   pub all_inside_of : first_outside contents row ≡ None → LiesInside contents row
   unfolding first_outside
@@ -200,39 +165,8 @@ module _ (contents : Sections) (row : Ranges) where
         (absent_inside kinds.CuIndex refl refl, (absent_inside kinds.TuIndex refl refl, tt)),
       ) e)
 
--- ---- the unit that is found
-
-pub record IsRowOf (pack : Package) (object : DwarfObject) (unit : FoundUnit) : Type 0 where
-  pub row : option_map (λ index. row_in index unit.number) (index_for pack object)
-      ≡ Some (Ok unit.row)
-  pub inside : LiesInside pack.contents unit.row
-  pub contents : unit.contents ≡ pack.contents
-  pub order : unit.order ≡ pack.order
-  pub bytes : unit.bytes ≡ own_bytes pack.contents object unit.row
-
-module _ (pack : Package) (object : DwarfObject) (unit : FoundUnit)
-    (is : found pack object ≡ Ok (Some unit)) where
-  row_read : option_map (λ index. row_in index unit.number) (index_for pack object)
-      ≡ Some (Ok unit.row)
-  unfolding found found_counted unit_at_row unit_in
-  row_read = grind arith
-
-  unit_read : (first_outside pack.contents unit.row ≡ None) × (unit.contents ≡ pack.contents)
-      × (unit.order ≡ pack.order) × (unit.bytes ≡ own_bytes pack.contents object unit.row)
-  unfolding found unit_in
-  unit_read = grind (arith, by_row pack object)
-
-  pub row_of_found : IsRowOf pack object unit
-  row_of_found = record {
-    row = row_read;
-    inside = all_inside_of pack.contents unit.row unit_read.0;
-    contents = unit_read.1;
-    order = unit_read.2;
-    bytes = unit_read.3;
-  }
-
 -- the bytes of a range, by its numbers
-pub bytes_are : (bytes : List ℕ) (range : Option Contribution)
+bytes_are : (bytes : List ℕ) (range : Option Contribution)
     → ((c : Contribution) → range ≡ Some c → c.offset.0 + c.size ≤ length bytes)
     → bytes_at bytes (numbers_of range) ≡ part_of bytes range
 bytes_are bytes None inside = refl
@@ -242,81 +176,89 @@ bytes_are bytes (Some c) inside =
     let back : c.offset.0 + c.size - c.offset.0 ≡ c.size = omega arith in
     rw (fits, back) (drop-take c.offset.0 c.size bytes)
 
+no_string : (order : Endianness) (encoding : Encoding) (strings : List ℕ) (i : ℕ)
+    → result_err (string_in order encoding strings [] i) ≡ None
+unfolding string_in entry_in
+no_string order encoding strings i = grind (arith, nat_tests)
+
+-- ---- the unit that is found
+
+record IsRowOf (pack : Package) (object : DwarfObject) (unit : FoundUnit) : Type 0 where
+  row : option_map (λ index. row_in index unit.number) (index_for pack object) ≡ Some (Ok unit.row)
+  outside : first_outside pack.contents unit.row ≡ None
+  contents : unit.contents ≡ pack.contents
+  order : unit.order ≡ pack.order
+  bytes : unit.bytes ≡ own_bytes pack.contents object unit.row
+
 module _ (pack : Package) (object : DwarfObject) (unit : FoundUnit)
     (is : found pack object ≡ Ok (Some unit)) where
+  row_of_found : IsRowOf pack object unit
+  unfolding found found_counted unit_at_row unit_in
+  row_of_found = grind arith
+
+  pub lies_in : LiesInside pack.contents unit.row
+  lies_in = all_inside_of pack.contents unit.row row_of_found.outside
+
   -- a unit's own bytes and its abbreviations are those of its place
   pub own_is : own_at pack (place_in object unit) ≡ own_of object unit
   unfolding row_bytes
   own_is =
-      let row = row_of_found pack object unit is in
       let s = place_of object (range_in unit.row kinds.Types) in
       let back : section_by (is_in_types s) ≡ s = grind (arith) in
       let own = bytes_are (content pack.contents (kind_of s)) (range_in unit.row (kind_of s))
-      (row.inside (kind_of s)) in
-      let abbreviations = bytes_are (content pack.contents kinds.Abbrev)
-      (range_in unit.row kinds.Abbrev) (row.inside kinds.Abbrev) in
-      rw (back, row.contents, row.order, row.bytes, own, abbreviations) refl
+      (lies_in (kind_of s)) in
+      let abbreviations = bytes_are (content pack.contents Abbrev) (range_in unit.row Abbrev)
+      (lies_in Abbrev) in
+      rw (back, row_of_found.contents, row_of_found.order, row_of_found.bytes, own, abbreviations)
+      refl
 
-  -- what was read of a unit with a header, and of one without
-  pub own_read : (tables : Endianness × List ℕ) (order : Endianness) (header : Header)
-      → tables ≡ (pack.order, content pack.contents kinds.Abbrev) → order ≡ pack.order
-      → Some header ≡ header_in order object unit
-      → result_ok (identity (section tables.0 (bytes_at tables.1
-      (numbers_of (range_in unit.row kinds.Abbrev)))) header) ≡ own_of object unit
+  -- what was read of a unit by its header, if it has one
+  pub own_read : (tables : Endianness × List ℕ) (order : Endianness) (header : Option Header)
+      → tables ≡ (pack.order, content pack.contents Abbrev) → order ≡ pack.order
+      → header ≡ header_in order object unit
+      → own_by (section tables.0 (bytes_at tables.1 (numbers_of (range_in unit.row Abbrev))))
+      header ≡ own_of object unit
   unfolding row_bytes
   own_read tables order header are same headed =
-      let row = row_of_found pack object unit is in
-      let abbreviations = bytes_are (content pack.contents kinds.Abbrev)
-      (range_in unit.row kinds.Abbrev) (row.inside kinds.Abbrev) in
+      let abbreviations = bytes_are (content pack.contents Abbrev) (range_in unit.row Abbrev)
+      (lies_in Abbrev) in
       let own = rw same at headed in
-      rw (row.order, ← own, row.contents, are, abbreviations) refl
+      rw (row_of_found.order, ← own, row_of_found.contents, are, abbreviations) refl
 
-  pub own_unread : (order : Endianness) → order ≡ pack.order → None ≡ header_in order object unit
-      → own_of object unit ≡ None
-  own_unread order same headed =
-      let row = row_of_found pack object unit is in
-      let own = rw same at headed in
-      rw (row.order, ← own) refl
+  -- a unit's strings are those of its string offsets
+  of_range : (c : Option Contribution) → range_in unit.row StrOffsets ≡ c
+      → (range : StringRange) → option_map (range_by unit.encoding) c ≡ Some range → (i : ℕ)
+      → string_by pack range i ≡ string_of unit i
+  unfolding row_bytes string_in entry_in
+  of_range None there range e i = absurd cc
+  of_range (Some c) there range e i =
+      let same = same_Some (range_by unit.encoding c) range e in
+      rw (← same, row_of_found.contents, row_of_found.order, there) refl
 
--- ---- what is remembered
+  pub range_ends : (range : StringRange) → range_of unit ≡ Some range → AllEnd unit
+      → AllEndIn pack range
+  range_ends range e all i = rw (of_range _ refl range e i) (all i)
+
+  pub unit_ends : (range : StringRange) → range_of unit ≡ Some range → AllEndIn pack range
+      → AllEnd unit
+  unit_ends range e all i = rw (← of_range _ refl range e i) (all i)
+
+  pub none_ends : range_of unit ≡ None → AllEnd unit
+  unfolding row_bytes
+  none_ends none i =
+      let there : range_in unit.row StrOffsets ≡ None = grind (arith) in
+      rw there (no_string unit.order unit.encoding (content unit.contents Str) i)
+
+  -- it has the byte order and the sections of its package
+  pub of_found : (ends : Ends) → HasEnds ends pack.order (content pack.contents Str)
+      → HasEnds ends unit.order (content unit.contents Str)
+  of_found ends h = rw (row_of_found.contents, row_of_found.order) h
 
 -- places that `==` finds to be one
 pub places_same : (a b : UnitPlace) → IsTrue (places.eq-value.it a b) → a ≡ b
 places_same a b equal = grind (arith, nat_tests)
 
--- what was read of another unit of the same place
-pub known_again : (pack : Package) (object : DwarfObject) (unit : FoundUnit)
-    (shared : List PlaceRead) (read : PlaceRead) → found pack object ≡ Ok (Some unit)
-    → All (IsReadIn pack) shared → IsAmong shared read → read.place ≡ place_in object unit
-    → said_of read.own ≡ own_of object unit
-known_again pack object unit shared read is all among same =
-    let h = rw (← among.1.1) at (all among.0 read among.1.0) in
-    h ∙ (rw same (own_is pack object unit is))
-
--- one more place is remembered, by what was read of a unit there
-pub known_more : {K : Type 0} (cmp : K → K → Ordering) (pack : Package) (object : DwarfObject)
-    (unit : FoundUnit) (old new : List (K × PlaceRead)) (key : K) (read : PlaceRead)
-    → found pack object ≡ Ok (Some unit) → read.place ≡ place_in object unit
-    → said_of read.own ≡ own_of object unit → new ≡ insert_entry cmp old key read
-    → All (IsReadIn pack) (values_of old) → All (IsReadIn pack) (values_of new)
-known_more cmp pack object unit old new key read is same said e all =
-    let here : IsReadIn pack read = said ∙ (rw same (sym (own_is pack object unit is))) in
-    rw e (All-values-insert_entry cmp key read (IsReadIn pack) old all here)
-
 -- ---- units of one row
-
--- the identifier that the bytes of a row give
-abbrev own_in_row : Package → DwarfObject → Ranges → Option (Option DwarfObject)
-own_in_row pack object row =
-    own_by (section pack.order (row_bytes pack.contents row kinds.Abbrev))
-    (first_of (units (own_place object row)
-    (section pack.order (own_bytes pack.contents object row))))
-
-from_row : (pack : Package) (object : DwarfObject) (unit : FoundUnit)
-    → found pack object ≡ Ok (Some unit) → own_of object unit ≡ own_in_row pack object unit.row
-from_row pack object unit is =
-    let row = row_of_found pack object unit is in
-    rw (row.contents, row.order, row.bytes) refl
 
 -- objects of one kind have one index, and their bytes stand in one section
 alike : (pack : Package) (range : Option Contribution) (is_types : Bool) (a b : DwarfObject)
@@ -334,9 +276,16 @@ own_once pack is_types a b one other is so here there same =
     let both = alike pack (range_in other.row kinds.Types) is_types a b is so in
     let ranges : one.row ≡ other.row = same-ok one.row other.row (same_Some (Ok one.row)
     (Ok other.row) (sym (rw (both.0, same) at row.row) ∙ again.row)) in
-    let middle : own_in_row pack a one.row ≡ own_in_row pack b other.row =
-    rw (ranges, both.1) refl in
-    from_row pack a one here ∙ middle ∙ sym (from_row pack b other there)
+    rw (
+      row.contents,
+      row.order,
+      row.bytes,
+      again.contents,
+      again.order,
+      again.bytes,
+      ranges,
+      both.1,
+    ) refl
 
 -- ---- where strings end
 
@@ -361,13 +310,6 @@ pub of_package : (ends : Ends) (order : Endianness) (strings : List ℕ) (pack :
     → HasEnds ends order strings → order ≡ pack.order → strings ≡ content pack.contents Str
     → HasEnds ends pack.order (content pack.contents Str)
 of_package ends order strings pack h e f = rw (e, f) at h
-
--- a unit that is found has the byte order and the sections of its package
-pub of_found : (pack : Package) (object : DwarfObject) (unit : FoundUnit) (ends : Ends)
-    → HasEnds ends pack.order (content pack.contents Str) → found pack object ≡ Ok (Some unit)
-    → HasEnds ends unit.order (content unit.contents Str)
-unfolding found unit_in
-of_found pack object unit ends h e = grind (arith, by_row pack object)
 
 -- ---- a string of a unit
 
@@ -394,39 +336,6 @@ all_read ends order strings h encoding range end le below i =
 pub same_offsets : (before : Option StringRange) (range : StringRange)
     → IsTrue (option_eq string_ranges.eq-value.it before (Some range)) → before ≡ Some range
 same_offsets before range equal = grind (arith, nat_tests)
-
-no_string : (order : Endianness) (encoding : Encoding) (strings : List ℕ) (i : ℕ)
-    → result_err (string_in order encoding strings [] i) ≡ None
-unfolding string_in entry_in
-no_string order encoding strings i = grind (arith, nat_tests)
-
--- ---- strings of a unit
-
-module _ (pack : Package) (object : DwarfObject) (unit : FoundUnit)
-    (is : found pack object ≡ Ok (Some unit)) where
-  -- a unit's strings are those of its string offsets
-  of_range : (c : Option Contribution) → range_in unit.row StrOffsets ≡ c
-      → (range : StringRange) → option_map (range_by unit.encoding) c ≡ Some range → (i : ℕ)
-      → string_by pack range i ≡ string_of unit i
-  unfolding row_bytes string_in entry_in
-  of_range None there range e i = absurd cc
-  of_range (Some c) there range e i =
-      let row = row_of_found pack object unit is in
-      let same = same_Some (range_by unit.encoding c) range e in
-      rw (← same, row.contents, row.order, there) refl
-
-  pub range_ends : (range : StringRange) → range_of unit ≡ Some range → AllEnd unit
-      → AllEndIn pack range
-  range_ends range e all i = rw (of_range _ refl range e i) (all i)
-
-  pub all_ends : (c : Option Contribution) → range_in unit.row StrOffsets ≡ c
-      → ((range : StringRange) → range_of unit ≡ Some range → AllEndIn pack range) → AllEnd unit
-  unfolding row_bytes
-  all_ends None there ends i =
-      rw there (no_string unit.order unit.encoding (content unit.contents Str) i)
-  all_ends (Some c) there ends i =
-      let e : range_of unit ≡ Some (range_by unit.encoding c) = rw there refl in
-      rw (← of_range _ refl (range_by unit.encoding c) e i) (ends (range_by unit.encoding c) e i)
 
 -- ---- units that are gathered
 
@@ -471,15 +380,12 @@ module _ (pack : Package) (old : UnreadStrings) (unit : FoundUnit) (object : Dwa
         → new.unread.items ≡ old.unread.items ++ ((range, object) ∷ [])
         → new.last ≡ Some range → Adds pack old new unit
     listed_added new ends unread last =
+        let more = Contains-append_left old.unread.items ((range, object) ∷ []) in
         gathered new ends last (rw unread (All-push (IsOfUnit pack) old.unread.items (range, object)
         g.are (unit, is, sym has)))
         (λ other there. elim there [
           | inl all ↦ inl all
-          | inr listed ↦ inr (
-            listed.0,
-            rw unread (Contains-append_left old.unread.items
-                ((range, object) ∷ []) (other, listed.0) listed.1),
-          )
+          | inr listed ↦ inr (listed.0, rw unread (more (other, listed.0) listed.1))
         ])
         (inr (object, rw unread (Contains-push old.unread.items (range, object))))
 
@@ -490,12 +396,9 @@ module _ (pack : Package) (objects : List DwarfObject) (listed : Listed)
   gathered_in : (object : DwarfObject) (unit : FoundUnit) → found pack object ≡ Ok (Some unit)
       → (range : Option StringRange) → range_of unit ≡ range → Gathered pack listed unit
       → HasStringsOf pack objects unit
-  gathered_in object unit is None none g =
-      inl (all_ends pack object unit is _ refl
-      (λ range e. absurd (let some = sym none ∙ e in cc)))
+  gathered_in object unit is None none g = inl (none_ends pack object unit is none)
   gathered_in object unit is (Some range) has g = elim (g range has) [
-    | inl all ↦ inl (all_ends pack object unit is _ refl
-        (λ other e. rw (← same_Some range other (sym has ∙ e)) all))
+    | inl all ↦ inl (unit_ends pack object unit is range has all)
     | inr there ↦ inr (range, has, others range there)
   ]
 

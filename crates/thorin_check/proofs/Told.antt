@@ -1,45 +1,45 @@
 -- Faults that were told: of rows that no slot names, and of units, one of each range of string
 -- offsets.
-use Rattle.std.proofs.Common.{Bool, codes, IfOk, None, OnOk, refl, rules, Some, take, ℕ, ◌&&◌, ◌++◌}
-use Rattle.std.proofs.Common.{[], inr, List, min, sym, true, ◌+◌, ◌<◌, ◌^◌, ◌∙◌, ◌∷◌, ◌≢◌, ◌≤◌, ◌⊎◌}
-use Rattle.std.proofs.Common.{append-nil, append_assoc, below_more, decimal, string_bytes, take_all}
-use Rattle.std.proofs.lemmas.List.Elements.{All-weaker, Contains-append_left, Contains-append_right}
+use Rattle.std.proofs.Common.{ap, append-nil, append_assoc, arith, below_more, Bool, codes, decimal}
+use Rattle.std.proofs.lemmas.List.Elements.{All-append, All-contains, All-get_or, All-more, All-nil}
 use Rattle.thorin_check.specs.Rendering.{fault_text, FaultValue, of_executable, of_package, of_unit}
-use Rattle.{dwp_base.proofs.Bools.both, thorin_check.specs.declared.strings.StringRange.StringRange}
-use Rattle.std.proofs.Common.{arith, false, get_or, Global, length, nat_eq, Option, Result, String}
-use Rattle.std.proofs.lemmas.List.Elements.{All-append, All-more, All-nil, All-push, Contains-push}
-use Rattle.std.proofs.{KnownBytes.Appends-nil, lemmas.Bool.cases_lt, lemmas.Bool.Decides.nat_tests}
-use Rattle.thorin_check.specs.Faults.{is_of, string_text, TellsItself, TellsRowsOf, TellsStringsOf}
-use Rattle.thorin_check.specs.Gathered.{IsGathered, IsGatheredIn, IsOfUnit, TellsListed, TellsSeen}
-use Rattle.thorin_check.specs.Telling.{counted_on, ForEach, InTurn, Is, IsFault, Progress, TellsOr}
-use Rattle.thorin_check.specs.{Gathered.GoesOn, Gathered.IsSeen, Gathered.Listed, Overlaps.IsClash}
-use Rattle.{dwp_bytes.specs.declared.error.ReadError.ReadError, thorin_words.specs.Printed.printed}
-use Rattle.std.specs.{List.All, List.AllPairs, List.Contains, Result.IsErrAnd, Result.result_err}
+use Rattle.std.{proofs.lemmas.Grind.flat_map-append, specs.Result.IsErrAnd, specs.Result.result_err}
+use Rattle.std.proofs.Common.{string_bytes, sym, take, take_all, true, [], ℕ, ◌&&◌, ◌++◌, ◌+◌, ◌-◌}
+use Rattle.thorin_check.specs.Gathered.{GoesOn, IsGathered, IsGatheredIn, IsOfUnit, IsSeen, Listed}
+use Rattle.{dwp_bytes.specs.declared.error.ReadError.ReadError, std.proofs.lemmas.Option.same_Some}
+use Rattle.std.proofs.lemmas.List.Elements.{All-push, Contains-append_left, Contains-append_right}
+use Rattle.{dwp_base.proofs.Bools.both, std.specs.Ordering.nat_cmp, thorin_check.specs.Own.own_of}
+use Rattle.std.proofs.Common.{Err, false, get_or, Global, IfOk, inl, inr, length, List, map, min}
+use Rattle.thorin_check.specs.Telling.{counted_on, ForEach, InTurn, Is, IsFault, Progress, Tells}
+use Rattle.std.proofs.lemmas.List.{Elements.Contains-push, get_or_default, map-append, take_more}
+use Rattle.std.proofs.Common.{nat_eq, None, Ok, OnOk, Option, refl, Result, rules, Some, String}
+use Rattle.thorin_check.specs.Strings.{HasOffsets, IsBehind, IsRangeOfOne, number_of, ShareNone}
 use Rattle.dwp_index.specs.declared.{error.PackageError.PackageError, units.UnitEntry.UnitEntry}
 use Rattle.dwp_table.specs.{Columns.contribution_kinds, declared.object.DwarfObject.DwarfObject}
-use Rattle.std.proofs.lemmas.List.{Elements.All-contains, get_or_default, map-append, take_more}
-use Rattle.std.proofs.lemmas.{Grind.flat_map-append, List.Elements.All-get_or, Option.same_Some}
-use Rattle.thorin_check.specs.Strings.{HasOffsets, IsBehind, IsRangeOfOne, number_of, ShareNone}
-use Rattle.thorin_print.{proofs.Printed.grown, specs.declared.form.Form.Form, specs.Shown.shown}
-use Rattle.thorin_check.specs.Faults.{IsUnnamed, row_fault, TellsFound, TellsString, TellsUnit}
-use Rattle.thorin_check.specs.Texts.{IsSomeText, IsTextOf, IsUnreadText, TellsText, TellsWhat}
-use Rattle.{dwp_base.proofs.Steps.same-ok, thorin_print.specs.declared.output.Failure.Failure}
-use Rattle.std.specs.{List.Sorted.IsPermutation, List.Sorted.IsSortedByKey, Ordering.nat_cmp}
+use Rattle.thorin_check.{proofs.Packages.has_strings, specs.Telling.TellsOr, specs.Telling.Told}
+use Rattle.std.specs.List.{All, AllPairs, Contains, Sorted.IsPermutation, Sorted.IsSortedByKey}
+use Rattle.thorin_check.specs.Faults.{IsUnnamed, row_fault, string_text, TellsFound, TellsOwn}
+use Rattle.std.proofs.{KnownBytes.Appends-nil, KnownBytes.Appends-trans, lemmas.Bool.cases_lt}
 use Rattle.thorin_check.specs.Checking.{TellsSlot, TellsSlots, TellsStringsOfAll, TellsUnits}
-use Rattle.thorin_check.specs.Faults.{ArePast, is_bare, is_from, IsBroken, IsNamed, TellsOwn}
 use Rattle.std.proofs.lemmas.List.Sorted.{Contains-permutation, IsNonDecreasingBy-from_sort}
-use Rattle.std.proofs.{KnownBytes.Appends-trans, lemmas.List.Quantifiers.all_pairs_push}
-use Rattle.thorin_check.specs.{Apart.AreApart, Own.own_of, Telling.Tells, Telling.Told}
-use Rattle.thorin_check.{proofs.Packages.has_strings, specs.declared.units.Seen.Seen}
-use Rattle.thorin_print.specs.Answers.{Grows, IsOfPrinting, Outcome, Prints}
+use Rattle.thorin_check.specs.Faults.{ArePast, is_bare, is_from, is_of, IsBroken, IsNamed}
+use Rattle.thorin_check.specs.Faults.{TellsRowsOf, TellsString, TellsStringsOf, TellsUnit}
+use Rattle.thorin_check.specs.{Gathered.TellsListed, Gathered.TellsSeen, Overlaps.IsClash}
+use Rattle.thorin_check.specs.declared.{strings.StringRange.StringRange, units.Seen.Seen}
+use Rattle.std.proofs.lemmas.{Bool.Decides.nat_tests, List.Quantifiers.all_pairs_push}
+use Rattle.{thorin_check.specs.Apart.AreApart, thorin_words.specs.Printed.printed}
+use Rattle.thorin_check.specs.Texts.{IsSomeText, IsTextOf, TellsText, TellsWhat}
+use Rattle.thorin_print.specs.declared.{form.Form.Form, output.Failure.Failure}
+use Rattle.std.proofs.Common.{◌<◌, ◌^◌, ◌∙◌, ◌∷◌, ◌≡◌, ◌≢◌, ◌≤◌, ◌⊎◌}
+use Rattle.thorin_print.{proofs.Printed.grown, specs.Shown.shown}
 use Rattle.dwp_index.specs.Package.{found, FoundUnit, Package}
-use Rattle.std.proofs.Common.{ap, Err, inl, map, Ok, ◌-◌, ◌≡◌}
 use Rattle.thorin_find.specs.Listing.{place_by, place_of_line}
+use Rattle.thorin_print.specs.Answers.{Grows, Outcome, Prints}
 
 -- what the exit of a `?` answers
-pub exit_is : {T E : Type 0} {e : E} (r : Result T E) → IsErrAnd r (λ y. y ≡ e) → r ≡ Err e
-exit_is (Ok x) h = absurd h
-exit_is (Err y) h = ap Err h
+pub exit_is : {T E : Type 0} {e : E} {r : Result T E} → IsErrAnd r (λ y. y ≡ e) → r ≡ Err e
+exit_is {r = Ok x} h = absurd h
+exit_is {r = Err y} h = ap Err h
 
 -- ---- how many
 
@@ -173,13 +173,6 @@ module _ {E : Type 0} (P : List FaultValue → Type 0) (object : DwarfObject) wh
       → IfOk text (λ t. Q (string_bytes t)) → IsSomeText text result → IsTextOf P object result
   made Q text result goes is so = grind (arith, goes)
 
--- faults were told, and then not what was to be made for a fault
-pub text_stopped : {E : Type 0} {P : List FaultValue → Type 0} {a b : Progress}
-    (object : DwarfObject)
-    (text : Result (Option (String Global)) E) (c : Progress) (failure : Failure) → Told P a b
-    → TellsText object text b c (Err failure) → IsOfPrinting failure × Grows a.written c.written
-text_stopped object text c failure p h = grind (arith, Appends-trans)
-
 -- a text that was made for a fault of the package was told
 pub what_told : {E : Type 0} (what : List ℕ) (text : Result (String Global) E) (a b : Progress)
     (result : Outcome) → IfOk text (λ t. string_bytes t ≡ what) → TellsWhat text a b result
@@ -189,51 +182,25 @@ what_told what (Err cause) a b result is h = rw h.0 (tt, h.1)
 
 -- ---- units
 
-module _ (pack : Package) (entry : UnitEntry) where
-  pub unit_none : found pack entry.object ≡ Ok None → (text : List ℕ)
-      → text ≡ codes "not found under its identifier"
-      → TellsUnit pack entry (of_unit entry.object text ∷ [])
-  unfolding TellsUnit
-  unit_none e text is = rw (e, is) refl
+module _ (pack : Package) (entry : UnitEntry) (unit : FoundUnit) where
+  pub other_row : unit.number ≢ entry.row → (text : List ℕ)
+      → text ≡ codes "found in row " ++ decimal unit.number
+      → TellsFound pack entry unit (of_unit entry.object text ∷ [])
+  other_row e text is = inl (e, rw is refl)
 
-  pub unit_unread : (cause : PackageError) → found pack entry.object ≡ Err cause
-      → (text : List ℕ) → IsUnreadText cause text
-      → TellsUnit pack entry (of_unit entry.object text ∷ [])
-  unfolding TellsUnit
-  unit_unread cause e text is = grind (arith)
-
-  pub unit_some : {E : Type 0} (unit : FoundUnit) (text : Result (Option (String Global)) E)
-      → found pack entry.object ≡ Ok (Some unit)
-      → IsTextOf (TellsFound pack entry unit) entry.object text
-      → IsTextOf (TellsUnit pack entry) entry.object text
-  unfolding TellsUnit
-  unit_some unit text e h = grind (arith)
-
-  module _ (unit : FoundUnit) where
-    pub other_row : unit.number ≢ entry.row → (text : List ℕ)
-        → text ≡ codes "found in row " ++ decimal unit.number
+  module _ (bare : Bool) (is : bare ≡ is_bare pack unit) (row : unit.number ≡ entry.row) where
+    pub in_bare_row : bare ≡ true → (text : List ℕ) → text ≡ codes "its row has no abbreviations"
         → TellsFound pack entry unit (of_unit entry.object text ∷ [])
-    other_row e text is = inl (e, rw is refl)
+    in_bare_row e text so = grind (arith)
 
-    module _ (bare : Bool) (is : bare ≡ is_bare pack unit) (row : unit.number ≡ entry.row) where
-      pub in_bare_row : bare ≡ true → (text : List ℕ) → text ≡ codes "its row has no abbreviations"
-          → TellsFound pack entry unit (of_unit entry.object text ∷ [])
-      in_bare_row e text so = grind (arith)
+    pub clashed : bare ≡ false → (text : List ℕ) → IsClash pack unit text
+        → TellsFound pack entry unit (of_unit entry.object text ∷ [])
+    clashed e text clash = grind (arith)
 
-      pub in_whole_row : {E : Type 0} (text : Result (Option (String Global)) E) → bare ≡ false
-          → IsTextOf (TellsItself pack entry.object unit) entry.object text
-          → IsTextOf (TellsFound pack entry unit) entry.object text
-      in_whole_row text e h = grind (arith)
-
-module _ (pack : Package) (object : DwarfObject) (unit : FoundUnit) where
-  pub clashed : (text : List ℕ) → IsClash pack unit text
-      → TellsItself pack object unit (of_unit object text ∷ [])
-  clashed text clash = inl (text, clash, refl)
-
-  pub of_its_own : {E : Type 0} (text : Result (Option (String Global)) E)
-      → IsTextOf (TellsOwn object (own_of object unit)) object text
-      → IsTextOf (TellsItself pack object unit) object text
-  of_its_own text h = grind (arith)
+    pub of_its_own : {E : Type 0} (text : Result (Option (String Global)) E) → bare ≡ false
+        → IsTextOf (TellsOwn entry.object (own_of entry.object unit)) entry.object text
+        → IsTextOf (TellsFound pack entry unit) entry.object text
+    of_its_own text e h = grind (arith)
 
 -- ---- executables
 
@@ -263,19 +230,13 @@ pub row_more : (kind : List ℕ) (is_types : Bool) (slots : List UnitEntry) (row
 row_more kind is_types slots row new faults more unnamed this t told = record {
   rows = t.rows ++ new;
   are = rw (t.are, told) (sym (map-append (row_fault kind) t.rows new));
-  unnamed = All-append (IsUnnamed slots is_types (row + 1)) t.rows new
-      (All-weaker (IsUnnamed slots is_types row) (IsUnnamed slots is_types (row + 1))
-      (λ r h. (h.0, omega (arith, h.1), h.2)) t.rows t.unnamed) unnamed;
+  unnamed = All-append (IsUnnamed slots is_types (row + 1)) t.rows new (λ i d lt.
+      let h = t.unnamed i d lt in (h.0, omega (arith, h.1), h.2)) unnamed;
   others = λ r some below. below_more
       (λ r. 0 < r → Contains (t.rows ++ new) r ⊎ IsNamed slots is_types r) row
-      (λ r lt some. elim (t.others r some lt) [
-        | inl told ↦ inl (Contains-append_left t.rows new r told)
-        | inr named ↦ inr named
-      ])
-      (λ some. elim this [
-        | inl told ↦ inl (Contains-append_right t.rows new row told)
-        | inr named ↦ inr named
-      ]) r below some;
+      (λ r lt some.
+      let or = t.others r some lt in grind (arith, Contains-append_left t.rows new r))
+      (λ some. grind (arith, Contains-append_right t.rows new row)) r below some;
 }
 
 -- ---- slots in the order of their rows
@@ -320,9 +281,7 @@ IsUpTo pack before object = (range : StringRange) → HasOffsets pack object ran
 -- a unit has one range of string offsets
 one_range : (pack : Package) (object : DwarfObject) (a b : StringRange) → HasOffsets pack object a
     → HasOffsets pack object b → a ≡ b
-one_range pack object a b (one, is, has) (other, so, too) =
-    let same : one ≡ other = same_Some one other (same-ok (Some one) (Some other) (sym is ∙ so)) in
-    same_Some a b (sym has ∙ rw same too)
+one_range pack object a b (one, is, has) (other, so, too) = cc
 
 -- those before are apart from one behind them
 module _ (pack : Package) (range : StringRange) (object : DwarfObject)
@@ -387,23 +346,21 @@ module _ (pack : Package) (listed : Listed) where
           is_found = is.1;
           is_range = is.2;
         } in
+        let others = λ (k : ℕ) (d : DwarfObject) (lt : k < length t.objects).
+        apart pack range object is before behind (get_or t.objects k d) (t.up_to k d lt) in
         record {
           objects = t.objects ++ (object ∷ []);
-          once = all_pairs_push (ShareNone pack) t.objects object t.once
-              (All-weaker (IsUpTo pack before) (λ other. ShareNone pack other object)
-              (λ other up. (apart pack range object is before behind other up).1) t.objects
-              t.up_to);
-          up_to = All-push (IsUpTo pack (Some range)) t.objects object
-              (All-weaker (IsUpTo pack before) (IsUpTo pack (Some range))
-              (λ other up. (apart pack range object is before behind other up).0) t.objects t.up_to)
+          once = all_pairs_push (ShareNone pack) t.objects object t.once (λ i d lt.
+              (others i d lt).1);
+          up_to = All-push (IsUpTo pack (Some range)) t.objects object (λ i d lt. (others i d lt).0)
               (λ has there. rw (one_range pack object has range there is) (omega arith));
           last = λ other e. rw (← same_Some range other e) here;
           told = for_each_more (λ object. TellsStringsOf object (found pack object)) t.objects
               object faults more t.told told;
-          others = All-more (IsOneOf (t.objects ++ (object ∷ []))) listed i e lt
-              (All-weaker (IsOneOf t.objects) (IsOneOf (t.objects ++ (object ∷ [])))
-              (λ one h. let is = Contains-append_left t.objects (object ∷ []) h.object h.is_one in
-              grind (arith)) (take i listed) t.others) here;
+          others = All-more (IsOneOf (t.objects ++ (object ∷ []))) listed i e lt (λ i d lt.
+              let h = t.others i d lt in
+              let is = Contains-append_left t.objects (object ∷ []) h.object h.is_one in
+              grind (arith)) here;
         }
 
   -- all were, which are others in another order

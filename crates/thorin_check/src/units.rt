@@ -73,7 +73,7 @@ pub(crate) fn check_units<O: Write>(
 }
 
 /// What is told of the unit that a slot names, if anything.
-#[tactic(auto, using(crate::proofs::Told::unit_none, crate::proofs::Told::unit_some, crate::proofs::Told::unit_unread, crate::proofs::Told::made, crate::proofs::Told::stays_seen))]
+#[tactic(auto, using(crate::proofs::Told::stays_seen), unfolding(crate::specs::Faults::TellsUnit))]
 fn text_of<'a>(
     pack: &PackageFile<'a>,
     entry: UnitEntry,
@@ -97,7 +97,7 @@ fn text_of<'a>(
 /// that of the slot's row, which is to have abbreviations where the package has some; none of its
 /// ranges is to clash with that of another, and its own identifier is to be that of the slot. Then
 /// the unit is gathered for the check of its strings.
-#[tactic(auto, using(crate::proofs::Told::other_row, crate::proofs::Told::in_bare_row, crate::proofs::Told::in_whole_row, crate::proofs::Told::made, crate::proofs::Told::clashed, crate::proofs::Told::of_its_own, crate::proofs::Told::stays_seen))]
+#[tactic(auto, using(crate::proofs::Told::other_row, crate::proofs::Told::in_bare_row, crate::proofs::Told::made, crate::proofs::Told::clashed, crate::proofs::Told::of_its_own, crate::proofs::Told::stays_seen))]
 fn text_of_found<'a>(
     pack: &PackageFile<'a>,
     entry: UnitEntry,

@@ -6,13 +6,13 @@ pub returns-in_err-check_units : goal.returns-in_err-check_units
 returns-in_err-check_units g c =
     let stops = c.in_err-check_units.ensures in
     let cause = of_printing (g.F.FileReader.offer c.args.files.now) _ _ stops.0 in
-    rw (exit_is c.from_residual.result c.from_residual.ensures.1) (cause, stops.1)
+    rw (exit_is c.from_residual.ensures.1) (cause, stops.1)
 
 pub returns-in_err-check_tables : goal.returns-in_err-check_tables
 returns-in_err-check_tables g c =
-    let exit = c.from_residual-in_err-check_tables in
     let stops = c.in_err-check_tables.ensures in
-    rw (exit_is exit.result exit.ensures.1) (stopped_behind _ c.in_ok-check_units.ensures
+    rw (exit_is c.from_residual-in_err-check_tables.ensures.1)
+    (stopped_behind _ c.in_ok-check_units.ensures
     (of_printing (g.F.FileReader.offer c.args.files.now) _ _ stops.0, stops.1))
 
 pub loop-i-preserved : goal.loop-i-preserved
@@ -22,13 +22,12 @@ loop-i-preserved g c =
 
 pub returns-in_err-check_executable : goal.returns-in_err-check_executable
 returns-in_err-check_executable g c =
-    let exit = c.from_residual-in_err-check_executable in
     let stops = c.in_err-check_executable.ensures in
     let fails = reading_one (g.F.FileReader.offer c.args.files.now) _ c.loop-i.i _ _
     c.loop-i-test.true stops.0 in
-    rw (exit_is exit.result exit.ensures.1) (stopped_behind _ c.in_ok-check_units.ensures
-    (stopped_behind _ c.in_ok-check_tables.ensures
-    (stopped_behind _ c.loop-i.invariant (fails, stops.1))))
+    rw (exit_is c.from_residual-in_err-check_executable.ensures.1) (stopped_behind _
+    c.in_ok-check_units.ensures (stopped_behind _ c.in_ok-check_tables.ensures (stopped_behind _
+    c.loop-i.invariant (fails, stops.1))))
 
 pub returns : goal.returns
 returns g c =

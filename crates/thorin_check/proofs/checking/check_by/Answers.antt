@@ -1,12 +1,7 @@
-use Rattle.thorin_check.proofs.Checked.{checked, file_read, not_checked, printed_some}
-use Rattle.{thorin_check.proofs.Told.exit_is, thorin_print.proofs.Printed.grown}
-use Rattle.std.proofs.{Common.refl, KnownBytes.Keeps-refl}
+use Rattle.{std.proofs.KnownBytes.Keeps-refl, thorin_print.proofs.Printed.grown}
+use Rattle.thorin_check.proofs.Checked.{checked, file_read, printed_some}
+use Rattle.std.proofs.Common.{refl}
 use Rattle.thorin_check.proofs.checking.check_by.Goals as goal
-
-pub returns-in_err-bytes : goal.returns-in_err-bytes
-returns-in_err-bytes g c =
-    rw (exit_is c.from_residual.result c.from_residual.ensures.1) (not_checked _ _ _ _ _
-    c.in_err-bytes.ensures.refused)
 
 pub returns-in_default : goal.returns-in_default
 returns-in_default g c =

@@ -3,15 +3,9 @@ use Rattle.thorin_print.proofs.Printed.{flushed, not_flushed}
 use Rattle.thorin_check.proofs.Told.{exit_is}
 use Rattle.thorin_check.proofs.checking.finish.Goals as goal
 
-pub returns-in_err-print : goal.returns-in_err-print
-returns-in_err-print g c =
-    let exit = c.from_residual-in_err-print in
-    rw (exit_is exit.result exit.ensures.1) c.in_err-print.ensures
-
 pub returns-in_err-flush : goal.returns-in_err-flush
 returns-in_err-flush g c =
-    let exit = c.from_residual-in_err-flush in
-    rw (exit_is exit.result exit.ensures.1) (
+    rw (exit_is c.from_residual-in_err-flush.ensures.1) (
       c.in_err-flush.ensures.cause,
       not_flushed _ _ _ _ c.in_ok-print.ensures c.in_err-flush.ensures.kept,
     )

@@ -1,12 +1,7 @@
-use Rattle.thorin_check.proofs.Checked.{broken_left, executable_read, executable_unread}
-use Rattle.thorin_check.{proofs.Told.exit_is, specs.Faults.room_of}
+use Rattle.thorin_check.proofs.Checked.{broken_left, executable_read}
 use Rattle.std.proofs.Common.{rules, true, ◌≡◌}
+use Rattle.thorin_check.specs.Faults.{room_of}
 use Rattle.thorin_check.proofs.executables.check_executable.Goals as goal
-
-pub returns-in_err-read : goal.returns-in_err-read
-returns-in_err-read g c =
-    rw (exit_is c.from_residual.result c.from_residual.ensures.1) (executable_unread
-    (g.F.FileReader.offer c.args.files.now) c.args.executable.now _ _ c.in_err-read.ensures.refused)
 
 pub returns-in-Ok : goal.returns-in-Ok
 returns-in-Ok g c =

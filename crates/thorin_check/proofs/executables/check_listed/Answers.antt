@@ -21,16 +21,15 @@ loop-unit-smaller g c =
 pub returns-then-not-has_room : goal.returns-then-not-has_room
 returns-then-not-has_room g c =
     left_told _ _ _ _ c.loop-unit.is_first c.loop-unit.left c.loop-unit.units.listed _ _ _
-    c.tell_broken.result c.loop-unit.invariant (tells_as _ _ c.tell_broken.result
-    (long_left c.args.pack.now _ c.loop-unit.is_first _ _ _
-    (c.in-Ok-Some.unit.target, c.next.new.self.path)
-    (rw c.in-Ok-Some.field-0-is at c.in-Ok-Some.ensures.next)
-    (rw c.path-path.ensures at c.has_room.ensures.long (cc))
-    (rw c.path-path.ensures at c.has_room.ensures.over (cc))) c.tell_broken.ensures)
+    c.tell_broken.result c.loop-unit.invariant (tells_as _ _ c.tell_broken.result (long_left
+    c.args.pack.now _ c.loop-unit.is_first _ _ _ (c.in-Ok-Some.unit.target, c.next.new.self.path)
+    (rw c.in-Ok-Some.field-0-is at c.in-Ok-Some.ensures.next) (rw c.path-path.ensures at
+    c.has_room.ensures.long (cc)) (rw c.path-path.ensures at c.has_room.ensures.over (cc)))
+    c.tell_broken.ensures)
 
 pub returns-in_err-check_skeleton-in-Ok-Some : goal.returns-in_err-check_skeleton-in-Ok-Some
 returns-in_err-check_skeleton-in-Ok-Some g c =
-    rw (exit_is c.from_residual.result c.from_residual.ensures.1) (stopped_behind _
+    rw (exit_is c.from_residual.ensures.1) (stopped_behind _
     c.loop-unit.invariant c.in_err-check_skeleton-in-Ok-Some.ensures)
 
 pub returns-then-is_first : goal.returns-then-is_first

@@ -23,9 +23,8 @@ loop-i-preserved-then-eq g c =
 
 pub returns-in_err-check_strings_of : goal.returns-in_err-check_strings_of
 returns-in_err-check_strings_of g c =
-    let exit = c.from_residual-in_err-check_strings_of in
-    rw (exit_is exit.result exit.ensures.1) (stopped_behind _ c.loop-i.invariant
-    c.in_err-check_strings_of.ensures)
+    rw (exit_is c.from_residual-in_err-check_strings_of.ensures.1) (stopped_behind _
+    c.loop-i.invariant c.in_err-check_strings_of.ensures)
 
 pub returns : goal.returns
 returns g c =

@@ -1,7 +1,7 @@
 use Rattle.{dwp_bytes.specs.declared.error.ReadError.ReadError, thorin_find.specs.Finding.string_of}
 use Rattle.thorin_check.{proofs.Packages.of_found, proofs.Told.exit_is, specs.Faults.TellsNumbered}
-use Rattle.thorin_check.proofs.Told.{for_each_more, none_told, text_stopped, text_told, told_then}
-use Rattle.std.proofs.Common.{arith, List, Ok, Option, refl, Result, ℕ}
+use Rattle.thorin_check.proofs.Told.{for_each_more, none_told, stopped_behind, text_told, told_then}
+use Rattle.std.proofs.Common.{arith, Err, List, Ok, Option, refl, Result, ℕ}
 use Rattle.std.proofs.lemmas.List.FromFn.{map-range_with_len_more}
 use Rattle.thorin_check.proofs.strings.check_strings_of.Goals as goal
 
@@ -14,7 +14,7 @@ returns-in-Err g c = none_told _ (rw c.in-Err.ensures refl) _
 
 pub string_text-text-requires : goal.string_text-text-requires
 string_text-text-requires g c =
-    of_found _ _ _ _ c.requires (rw c.in-Ok-Some.field-0-is at c.in-Ok-Some.ensures)
+    of_found _ _ _ (rw c.in-Ok-Some.field-0-is at c.in-Ok-Some.ensures) _ c.requires
 
 pub loop-i-preserved : goal.loop-i-preserved
 loop-i-preserved g c =
@@ -28,8 +28,9 @@ loop-i-preserved g c =
 
 pub returns-in_err-tell : goal.returns-in_err-tell
 returns-in_err-tell g c =
-    rw (exit_is c.from_residual.result c.from_residual.ensures.1) (text_stopped _ _ _ _
-    c.loop-i.invariant c.in_err-tell.ensures)
+    rw (exit_is c.from_residual.ensures.1) (stopped_behind _ c.loop-i.invariant (text_told
+    (TellsNumbered _ (c.loop-i.i, string_of c.in-Ok-Some.unit c.loop-i.i)) _ _ _ _ (Err _)
+    (c.string_text-text.ensures c.args.object) c.in_err-tell.ensures))
 
 pub returns : goal.returns
 returns g c =

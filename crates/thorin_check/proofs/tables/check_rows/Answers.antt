@@ -40,11 +40,8 @@ loop-row-preserved g c = record {
 
 pub returns-in_err-tell_row : goal.returns-in_err-tell_row
 returns-in_err-tell_row g c =
-    rw (exit_is c.from_residual.result c.from_residual.ensures.1) (stopped_behind _
+    rw (exit_is c.from_residual.ensures.1) (stopped_behind _
     c.loop-row.invariant.told c.in_err-tell_row.ensures)
-
-pub is_named-requires-clause-past : goal.is_named-requires-clause-past
-is_named-requires-clause-past g c = c.loop-row.invariant.past
 
 pub returns : goal.returns
 returns g c =

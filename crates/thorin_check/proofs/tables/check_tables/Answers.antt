@@ -4,21 +4,16 @@ use Rattle.thorin_check.proofs.Told.{in_turn, stopped_behind, told_all, told_nex
 use Rattle.std.proofs.Common.{not, rules, ◌&&◌, ◌≡◌}
 use Rattle.thorin_check.proofs.tables.check_tables.Goals as goal
 
-pub returns-in_err-check_section : goal.returns-in_err-check_section
-returns-in_err-check_section g c =
-    rw (exit_is c.from_residual.result c.from_residual.ensures.1) c.in_err-check_section.ensures
-
 pub returns-in_err-check_section-2 : goal.returns-in_err-check_section-2
 returns-in_err-check_section-2 g c =
-    let exit = c.from_residual-in_err-check_section-2 in
-    rw (exit_is exit.result exit.ensures.1) (stopped_behind _ c.in_ok-check_section.ensures
-    c.in_err-check_section-2.ensures)
+    rw (exit_is c.from_residual-in_err-check_section-2.ensures.1) (stopped_behind _
+    c.in_ok-check_section.ensures c.in_err-check_section-2.ensures)
 
 pub returns-in_err-check_versions : goal.returns-in_err-check_versions
 returns-in_err-check_versions g c =
-    let exit = c.from_residual-in_err-check_versions in
-    rw (exit_is exit.result exit.ensures.1) (stopped_behind _ c.in_ok-check_section.ensures
-    (stopped_behind _ c.in_ok-check_section-2.ensures c.in_err-check_versions.ensures))
+    rw (exit_is c.from_residual-in_err-check_versions.ensures.1) (stopped_behind _
+    c.in_ok-check_section.ensures (stopped_behind _ c.in_ok-check_section-2.ensures
+    c.in_err-check_versions.ensures))
 
 pub loop-kind-preserved : goal.loop-kind-preserved
 loop-kind-preserved g c =
@@ -27,19 +22,17 @@ loop-kind-preserved g c =
 
 pub returns-in_err-check_section-3 : goal.returns-in_err-check_section-3
 returns-in_err-check_section-3 g c =
-    let exit = c.from_residual-in_err-check_section-3 in
-    rw (exit_is exit.result exit.ensures.1) (stopped_behind _ c.in_ok-check_section.ensures
-    (stopped_behind _ c.in_ok-check_section-2.ensures
-    (stopped_behind _ c.in_ok-check_versions.ensures
-    (stopped_behind _ c.loop-kind.invariant c.in_err-check_section-3.ensures))))
+    rw (exit_is c.from_residual-in_err-check_section-3.ensures.1) (stopped_behind _
+    c.in_ok-check_section.ensures (stopped_behind _ c.in_ok-check_section-2.ensures (stopped_behind
+    _ c.in_ok-check_versions.ensures (stopped_behind _ c.loop-kind.invariant
+    c.in_err-check_section-3.ensures))))
 
 pub returns-in_err-check_rows : goal.returns-in_err-check_rows
 returns-in_err-check_rows g c =
-    let exit = c.from_residual-in_err-check_rows in
-    rw (exit_is exit.result exit.ensures.1) (stopped_behind _ c.in_ok-check_section.ensures
-    (stopped_behind _ c.in_ok-check_section-2.ensures
-    (stopped_behind _ c.in_ok-check_versions.ensures
-    (stopped_behind _ c.loop-kind.invariant c.in_err-check_rows.ensures))))
+    rw (exit_is c.from_residual-in_err-check_rows.ensures.1) (stopped_behind _
+    c.in_ok-check_section.ensures (stopped_behind _ c.in_ok-check_section-2.ensures (stopped_behind
+    _ c.in_ok-check_versions.ensures (stopped_behind _ c.loop-kind.invariant
+    c.in_err-check_rows.ensures))))
 
 pub returns : goal.returns
 returns g c =

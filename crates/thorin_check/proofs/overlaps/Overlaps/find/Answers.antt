@@ -1,11 +1,16 @@
-use Rattle.{std.proofs.Common.take_all, thorin_check.proofs.Packages.apart_on}
+use Rattle.std.proofs.lemmas.{Bool.not-false, List.Elements.All-more}
+use Rattle.{dwp_base.proofs.Bools.neither, std.proofs.Common.take_all}
+use Rattle.thorin_check.{proofs.Packages.slots_apart, specs.Apart.AreApartIn}
 use Rattle.dwp_table.specs.Columns.{contribution_kinds}
 use Rattle.thorin_check.proofs.overlaps.Overlaps.find.Goals as goal
 
 pub loop-kind-preserved : goal.loop-kind-preserved
-loop-kind-preserved c =
-    apart_on c.args.pack.now c.args.entries.now _ c.loop-kind.kind-index _ c.loop-kind-test.true _ _
-    _ _ c.as_slice.ensures.value c.loop-kind.invariant c.in_ok-ranges.ensures c.are_apart.ensures
+loop-kind-preserved c = λ none.
+    let both = neither c.loop-kind.clash _ none in
+    All-more (AreApartIn c.args.pack.now c.args.entries.now) contribution_kinds
+    c.loop-kind.kind-index _ c.loop-kind-test.true (c.loop-kind.invariant both.0)
+    (slots_apart c.args.pack.now c.args.entries.now _ _ c.in_ok-ranges.ensures
+    (rw c.as_slice.ensures.value at (c.are_apart.ensures (not-false _ both.1))))
 
 pub returns : goal.returns
 returns c = rw (take_all c.loop-kind.kind-index contribution_kinds c.loop-kind-test.false)

@@ -11,7 +11,7 @@ returns-then-eq c = λ pack g is.
 pub returns-then-all_end : goal.returns-then-all_end
 returns-then-all_end c = λ pack g is.
     let all = c.all_end.ensures c.if-all_end.true
-    (of_found pack c.args.object c.args.unit.now c.args.self.now.ends g.ends is) in
+    (of_found pack c.args.object c.args.unit.now is c.args.self.now.ends g.ends) in
     gathered pack c.args.self.now c.args.unit.now c.args.object g is _ c.in-Some.ensures _ refl
     refl g.are (λ other there. there)
     (inl (range_ends pack c.args.object c.args.unit.now is _ (sym c.in-Some.ensures) all))
