@@ -1,45 +1,45 @@
 -- Where no fault was told, the package is sound. And what was told of the units that an executable
 -- names, and what was checked.
-use Rattle.thorin_check.specs.Faults.{TellsListed, TellsLooked, TellsNamed, TellsNumbered, TellsOwn}
+use Rattle.thorin_check.specs.Faults.{TellsLooked, TellsNamed, TellsNumbered, TellsOwn, TellsRowsOf}
 use Rattle.{dwp_base.specs.declared.section.SectionKind.SectionKind, thorin_check.specs.Ends.AllEnd}
-use Rattle.thorin_check.specs.{Rendering.FaultValue, Rendering.of_unit, Sound.NameOnce, Sound.slots}
 use Rattle.std.proofs.Common.{get_or, inl, inr, length, List, None, Ok, OnOk, Option, refl, Result}
 use Rattle.std.proofs.lemmas.List.Sorted.{All-permutation, Contains-permutation, IsPermutation-sym}
-use Rattle.thorin_check.specs.Faults.{longest_path, missing_faults, missing_text, room_of, row_end}
 use Rattle.thorin_check.specs.Indexes.{column_faults, lacks_column, mixed_versions, section_faults}
 use Rattle.thorin_check.specs.Telling.{fault_count, ForEach, InTurn, Is, Progress, Tells, TellsOr}
 use Rattle.std.proofs.Common.{Some, subst, suc, sym, true, zero, [], ℕ, ◌++◌, ◌+◌, ◌<◌, ◌∙◌, ◌∷◌}
 use Rattle.std.proofs.Common.{ap, append-nil, append_assoc, arith, Bool, Bor, codes, Err, false}
+use Rattle.thorin_check.specs.Faults.{longest_path, missing_faults, room_of, row_end, row_fault}
+use Rattle.thorin_check.specs.Faults.{strings_of, TellsEnd, TellsFound, TellsInRow, TellsListed}
 use Rattle.dwp_index.specs.declared.{error.PackageError.PackageError, units.UnitEntry.UnitEntry}
 use Rattle.dwp_table.specs.{Columns.contribution_kinds, declared.object.DwarfObject.DwarfObject}
 use Rattle.std.proofs.{KnownBytes.Appends-trans, KnownBytes.Keeps-refl, lemmas.Option.same_Some}
 use Rattle.thorin_check.specs.Checking.{Checks, ChecksBytes, ChecksIndexed, FailsOne, Finishes}
 use Rattle.std.proofs.lemmas.List.FromFn.{get_or-map-range_with_len, length-map-range_with_len}
 use Rattle.std.{proofs.lemmas.Bool.Decides.nat_tests, specs.declared.io.Error.Error as IoError}
+use Rattle.thorin_check.specs.{Rendering.FaultValue, Sound.NameOnce, Sound.slots, Telling.Told}
 use Rattle.thorin_check.specs.Checking.{IsOfChecking, IsOfReading, status_of, TellsExecutable}
-use Rattle.thorin_check.specs.Faults.{row_fault, strings_of, TellsEnd, TellsFound, TellsInRow}
 use Rattle.thorin_check.specs.Sound.{AreNamed, Executables, HasUnitsOf, IsSound, IsSoundUnit}
 use Rattle.thorin_check.specs.{declared.executables.Reading.Reading, Indexes.versions_faults}
 use Rattle.{thorin_check.specs.Strings.HasStringsOf, thorin_errors.specs.Answers.MemoryAside}
-use Rattle.thorin_check.specs.Faults.{TellsRowsOf, TellsStrings, TellsStringsOf, TellsUnit}
 use Rattle.std.proofs.lemmas.List.{length-map, nil_from_length, Sorted.length_permutation}
 use Rattle.thorin_print.{proofs.Printed.none_grown, specs.declared.output.Failure.Failure}
 use Rattle.thorin_check.specs.Faults.{is_bare, IsBroken, IsUnread, long_bytes, long_size}
-use Rattle.{std.specs.List.All, std.specs.List.flat_map, thorin_check.specs.Own.own_of}
+use Rattle.{dwp_index.specs.Index.Index, std.specs.List.All, std.specs.List.flat_map}
 use Rattle.thorin_check.proofs.Told.{counted_from, stopped_behind, then_or, told_as}
 use Rattle.thorin_check.specs.Checking.{TellsPackage, TellsSlot, TellsStringsOfAll}
-use Rattle.thorin_check.proofs.Packages.{unit_ends, lies_in, own_once, range_ends}
-use Rattle.{thorin_check.specs.Telling.Told, thorin_errors.specs.Errors.error_of}
+use Rattle.thorin_check.proofs.Packages.{lies_in, own_once, range_ends, unit_ends}
 use Rattle.thorin_errors.specs.declared.error.Error.{Error, TheVariants.Memory}
 use Rattle.thorin_find.specs.{Files.FailsToRead, Files.Offer, Listing.AreByRow}
+use Rattle.{thorin_check.specs.Own.own_of, thorin_errors.specs.Errors.error_of}
+use Rattle.thorin_check.specs.Faults.{TellsStrings, TellsStringsOf, TellsUnit}
 use Rattle.std.proofs.lemmas.List.Elements.{All-cons, All-contains, All-nil}
 use Rattle.thorin_print.specs.Answers.{Grows, IsOfPrinting, Outcome, Prints}
 use Rattle.dwp_index.specs.Package.{found, FoundUnit, Package, package_of}
 use Rattle.thorin_executable.specs.Skeletons.{Listed, Named, skeletons_by}
-use Rattle.{dwp_index.specs.Index.Index, std.specs.Result.result_err}
 use Rattle.dwp_bytes.specs.StringOffsets.{entry_in, string_in}
 use Rattle.thorin_find.specs.Finding.{string_count, string_of}
 use Rattle.std.proofs.Common.{◌≡◌, ◌≢◌, ◌≤◌, ◌⊎◌}
+use Rattle.std.specs.Result.{result_err}
 use Rattle.dwp_base.specs.declared.section.SectionKind.TheVariants as kinds
 
 -- ---- no faults
@@ -268,12 +268,6 @@ pub some_fault : (faults : List FaultValue) (status : ℕ) → status ≡ status
 some_fault faults status e is none = let told = rw none at e in omega arith
 
 -- ---- units that an executable names
-
-pub missing_none : (executable : List ℕ) (named : Named)
-    (looked : Result (Option FoundUnit) PackageError) → looked ≡ Ok None → (text : List ℕ)
-    → text ≡ missing_text executable named.1
-    → of_unit named.0 text ∷ [] ≡ missing_faults executable named looked
-missing_none executable named looked e text is = rw (e, is) refl
 
 -- the end behind one more, that takes some room
 end_behind : (executable : List ℕ) (room less : ℕ) (x : Named) (first : List Named)

@@ -311,16 +311,7 @@ pub of_package : (ends : Ends) (order : Endianness) (strings : List ℕ) (pack :
     → HasEnds ends pack.order (content pack.contents Str)
 of_package ends order strings pack h e f = rw (e, f) at h
 
--- ---- a string of a unit
-
-module _ (order other : Endianness) (encoding code : Encoding) (strings range bytes : List ℕ)
-    (i : ℕ) (same : other ≡ order) (written : code ≡ encoding) (whole : bytes ≡ range) where
-  pub none_there : None ≡ entry_in other code bytes i
-      → None ≡ result_err (string_in order encoding strings range i)
-  unfolding string_in
-  none_there e = let there : entry_in order encoding range i ≡ None = cc in rw there refl
-
--- ---- all strings of a unit
+-- ---- strings of a unit
 
 pub all_read : (ends : Ends) (order : Endianness) (strings : List ℕ) → HasEnds ends order strings
     → (encoding : Encoding) (range : List ℕ) (end : ℕ) → entry_count encoding (length range) ≤ end

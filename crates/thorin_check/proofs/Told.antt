@@ -1,40 +1,38 @@
 -- Faults that were told: of rows that no slot names, and of units, one of each range of string
 -- offsets.
-use Rattle.std.proofs.Common.{ap, append-nil, append_assoc, arith, below_more, Bool, codes, decimal}
 use Rattle.std.proofs.lemmas.List.Elements.{All-append, All-contains, All-get_or, All-more, All-nil}
-use Rattle.thorin_check.specs.Rendering.{fault_text, FaultValue, of_executable, of_package, of_unit}
-use Rattle.std.{proofs.lemmas.Grind.flat_map-append, specs.Result.IsErrAnd, specs.Result.result_err}
-use Rattle.std.proofs.Common.{string_bytes, sym, take, take_all, true, [], ℕ, ◌&&◌, ◌++◌, ◌+◌, ◌-◌}
+use Rattle.std.proofs.Common.{get_or, Global, IfOk, inl, inr, length, List, map, min, nat_eq, None}
+use Rattle.std.proofs.Common.{take_all, true, [], ℕ, ◌&&◌, ◌++◌, ◌+◌, ◌-◌, ◌<◌, ◌^◌, ◌∙◌, ◌∷◌, ◌≡◌}
 use Rattle.thorin_check.specs.Gathered.{GoesOn, IsGathered, IsGatheredIn, IsOfUnit, IsSeen, Listed}
-use Rattle.{dwp_bytes.specs.declared.error.ReadError.ReadError, std.proofs.lemmas.Option.same_Some}
+use Rattle.thorin_check.specs.{Apart.AreApart, Faults.TellsStringsOf, Faults.TellsUnit, Own.own_of}
 use Rattle.std.proofs.lemmas.List.Elements.{All-push, Contains-append_left, Contains-append_right}
-use Rattle.{dwp_base.proofs.Bools.both, std.specs.Ordering.nat_cmp, thorin_check.specs.Own.own_of}
-use Rattle.std.proofs.Common.{Err, false, get_or, Global, IfOk, inl, inr, length, List, map, min}
+use Rattle.thorin_check.{proofs.Packages.has_strings, specs.Texts.IsTextOf, specs.Texts.TellsText}
 use Rattle.thorin_check.specs.Telling.{counted_on, ForEach, InTurn, Is, IsFault, Progress, Tells}
 use Rattle.std.proofs.lemmas.List.{Elements.Contains-push, get_or_default, map-append, take_more}
-use Rattle.std.proofs.Common.{nat_eq, None, Ok, OnOk, Option, refl, Result, rules, Some, String}
+use Rattle.std.proofs.Common.{ap, append-nil, append_assoc, arith, below_more, Bool, Err, false}
 use Rattle.thorin_check.specs.Strings.{HasOffsets, IsBehind, IsRangeOfOne, number_of, ShareNone}
 use Rattle.dwp_index.specs.declared.{error.PackageError.PackageError, units.UnitEntry.UnitEntry}
 use Rattle.dwp_table.specs.{Columns.contribution_kinds, declared.object.DwarfObject.DwarfObject}
-use Rattle.thorin_check.{proofs.Packages.has_strings, specs.Telling.TellsOr, specs.Telling.Told}
 use Rattle.std.specs.List.{All, AllPairs, Contains, Sorted.IsPermutation, Sorted.IsSortedByKey}
-use Rattle.thorin_check.specs.Faults.{IsUnnamed, row_fault, string_text, TellsFound, TellsOwn}
-use Rattle.std.proofs.{KnownBytes.Appends-nil, KnownBytes.Appends-trans, lemmas.Bool.cases_lt}
+use Rattle.thorin_check.specs.Faults.{IsUnnamed, row_fault, TellsFound, TellsOwn, TellsRowsOf}
+use Rattle.{dwp_base.proofs.Bools.both, std.specs.Ordering.nat_cmp, std.specs.Result.IsErrAnd}
+use Rattle.std.proofs.Common.{Ok, OnOk, Option, refl, Result, rules, Some, String, sym, take}
 use Rattle.thorin_check.specs.Checking.{TellsSlot, TellsSlots, TellsStringsOfAll, TellsUnits}
 use Rattle.std.proofs.lemmas.List.Sorted.{Contains-permutation, IsNonDecreasingBy-from_sort}
+use Rattle.thorin_print.specs.{Answers.Grows, Answers.Outcome, Answers.Prints, Shown.shown}
 use Rattle.thorin_check.specs.Faults.{ArePast, is_bare, is_from, is_of, IsBroken, IsNamed}
-use Rattle.thorin_check.specs.Faults.{TellsRowsOf, TellsString, TellsStringsOf, TellsUnit}
-use Rattle.thorin_check.specs.{Gathered.TellsListed, Gathered.TellsSeen, Overlaps.IsClash}
 use Rattle.thorin_check.specs.declared.{strings.StringRange.StringRange, units.Seen.Seen}
 use Rattle.std.proofs.lemmas.{Bool.Decides.nat_tests, List.Quantifiers.all_pairs_push}
-use Rattle.{thorin_check.specs.Apart.AreApart, thorin_words.specs.Printed.printed}
-use Rattle.thorin_check.specs.Texts.{IsSomeText, IsTextOf, TellsText, TellsWhat}
+use Rattle.std.proofs.lemmas.{Bool.cases_lt, Grind.flat_map-append, Option.same_Some}
+use Rattle.{thorin_print.proofs.Printed.grown, thorin_words.specs.Printed.printed}
+use Rattle.thorin_check.specs.Rendering.{fault_text, FaultValue, of_executable}
 use Rattle.thorin_print.specs.declared.{form.Form.Form, output.Failure.Failure}
-use Rattle.std.proofs.Common.{◌<◌, ◌^◌, ◌∙◌, ◌∷◌, ◌≡◌, ◌≢◌, ◌≤◌, ◌⊎◌}
-use Rattle.thorin_print.{proofs.Printed.grown, specs.Shown.shown}
+use Rattle.thorin_check.specs.Gathered.{TellsListed, TellsSeen}
 use Rattle.dwp_index.specs.Package.{found, FoundUnit, Package}
 use Rattle.thorin_find.specs.Listing.{place_by, place_of_line}
-use Rattle.thorin_print.specs.Answers.{Grows, Outcome, Prints}
+use Rattle.std.proofs.KnownBytes.{Appends-nil, Appends-trans}
+use Rattle.thorin_check.specs.Telling.{TellsOr, Told}
+use Rattle.std.proofs.Common.{◌≢◌, ◌≤◌, ◌⊎◌}
 
 -- what the exit of a `?` answers
 pub exit_is : {T E : Type 0} {e : E} {r : Result T E} → IsErrAnd r (λ y. y ≡ e) → r ≡ Err e
@@ -160,47 +158,21 @@ module _ {X : Type 0} (P : X → List FaultValue → Type 0) where
 
 -- ---- texts
 
-module _ {E : Type 0} (P : List FaultValue → Type 0) (object : DwarfObject) where
-  -- what is made for a fault was told
-  pub text_told : (text : Result (Option (String Global)) E) (a b : Progress) (result : Outcome)
-      → IsTextOf P object text → TellsText object text a b result → Tells P a b result
-  text_told text a b result is h = grind (arith)
-
-  -- a text of which something holds was made
-  pub made : (Q : List ℕ → Type 0) (text : Result (String Global) E)
-      (result : Result (Option (String Global)) E)
-      → ((t : List ℕ) → Q t → P (of_unit object t ∷ []))
-      → IfOk text (λ t. Q (string_bytes t)) → IsSomeText text result → IsTextOf P object result
-  made Q text result goes is so = grind (arith, goes)
-
--- a text that was made for a fault of the package was told
-pub what_told : {E : Type 0} (what : List ℕ) (text : Result (String Global) E) (a b : Progress)
-    (result : Outcome) → IfOk text (λ t. string_bytes t ≡ what) → TellsWhat text a b result
-    → Tells (IsFault (of_package what)) a b result
-what_told what (Ok text) a b result is h = rw is at h
-what_told what (Err cause) a b result is h = rw h.0 (tt, h.1)
+-- what is made for a fault was told
+pub text_told : {E : Type 0} (P : List FaultValue → Type 0) (object : DwarfObject)
+    (text : Result (Option (String Global)) E) (a b : Progress) (result : Outcome)
+    → IsTextOf P object text → TellsText object text a b result → Tells P a b result
+text_told P object text a b result is h = grind (arith)
 
 -- ---- units
 
-module _ (pack : Package) (entry : UnitEntry) (unit : FoundUnit) where
-  pub other_row : unit.number ≢ entry.row → (text : List ℕ)
-      → text ≡ codes "found in row " ++ decimal unit.number
-      → TellsFound pack entry unit (of_unit entry.object text ∷ [])
-  other_row e text is = inl (e, rw is refl)
-
-  module _ (bare : Bool) (is : bare ≡ is_bare pack unit) (row : unit.number ≡ entry.row) where
-    pub in_bare_row : bare ≡ true → (text : List ℕ) → text ≡ codes "its row has no abbreviations"
-        → TellsFound pack entry unit (of_unit entry.object text ∷ [])
-    in_bare_row e text so = grind (arith)
-
-    pub clashed : bare ≡ false → (text : List ℕ) → IsClash pack unit text
-        → TellsFound pack entry unit (of_unit entry.object text ∷ [])
-    clashed e text clash = grind (arith)
-
-    pub of_its_own : {E : Type 0} (text : Result (Option (String Global)) E) → bare ≡ false
-        → IsTextOf (TellsOwn entry.object (own_of entry.object unit)) entry.object text
-        → IsTextOf (TellsFound pack entry unit) entry.object text
-    of_its_own text e h = grind (arith)
+-- what its own identifier gives was made for a unit that is found in its row
+pub of_its_own : (pack : Package) (entry : UnitEntry) (unit : FoundUnit) (bare : Bool)
+    → bare ≡ is_bare pack unit → unit.number ≡ entry.row → {E : Type 0}
+    (text : Result (Option (String Global)) E) → bare ≡ false
+    → IsTextOf (TellsOwn entry.object (own_of entry.object unit)) entry.object text
+    → IsTextOf (TellsFound pack entry unit) entry.object text
+of_its_own pack entry unit bare is row text e h = grind (arith)
 
 -- ---- executables
 
@@ -210,14 +182,6 @@ pub broken : (executable : List ℕ) (a b : Progress) (result : Outcome) (told :
     → Tells (IsBroken executable) a b result
 broken executable a b result told is =
     tells_as a b result (λ faults e. (is.0, rw is.1 at e))
-
--- ---- strings
-
-pub string_faulty : (object : DwarfObject) (i : ℕ) (read : Result (Option (List ℕ)) ReadError)
-    (error : ReadError) → Some error ≡ result_err read → (text : List ℕ)
-    → ((cause : List ℕ) × (text ≡ string_text i cause))
-    → TellsString object i read (of_unit object text ∷ [])
-string_faulty object i read error e text is = grind (arith)
 
 -- ---- rows that no slot names
 

@@ -178,7 +178,7 @@ fn numbers_of(range: Option<Contribution>) -> (u64, u64)
 }
 
 /// What is told of a unit whose own bytes say this of its identifier, if anything.
-#[tactic(auto, using(crate::proofs::Told::made, thorin_print::proofs::Hex::hex16_written))]
+#[tactic(auto, using(thorin_print::proofs::Hex::hex16_written))]
 fn own_fault(
     alloc: Global,
     own: &OwnIdentifier,

@@ -123,7 +123,7 @@ fn has_room(room: &mut usize, is_free: bool, path: &str) -> bool
 
 /// A unit that an executable names is in the package; what a slot names and can't be read was told
 /// with its unit.
-#[tactic(auto, using(crate::proofs::Told::none_told, crate::proofs::Told::made, crate::proofs::Told::text_told, crate::proofs::Checked::missing_none))]
+#[tactic(auto, using(crate::proofs::Told::none_told, crate::proofs::Told::text_told))]
 fn check_skeleton<O: Write>(
     pack: &PackageFile<'_>,
     executable: &str,

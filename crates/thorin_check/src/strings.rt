@@ -52,7 +52,7 @@ impl Ends {
 
     /// Why the string of a number of a unit can't be read, where that is so: what
     /// `PackagedUnit::string` answers, but no string is read.
-    #[tactic(auto, using(crate::proofs::Packages::none_there), unfolding(dwp_bytes::specs::StringOffsets::string_at, dwp_bytes::specs::StringOffsets::string_in))]
+    #[tactic(auto, unfolding(dwp_bytes::specs::StringOffsets::string_at, dwp_bytes::specs::StringOffsets::string_in))]
     pub(crate) fn error_of(self, unit: &PackagedUnit<'_>, i: u64) -> Option<ReadError>
         requires { HasEnds self unit.now.order (content unit.now.contents SectionKind.Str) }
         ensures { result ≡ result_err (string_of unit.now i) }
@@ -258,7 +258,6 @@ fn check_strings_of<O: Write>(
 }
 
 /// What is told of a string of a unit, where it can't be read.
-#[tactic(auto, using(crate::proofs::Told::string_faulty, crate::proofs::Told::made))]
 fn string_text(
     ends: Ends,
     unit: &PackagedUnit<'_>,

@@ -49,7 +49,7 @@ pub(crate) fn check_tables<O: Write>(
 }
 
 /// Tells what is wrong with a section, where something is.
-#[tactic(auto, using(crate::proofs::Told::none_told, crate::proofs::Told::what_told))]
+#[tactic(auto, using(crate::proofs::Told::none_told))]
 fn check_section<O: Write>(
     kind: SectionKind,
     is_wrong: bool,
@@ -69,7 +69,7 @@ fn check_section<O: Write>(
 }
 
 /// Both indexes have one version.
-#[tactic(auto, using(crate::proofs::Told::none_told, crate::proofs::Told::what_told), unfolding(crate::specs::Indexes::versions_text))]
+#[tactic(auto, using(crate::proofs::Told::none_told), unfolding(crate::specs::Indexes::versions_text))]
 fn check_versions<O: Write>(
     pack: &PackageFile<'_>,
     faults: &mut Faults,
@@ -167,7 +167,7 @@ fn is_named(is_types: bool, row: u64, entries: &[UnitEntry], from: &mut usize) -
 }
 
 /// Tells that no slot names a row of an index.
-#[tactic(auto, using(crate::proofs::Told::what_told), unfolding(crate::specs::Faults::row_text))]
+#[tactic(auto, unfolding(crate::specs::Faults::row_text))]
 fn tell_row<O: Write>(kind: &str, row: u64, faults: &mut Faults, out: &mut O) -> Result<(), Failure>
     ensures { Tells (IsFault (row_fault kind.now row)) (so_far (O.contents out.old) faults.old)
         (so_far (O.contents out.new) faults.new) result }

@@ -1,7 +1,7 @@
 use Rattle.thorin_check.proofs.Checked.{broken_left, left_told, long_left, none_looked, on_next}
-use Rattle.thorin_check.proofs.Told.{none_told, stopped_behind, tells_as, told_as, told_then}
-use Rattle.std.proofs.Common.{[], append-nil, arith, None, refl, true}
-use Rattle.thorin_check.proofs.Told.{exit_is}
+use Rattle.thorin_check.proofs.Told.{exit_is, none_told, stopped_behind, tells_as, told_as}
+use Rattle.std.proofs.Common.{append-nil, None, refl, true, []}
+use Rattle.thorin_check.proofs.Told.{told_then}
 use Rattle.thorin_check.proofs.executables.check_listed.Goals as goal
 
 pub loop-unit-init : goal.loop-unit-init
@@ -13,10 +13,6 @@ loop-unit-preserved g c =
     (rw c.in-Ok-Some.field-0-is at c.in-Ok-Some.ensures.next) _ _ _
     (rw c.path-path.ensures at c.has_room.ensures.fits (cc)))
     c.loop-unit.invariant (rw c.path-path.ensures at c.in_ok-check_skeleton-in-Ok-Some.ensures)
-
-pub loop-unit-smaller : goal.loop-unit-smaller
-loop-unit-smaller g c =
-    rw (rw c.in-Ok-Some.field-0-is at c.in-Ok-Some.ensures.next) (omega arith)
 
 pub returns-then-not-has_room : goal.returns-then-not-has_room
 returns-then-not-has_room g c =

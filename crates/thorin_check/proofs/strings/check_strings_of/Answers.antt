@@ -1,16 +1,10 @@
 use Rattle.{dwp_bytes.specs.declared.error.ReadError.ReadError, thorin_find.specs.Finding.string_of}
-use Rattle.thorin_check.{proofs.Packages.of_found, proofs.Told.exit_is, specs.Faults.TellsNumbered}
-use Rattle.thorin_check.proofs.Told.{for_each_more, none_told, stopped_behind, text_told, told_then}
-use Rattle.std.proofs.Common.{arith, Err, List, Ok, Option, refl, Result, ℕ}
+use Rattle.thorin_check.proofs.Told.{exit_is, for_each_more, none_told, stopped_behind, text_told}
+use Rattle.thorin_check.{proofs.Packages.of_found, specs.Faults.TellsNumbered}
+use Rattle.std.proofs.Common.{arith, Err, List, Ok, Option, Result, ℕ}
 use Rattle.std.proofs.lemmas.List.FromFn.{map-range_with_len_more}
+use Rattle.thorin_check.proofs.Told.{told_then}
 use Rattle.thorin_check.proofs.strings.check_strings_of.Goals as goal
-
-pub returns-in-Ok-None : goal.returns-in-Ok-None
-returns-in-Ok-None g c =
-    none_told _ (rw (rw c.in-Ok-None.field-0-is at c.in-Ok-None.ensures) refl) _
-
-pub returns-in-Err : goal.returns-in-Err
-returns-in-Err g c = none_told _ (rw c.in-Err.ensures refl) _
 
 pub string_text-text-requires : goal.string_text-text-requires
 string_text-text-requires g c =

@@ -1,6 +1,6 @@
 use Rattle.thorin_check.proofs.Told.{exit_is, none_told, row_more, stopped_behind, told_then}
 use Rattle.std.proofs.lemmas.List.Elements.{All-cons, All-nil, Contains-push}
-use Rattle.std.proofs.Common.{[], arith, inl, inr, refl, ◌+◌, ◌∷◌, ◌≡◌}
+use Rattle.std.proofs.Common.{arith, inl, inr, refl, [], ◌+◌, ◌∷◌}
 use Rattle.thorin_check.specs.Faults.{IsUnnamed}
 use Rattle.thorin_check.proofs.tables.check_rows.Goals as goal
 
@@ -42,8 +42,3 @@ pub returns-in_err-tell_row : goal.returns-in_err-tell_row
 returns-in_err-tell_row g c =
     rw (exit_is c.from_residual.ensures.1) (stopped_behind _
     c.loop-row.invariant.told c.in_err-tell_row.ensures)
-
-pub returns : goal.returns
-returns g c =
-    let all : c.loop-row.row ≡ c.args.end = omega arith in
-    rw all at c.loop-row.invariant.told
