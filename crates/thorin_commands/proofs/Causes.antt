@@ -1,18 +1,18 @@
 -- Inputs that stand for others, taken one after the other, and where a path is read; why something
 -- wasn't taken, and what was told of it; and why packing failed.
-use Rattle.std.proofs.Common.{drop, inl, inr, List, map, None, OnOk, refl, ◌++◌, ◌+◌, ◌-◌, ◌<◌, ◌⊎◌}
-use Rattle.thorin_commands.specs.Cause.{Archive, IsUnfit, Plain, Reasons, Refuses, StopsAt, StopsIn}
-use Rattle.thorin_commands.specs.Cause.{Finishing, IsCauseOf, IsRefused, IsUntaken, Told, told_text}
-use Rattle.thorin_commands.specs.Cause.{IsMalformed, IsUnfinished, refusal_text, Taking, Unfinished}
+use Rattle.std.proofs.Common.{drop, inl, inr, List, map, OnOk, refl, ◌++◌, ◌+◌, ◌-◌, ◌<◌, ◌⊎◌}
+use Rattle.thorin_commands.specs.Cause.{Archive, Plain, Reasons, Refuses, StopsAt, StopsIn}
+use Rattle.thorin_commands.specs.Cause.{Finishing, IsCauseOf, IsUntaken, Told, told_text}
+use Rattle.thorin_commands.specs.Cause.{IsMalformed, IsUnfinished, Taking, Unfinished}
 use Rattle.thorin_commands.specs.{Failing.IsWhy, Opened.TookAll, Taken.IsReadInto, Taken.IsTakenFor}
 use Rattle.std.proofs.Common.{Bool, false, get_or, IfErr, length, Option, Result, Some, take, true}
-use Rattle.thorin_commands.specs.Cause.{AreRefused, IsCauseFor, IsNotTaken, IsTakenNot, StopsAmong}
+use Rattle.thorin_commands.specs.Cause.{IsCauseFor, IsNotTaken, StopsAmong}
 use Rattle.thorin_commands.specs.Opened.{added_in, Fills, TookEach, TookInputs, TookNext, TookNone}
 use Rattle.thorin_commands.specs.{Naming.IsNameless, Naming.IsUncounted, Taken.Manner, Taken.Offer}
-use Rattle.thorin_commands.specs.Cause.{Alone, Among, Bad, Cause, Stops, Tells, Unread, Untaken}
-use Rattle.thorin_commands.specs.Packing.{AreAsked, IsPackageFor, manner_of, paths_in, through}
+use Rattle.thorin_commands.specs.Cause.{Alone, Among, Bad, Cause, Stops, Tells}
+use Rattle.thorin_commands.specs.Packing.{AreAsked, IsPackageFor, manner_of, through}
 use Rattle.thorin_commands.specs.Archives.{AreTakenFor, is_archive, split_contents, StandsFor}
-use Rattle.thorin_commands.specs.Opened.{accepted_in, AreAllAccepted, TookMembers, unit_count}
+use Rattle.thorin_commands.specs.Opened.{accepted_in, AreAllAccepted, unit_count}
 use Rattle.thorin_errors.specs.declared.error.Error.{Error, TheVariants.NoOutputObjectCreated}
 use Rattle.thorin_join.specs.{Builder.start, Builder.State, Join.JoinAll, Represents.units_in}
 use Rattle.thorin.specs.{declared.packing.Input.Input, Run.DeclinesInput, Run.Ran, Run.Took}
@@ -22,10 +22,10 @@ use Rattle.thorin_output.specs.{Files.IsOfWriting, Files.IsWhyUnwritten, Reads.I
 use Rattle.dwp_archive.specs.{declared.error.ArchiveError.ArchiveError, Entries.Member}
 use Rattle.thorin_builder.specs.declared.reader.NotTaken.TheVariants.{Declined, Failed}
 use Rattle.thorin_errors.specs.{declared.error.InputError.InputError, Errors.error_of}
-use Rattle.thorin_commands.specs.Packing.{asked, asks, Fails, IsAmong, out_of, Packs}
+use Rattle.thorin_commands.specs.Packing.{Fails, IsAmong, out_of, Packs}
 use Rattle.{dwp_archive.specs.Members.members_of, thorin.proofs.Running.join-append}
 use Rattle.thorin_builder.specs.{declared.reader.NotTaken.NotTaken, Taking.Outcome}
-use Rattle.thorin_builder.specs.Reading.{IsRead, OnDeclined, outcome_of, unread}
+use Rattle.thorin_builder.specs.Reading.{OnDeclined, outcome_of}
 use Rattle.thorin_print.specs.{Answers.FailsBy, declared.output.Failure.Failure}
 use Rattle.thorin_inputs.specs.{declared.growth.Growth.Growth, Prefixes.mapped}
 use Rattle.std.proofs.Common.{[], ap, Err, Ok, sym, ℕ, ◌∙◌, ◌∷◌, ◌≡◌, ◌≢◌}
@@ -55,7 +55,7 @@ ran_append offer (x ∷ xs) ys a b c before here done more = (
 )
 
 -- a run of one input
-ran_one : (offer : Offer) (input : Input) (old new : State)
+pub ran_one : (offer : Offer) (input : Input) (old new : State)
     (took : Took offer input old (Ok tt) new)
     → AreAllAccepted offer (input ∷ []) old new took.accepted
 ran_one offer input old new took = (
@@ -70,73 +70,23 @@ taken_append : (manner : Manner) (xs ys : List (List ℕ)) (list more : List Inp
     → AreTakenFor manner xs list → AreTakenFor manner ys more
     → AreTakenFor manner (xs ++ ys) (list ++ more)
 taken_append manner [] ys [] more h k = k
-taken_append manner [] ys (input ∷ list) more h k = absurd h
-taken_append manner (x ∷ xs) ys [] more h k = absurd h
 taken_append manner (x ∷ xs) ys (inputs.Bytes b ∷ list) more h k =
     (h.0, taken_append manner xs ys list more h.1 k)
-taken_append manner (x ∷ xs) ys (input ∷ list) more h k = absurd h
+taken_append manner _ ys _ more h k = absurd h
 
 module _ {opens : Bool} {manner : Manner} {offer : Offer} where
-  -- an input that stands for itself
-  pub took_alone : {input : Input} {old new : State} → StandsFor opens manner offer
-      input (input ∷ [])
-      → Took offer input old (Ok tt) new → TookAll opens manner offer input old new
-  took_alone {input} {old} {new} alone took = record {
-    list = input ∷ [];
-    stands = alone;
-    accepted = took.accepted;
-    ran = ran_one offer input old new took;
-  }
-
-  -- the object at a path, by its bytes
-  pub took_object : {path : Path} {bytes : Bor (List ℕ)} {old new : State} → opens ≡ true
-      → offer (path_bytes path) (Ok bytes.now) → is_archive bytes.now ≡ false
-      → Took offer (inputs.Bytes bytes) old (Ok tt) new
-      → TookAll opens manner offer (inputs.Object path) old new
-  took_object {bytes = bytes} {old = old} {new = new} opened offered none took = record {
-    list = inputs.Bytes bytes ∷ [];
-    stands = rw opened (inl (record {
-      file = bytes;
-      offered = offered;
-      begins = none;
-      list_is = refl;
-    }));
-    accepted = took.accepted;
-    ran = ran_one offer (inputs.Bytes bytes) old new took;
-  }
-
-  -- the archive at a path
-  pub took_archive : {path : Path} {bytes : List ℕ} {old new : State} → opens ≡ true
-      → offer (path_bytes path) (Ok bytes) → TookMembers manner offer bytes old new
-      → TookAll opens manner offer (inputs.Object path) old new
-  took_archive {bytes = bytes} opened offered by = record {
-    list = by.each.list;
-    stands = rw opened (inr (record {
-      file = bytes;
-      offered = offered;
-      members = by.members;
-      are = by.are;
-      taken = by.each.taken;
-    }));
-    accepted = by.each.accepted;
-    ran = by.each.ran;
-  }
-
   -- inputs in order, and one more
   pub took_more : {all : List Input} {input : Input} {old middle new : State}
-      → TookInputs opens manner offer all old middle → TookAll opens manner offer input middle new
-      → TookInputs opens manner offer (all ++ input ∷ []) old new
-  took_more TookNone one = TookNext one TookNone
-  took_more (TookNext first rest) one = TookNext first (took_more rest one)
-
-  pub added_more : {all : List Input} {input : Input} {old middle new : State}
       → (so : TookInputs opens manner offer all old middle)
-      → (one : TookAll opens manner offer input middle new)
-      → added_in (took_more so one) ≡ added_in so ++ (unit_count new - unit_count middle) ∷ []
-  unfolding took_more
-  added_more TookNone one = refl
-  added_more (TookNext {old = a} {middle = b} first rest) one =
-      ap (λ added. (unit_count b - unit_count a) ∷ added) (added_more rest one)
+      → TookAll opens manner offer input middle new
+      → (more : TookInputs opens manner offer (all ++ input ∷ []) old new)
+      × (added_in more ≡ added_in so ++ (unit_count new - unit_count middle) ∷ [])
+  took_more TookNone one = (TookNext one TookNone, refl)
+  took_more (TookNext {old = a} {middle = b} first rest) one =
+      let more = took_more rest one in (
+        TookNext first more.0,
+        ap (λ added. (unit_count b - unit_count a) ∷ added) more.1,
+      )
 
   -- what was read of them is joined
   pub all_joined : ((inputs : List Input) (old new : State) (outcomes : List Outcome)
@@ -237,52 +187,46 @@ module _ {W : Type 0} (contents : W → Option (List ℕ)) (failed : W → Type 
   err_by f (Ok x) t = tt
   err_by f (Err refusal) t = refuses_by f refusal t
 
-  -- the reason of an outcome was told
-  pub told_reason : (outcome : Result (Unit {0}) (NotTaken Error Growth))
-      → (why : NotTaken Error Growth) → outcome ≡ Err why → Tells contents writer (refusal_text why)
-      → Refuses contents failed writer (IsUntaken (λ why. outcome ≡ Err why)) refusals.Told
-  told_reason outcome why e line = record {
-    cause = Untaken why;
-    is = record { why = why; is = refl; reason = e };
-    line = line;
-  }
+-- what holds of an error, by what a result is
+pub by_outcome : {X E : Type 0} (r : Result X E) (P : E → Type 0) → ((e : E) → r ≡ Err e → P e)
+    → IfErr r P
+by_outcome (Ok x) P f = tt
+by_outcome (Err e) P f = f e refl
 
--- an outcome's reason is one of others
-pub reason_by : {P : NotTaken Error Growth → Type 0}
-    (outcome : Result (Unit {0}) (NotTaken Error Growth)) → IfErr outcome P
-    → (cause : Cause) → IsUntaken (λ why. outcome ≡ Err why) cause → IsUntaken P cause
-reason_by outcome h cause u = record { why = u.why; is = u.is; reason = rw u.reason at h }
-
--- what a call answered says why it didn't take an input
-pub refused : (offer : Offer) (declines : Reasons) (input : Input) (old new : State)
-    (outcome : Result (Unit {0}) (NotTaken Error Growth))
-    → Took offer input old (outcome_of outcome) new
-    → OnDeclined outcome (DeclinesInput offer declines input old)
-    → IfErr outcome (IsRefused offer declines input old)
-refused offer declines input old new (Ok x) took declined = tt
-refused offer declines input old new (Err why) took declined =
-    record { new = new; took = took; declined = declined }
-
-module _ {opens : Bool} {manner : Manner} {offer : Offer} {declines : Reasons} where
+module _ {opens : Bool} {manner : Manner} {offer : Offer} where
   -- an input that stands for itself
-  pub alone : {input : Input} {state : State} → StandsFor opens manner offer input (input ∷ [])
-      → (cause : Cause) → IsUntaken (IsRefused offer declines input state) cause
+  pub alone : (declines : Reasons) {input : Input} {state new : State}
+      (outcome : Result (Unit {0}) (NotTaken Error Growth))
+      → StandsFor opens manner offer input (input ∷ [])
+      → Took offer input state (outcome_of outcome) new
+      → OnDeclined outcome (DeclinesInput offer declines input state)
+      → (cause : Cause) → IsUntaken (λ why. outcome ≡ Err why) cause
       → IsNotTaken opens manner offer declines input state cause
-  alone {input} {state} stands cause u = rw u.is (Alone input state u.why stands u.reason)
+  alone declines {input} {state} {new} outcome stands took declined cause u =
+      rw u.is (Alone input state u.why stands
+      (record { new = new; took = rw u.reason at took; declined = rw u.reason at declined }))
 
   -- an input that is no archive, or one
-  pub plain : {path : Path} {state : State} {file : List ℕ} → opens ≡ true
-      → offer (path_bytes path) (Ok file) → is_archive file ≡ false
-      → (cause : Cause) → IsUntaken (AreRefused offer declines file state) cause
+  pub plain : (declines : Reasons) {path : Path} {bytes : Bor (List ℕ)} {state new : State}
+      (outcome : Result (Unit {0}) (NotTaken Error Growth)) → opens ≡ true
+      → offer (path_bytes path) (Ok bytes.now) → is_archive bytes.now ≡ false
+      → Took offer (inputs.Bytes bytes) state (outcome_of outcome) new
+      → OnDeclined outcome (DeclinesInput offer declines (inputs.Bytes bytes) state)
+      → (cause : Cause) → IsUntaken (λ why. outcome ≡ Err why) cause
       → IsNotTaken opens manner offer declines (inputs.Object path) state cause
-  plain {path} {state} {file} opened offered none cause u =
-      rw u.is (Plain path state file u.why opened offered none u.reason)
+  plain declines {path} {bytes} {state} {new} outcome opened offered none took declined cause u =
+      rw u.is (Plain path state bytes.now u.why opened offered none (record {
+        input = bytes;
+        is = refl;
+        refused =
+            record { new = new; took = rw u.reason at took; declined = rw u.reason at declined };
+      }))
 
-  pub archive : {path : Path} {state : State} {file : List ℕ} → opens ≡ true
+  pub archive : {declines : Reasons} {path : Path} {state : State} {file : List ℕ} → opens ≡ true
       → offer (path_bytes path) (Ok file) → is_archive file ≡ true
       → (cause : Cause) → StopsIn offer declines manner file state cause
       → IsNotTaken opens manner offer declines (inputs.Object path) state cause
-  archive {path} {state} {file} opened offered is cause stops =
+  archive {path = path} {state = state} {file = file} opened offered is cause stops =
       Archive path state file cause opened offered is stops
 
 -- the first of a list, alone
@@ -367,89 +311,21 @@ module _ {manner : Manner} {offer : Offer} {declines : Reasons} where
       }
 
 -- of just the inputs that are asked for
-cause_for : (offer : Offer) (declines : Reasons) (packing : Packing) (list : List Input)
+pub cause_for : (offer : Offer) (declines : Reasons) (packing : Packing) (list : List Input)
     → AreAsked packing list → (cause : Cause)
     → IsCauseOf packing.partial packing.opens_archives (manner_of packing) offer declines list
     cause → IsCauseFor offer declines packing cause
 cause_for offer declines packing list are cause is =
     record { list = list; are = are; is = is }
 
-module _ {W : Type 0} (contents : W → Option (List ℕ)) (failed : W → Type 0) (writer : W)
-    (offer : Offer) (declines : Reasons) (packing : Packing) where
-  module _ (list : List Input) where
-    -- of those that were asked for, where none of them began a package
-    pub empty_for : map asked list ≡ asks packing
-        → IsCauseOf packing.partial packing.opens_archives (manner_of packing) offer declines list
-        (Unfinished NoOutputObjectCreated)
-        → IsCauseFor offer declines packing (Unfinished NoOutputObjectCreated)
-    empty_for are t = cause_for offer declines packing list (inl are)
-        (Unfinished NoOutputObjectCreated) t
-
-    -- the same with the first executable as an object behind them
-    pub told_unsplit : (path : Bor (List ℕ)) → packing.lets_empty ≡ true
-        → map asked list ≡ asks packing ++ Some (path.now, None) ∷ []
-        → take 1 (paths_in packing.executables) ≡ path ∷ []
-        → {X : Type 0} (result : Result X NoPackage)
-        → IfErr result (Refuses contents failed writer (IsCauseOf packing.partial
-        packing.opens_archives (manner_of packing) offer declines list))
-        → IfErr result (Refuses contents failed writer (IsCauseFor offer declines packing))
-    told_unsplit path lets are first result t = err_by contents failed writer
-        (cause_for offer declines packing list (inr (lets, rw first are))) result t
-
-  -- the line that no input began a package
-  pub told_empty : IsCauseFor offer declines packing (Unfinished NoOutputObjectCreated)
-      → Tells contents writer (told_text (error_of NoOutputObjectCreated))
-      → Told contents writer (IsCauseFor offer declines packing)
-  told_empty is line =
-      record { cause = Unfinished NoOutputObjectCreated; is = is; line = line }
-
--- what is taken for the content of a member was refused
-pub content_refused : {manner : Manner} {content taken : List ℕ} → IsTakenFor manner content taken
-    → (offer : Offer) (declines : Reasons) (state : State)
-    (r : Result (Unit {0}) (NotTaken Error Growth))
-    → IfErr r (AreRefused offer declines taken state) → IfErr r (λ why. IsUnfit manner content why
-    ⊎ IsTakenNot offer declines manner content state why)
-content_refused is offer declines state (Ok x) h = tt
-content_refused {taken = taken} is offer declines state (Err why) h =
-    inr (record { taken = taken; is = is; refused = h })
-
--- a content alone
-pub one_stops : {W : Type 0} (contents : W → Option (List ℕ)) (writer : W) {manner : Manner}
-    {offer : Offer} {declines : Reasons} {content : List ℕ} {state : State}
-    (why : NotTaken Error Growth)
-    → IsUnfit manner content why ⊎ IsTakenNot offer declines manner content state why
-    → Tells contents writer (refusal_text why)
-    → Told contents writer (IsUntaken (StopsAmong offer declines manner (content ∷ []) state))
-one_stops contents writer {content = content} {state = state} why h line = record {
-  cause = Untaken why;
-  is = record {
-    why = why;
-    is = refl;
-    reason = record {
-      front = [];
-      content = content;
-      rest = [];
-      list_is = refl;
-      state = state;
-      took = each_none;
-      refused = h;
-    };
-  };
-  line = line;
-}
-
--- bytes that were refused
-pub bytes_refused : (offer : Offer) (declines : Reasons) (bytes : Bor (List ℕ)) (old new : State)
-    (outcome : Result (Unit {0}) (NotTaken Error Growth))
-    → Took offer (inputs.Bytes bytes) old (outcome_of outcome) new
-    → OnDeclined outcome (DeclinesInput offer declines (inputs.Bytes bytes) old)
-    → IfErr outcome (AreRefused offer declines bytes.now old)
-bytes_refused offer declines bytes old new (Ok x) took declined = tt
-bytes_refused offer declines bytes old new (Err why) took declined = record {
-  input = bytes;
-  is = refl;
-  refused = record { new = new; took = took; declined = declined };
-}
+-- the line that no input began a package
+pub told_empty : {W : Type 0} (contents : W → Option (List ℕ)) (writer : W) (offer : Offer)
+    (declines : Reasons) (packing : Packing)
+    → IsCauseFor offer declines packing (Unfinished NoOutputObjectCreated)
+    → Tells contents writer (told_text (error_of NoOutputObjectCreated))
+    → Told contents writer (IsCauseFor offer declines packing)
+told_empty contents writer offer declines packing is line =
+    record { cause = Unfinished NoOutputObjectCreated; is = is; line = line }
 
 module _ {manner : Manner} {offer : Offer} {declines : Reasons} {file : List ℕ} {old : State} where
   -- an archive of which a member isn't taken, or whose members can't be told
@@ -461,19 +337,6 @@ module _ {manner : Manner} {offer : Offer} {declines : Reasons} {file : List ℕ
   pub bad : {error : ArchiveError} → (error ≢ archive_errors.Memory → members_of file ≡ Err error)
       → (cause : Cause) → IsMalformed error cause → StopsIn offer declines manner file old cause
   bad {error} h cause m = rw m.is (Bad error (h m.no_memory))
-
--- a file that may be an archive can't be read
-pub unread_told : {W : Type 0} (contents : W → Option (List ℕ)) (writer : W) {opens : Bool}
-    {manner : Manner} {offer : Offer} {declines : Reasons} {path : Path} {state : State}
-    → opens ≡ true → (e : NotTaken InputError Growth)
-    → IsRead (offer (path_bytes path)) (declines true (path_bytes path)) (Err e)
-    → (why : NotTaken Error Growth) → why ≡ unread e → Tells contents writer (refusal_text why)
-    → Told contents writer (IsNotTaken opens manner offer declines (inputs.Object path) state)
-unread_told contents writer {path = path} {state = state} opened e read why is line = record {
-  cause = Untaken why;
-  is = rw is (Unread path state e opened read);
-  line = line;
-}
 
 -- the units of a file couldn't be counted, where nothing is split
 pub uncounted : (X U : Type 0) (failure : Failure) → IsUncounted failure → U → Stops X U failure

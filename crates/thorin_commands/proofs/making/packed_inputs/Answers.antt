@@ -1,16 +1,18 @@
-use Rattle.thorin_commands.proofs.Warned.{differing_left, if_refused, never_empty, printed_as}
-use Rattle.thorin_commands.proofs.Causes.{all_joined, err_by, finishing, refuses_by, taking}
-use Rattle.{std.proofs.lemmas.Result.IfOk-weaker, thorin_commands.proofs.Warned.none_began}
+use Rattle.thorin_commands.proofs.Warned.{none_began, not_taken_no, printed_as}
+use Rattle.thorin_commands.proofs.Causes.{all_joined, by_outcome, err_by, finishing, refuses_by}
+use Rattle.thorin_commands.proofs.Causes.{taking}
+use Rattle.{std.proofs.lemmas.Result.IfOk-weaker, thorin_commands.specs.Packing.declines}
 use Rattle.thorin_join.specs.{Builder.differing_in, Builder.State, Represents.units_in}
-use Rattle.thorin_commands.specs.{Cause.Finishing, Cause.Taking, Opened.left}
-use Rattle.thorin_commands.specs.Packing.{declines, manner_of, reads}
+use Rattle.thorin_commands.specs.{Opened.left}
 use Rattle.std.proofs.Common.{ap, Bool, false, refl, true, ◌∙◌, ◌≡◌}
 use Rattle.thorin_commands.proofs.making.packed_inputs.Goals as goal
 
--- a package without the list of units that executables refer to has the same units
-units_left : (partial : Bool) (state : State) → units_in (left partial state) ≡ units_in state
-units_left true state = refl
-units_left false state = refl
+-- a package without the list of units that executables refer to has the same units, also those
+-- that differ
+same_left : (partial : Bool) (state : State) → (units_in (left partial state) ≡ units_in state)
+    × (differing_in (left partial state) ≡ differing_in state)
+same_left true state = (refl, refl)
+same_left false state = (refl, refl)
 
 pub returns-in-Ok-clause-made : goal.returns-in-Ok-clause-made
 returns-in-Ok-clause-made g c =
@@ -20,9 +22,10 @@ returns-in-Ok-clause-made g c =
     let done = c.fill.new.builder.state in
     let partial = c.args.options.partial in
     let now : done ≡ left partial state = filled.fills.rest in
-    let units : units_in done ≡ units_in state = ap units_in now ∙ units_left partial state in
+    let units : units_in done ≡ units_in state =
+    ap units_in now ∙ (same_left partial state).0 in
     let differ : differing_in done ≡ differing_in state =
-    ap differing_in now ∙ differing_left partial state in
+    ap differing_in now ∙ (same_left partial state).1 in
     IfOk-weaker c.finished.result _ _ (λ made its. record {
       packed = record {
         state = state;
@@ -40,13 +43,13 @@ returns-in-Ok-clause-made g c =
 pub returns-in-Ok-clause-tried : goal.returns-in-Ok-clause-tried
 returns-in-Ok-clause-tried g c =
     let filled = rw c.new-builder.ensures.state at c.in-Ok.ensures.fills in
-    if_refused c.finished.result
-    (λ refusal kept told e. rw (kept e) (printed_as (λ x t. record {
+    by_outcome c.finished.result _ (λ refusal is e.
+    rw ((rw is at c.finished.ensures.empty) e) (printed_as (λ x t. record {
       state = filled.fills.state;
       took = filled.fills.took;
-      unbegun = none_began (rw (e, filled.fills.rest) at told);
+      unbegun = none_began (rw (is, e, filled.fills.rest) at c.finished.ensures.told);
       tells = t;
-    }) filled.told)) c.finished.ensures.empty c.finished.ensures.told
+    }) filled.told))
 
 pub returns-in-Ok-clause-told : goal.returns-in-Ok-clause-told
 returns-in-Ok-clause-told g c =
@@ -57,12 +60,9 @@ returns-in-Ok-clause-told g c =
     c.args.list.now c.fill.new.builder.state filled.fills) c.finished.result c.finished.ensures.told
 
 pub returns-clause-tried : goal.returns-clause-tried
-returns-clause-tried g c =
-    let packing = c.args.inputs.now.packing.now in
-    let offer = g.F.FileSystem.offer c.args.inputs.now.files.now in
-    never_empty packing.opens_archives (manner_of packing) (reads packing offer)
-    (declines packing offer) c.args.list.now _ g.E.LineOutput.contents
-    g.E.LineOutput.failed c.fill.new.err c.in-Err.refusal c.in-Err.ensures.told
+returns-clause-tried g c = λ e.
+    let stops = rw e at c.in-Err.ensures.told in
+    absurd (not_taken_no stops.input stops.state _ stops.refused _ refl)
 
 pub returns-clause-told : goal.returns-clause-told
 returns-clause-told g c = refuses_by g.E.LineOutput.contents g.E.LineOutput.failed c.fill.new.err

@@ -1,5 +1,6 @@
-use Rattle.std.proofs.Common.{◌≡◌, true, refl, rules}
-use Rattle.thorin_commands.proofs.Warned.{none_printed, unsplit_all, unsplit_next}
+use Rattle.std.proofs.Common.{arith, refl, rules, true, ◌≡◌}
+use Rattle.thorin_commands.proofs.Warned.{none_printed, unsplit_next}
+use Rattle.std.proofs.lemmas.List.{take_all}
 use Rattle.thorin_commands.proofs.telling.warn_unsplit.Goals as goal
 
 pub loop-i-init : goal.loop-i-init
@@ -12,5 +13,9 @@ loop-i-preserved g c = unsplit_next _ c.args.list.now c.args.lacks.now c.loop-i.
 pub returns-clause-lines : goal.returns-clause-lines
 returns-clause-lines g c =
     let warns : c.args.options.warns ≡ true = search rules in
-    unsplit_all c.args.options.warns _ _ c.args.list.now c.args.lacks.now c.loop-i.i _ _ warns
-    c.unit_count-count.ensures c.loop-i-test.false c.requires c.loop-i.invariant
+    rw warns (rw (
+      take_all c.loop-i.i c.args.list.now c.loop-i-test.false,
+      take_all c.loop-i.i c.args.lacks.now (omega arith),
+      c.unit_count-count.ensures,
+    ) at
+    c.loop-i.invariant)
