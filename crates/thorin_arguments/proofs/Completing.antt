@@ -1,13 +1,12 @@
 -- What is read of a peer's line: its name, and its words with whole names.
-use Rattle.std.proofs.Common.{ap, refl, sym, [], ℕ, ◌++◌, ◌+◌, ◌<◌, ◌==◌, ◌∙◌, ◌∷◌, ◌≡◌, ◌≢◌, ◌≤◌}
-use Rattle.std.proofs.Common.{false, get_or, is_some, length, MatchOption, Option, take-append-drop}
-use Rattle.std.proofs.Common.{ap₂, arith, drop, None, Some, take}
-use Rattle.std.specs.Prelude.{option_map, if◌then◌else◌}
-use Rattle.std.specs.{Borrow.Bor, List.list_any, Str.Pattern.RFindsChar}
+use Rattle.std.proofs.Common.{ap, false, [], ℕ, ◌==◌, ◌≢◌, ◌≤◌}
+use Rattle.std.proofs.Common.{ap₂, drop, None, refl, Some, sym, take, ◌++◌, ◌+◌, ◌<◌, ◌∙◌, ◌∷◌, ◌≡◌}
+use Rattle.std.proofs.Common.{arith, get_or, is_some, length, MatchOption, Option, take-append-drop}
 use Rattle.std.proofs.lemmas.Str.Pattern.{drop_at_char, NoCharPasses-char}
-use Rattle.clap.{proofs.CutLemmas.list_any-Lacks, specs.Walk.Text}
-use Rattle.std.proofs.lemmas.Bool.Decides.{nat_tests}
+use Rattle.std.specs.{Borrow.Bor, Prelude.if◌then◌else◌, Prelude.option_map, Str.Pattern.RFindsChar}
 use Rattle.thorin_arguments.specs.Peers.{last_part, last_part_in}
+use Rattle.{clap.proofs.CutLemmas.list_any-Lacks, std.proofs.lemmas.Bool.Decides.nat_tests}
+use Rattle.{clap.specs.Walk.Text, std.specs.List.list_any}
 
 pub kept : {X Y : Type 0} (f : X → Y) (o : Option X) → is_some o ≡ is_some (option_map f o)
 kept f o = grind arith

@@ -1,18 +1,16 @@
 -- What building a command line keeps of its words, in clap's terms.
-use Rattle.std.proofs.Common.{Bool, List, refl, sym, [], ℕ, ◌&&◌, ◌++◌, ◌+◌, ◌<◌, ◌∙◌, ◌∷◌, ◌≡◌}
-use Rattle.std.proofs.Common.{ap, ap₂, drop, false, is_some, length, map, not, take, true}
-use Rattle.clap.specs.Words.{AddsArg, AddsSubcommand, app_of, rule_of, with_rule, with_subcommand}
-use Rattle.thorin_arguments.specs.Rules.{app_in, app_of_words, AreLongNames, ArePeerWords, shape_in}
-use Rattle.std.specs.{Borrow.Bor, Prelude.codes, Prelude.filter_map, Prelude.fold}
-use Rattle.std.proofs.{lemmas.List.Sums.fold-append, Math.ListN.get_or}
-use Rattle.std.proofs.lemmas.List.{map-append, take-map, take_more}
-use Rattle.clap.specs.{declared.builder.arg.Arg.Arg, Simple.new_shape, Words.App, Words.Shape}
-use Rattle.clap.specs.Walk.{is_empty, Rule, Text}
-use Rattle.clap.specs.declared.builder.command.Command.{Command}
 use Rattle.clap.proofs.{OnLiterals.clap_on_literals, SimpleLemmas.is_false, WalkLemmas.both}
+use Rattle.clap.specs.Words.{AddsArg, AddsSubcommand, App, app_of, rule_of, Shape, with_subcommand}
+use Rattle.clap.specs.declared.builder.{arg.Arg.Arg, command.Command.Command}
+use Rattle.clap.specs.{Simple.new_shape, Walk.is_empty, Walk.Rule, Walk.Text, Words.with_rule}
+use Rattle.std.proofs.Common.{ap, ap₂, Bool, List, refl, sym, true, ℕ, ◌&&◌, ◌∷◌, ◌≡◌}
+use Rattle.std.proofs.Common.{drop, false, is_some, length, map, not, take, [], ◌++◌, ◌+◌, ◌<◌, ◌∙◌}
+use Rattle.std.proofs.lemmas.List.{map-append, Sums.fold-append, take-map, take_more}
+use Rattle.std.specs.{Borrow.Bor, Prelude.codes, Prelude.filter_map, Prelude.fold}
 use Rattle.thorin_arguments.specs.Grammar.{command, long_names, peer, peer_words, thorin}
+use Rattle.thorin_arguments.specs.Rules.{app_in, app_of_words, AreLongNames, ArePeerWords, shape_in}
 use Rattle.thorin_arguments.specs.{declared.command.Line.Line, Rules.rule_in, Whole.is_of_llvm}
-use Rattle.thorin_arguments.specs.declared.command.Word.{Word}
+use Rattle.{std.proofs.Math.ListN.get_or, thorin_arguments.specs.declared.command.Word.Word}
 use Rattle.thorin_arguments.specs.declared.command.Word.TheVariants as words
 
 last-of-ten : (a b c d e f g h i j : Bool)

@@ -1,13 +1,12 @@
 -- What words ask for, and what came of a command that reads a file.
-use Rattle.std.proofs.Common.{ap, arith, codes, Err, get_or, inl, inr, List, MatchResult, None, Ok}
-use Rattle.thorin_find.specs.Finding.{Asks, AsksFor, Finds, FindsAsked, HasDigits, IsNumber, Words}
-use Rattle.std.{proofs.lemmas.Str.Parse.without_leading_plus_none, specs.Result.IsErrAnd}
-use Rattle.thorin_find.specs.{declared.finding.Wanted.Wanted, Files.Offer}
 use Rattle.dwp_table.specs.declared.object.DwarfObject.{DwarfObject}
-use Rattle.std.proofs.Common.{Option, refl, Result, ℕ, ◌≡◌, ◌≢◌}
-use Rattle.std.specs.Str.Pattern.{FindsTextPrefix, StripsPrefix}
-use Rattle.thorin_print.specs.declared.output.Failure.{Failure}
-use Rattle.std.specs.Str.Parse.{digits_value, ParsesUnsigned}
+use Rattle.std.proofs.Common.{ap, get_or, inr, Ok, ℕ, ◌≡◌, ◌≢◌}
+use Rattle.std.proofs.Common.{arith, codes, Err, inl, List, MatchResult, None, Option, refl, Result}
+use Rattle.std.specs.Str.{Parse.ParsesUnsigned, Pattern.FindsTextPrefix, Pattern.StripsPrefix}
+use Rattle.std.{proofs.lemmas.Str.Parse.without_leading_plus_none, specs.Result.IsErrAnd}
+use Rattle.thorin_find.specs.Finding.{Asks, AsksFor, Finds, FindsAsked, HasDigits, IsNumber, Words}
+use Rattle.thorin_find.specs.{declared.finding.Wanted.Wanted, Files.Offer}
+use Rattle.{std.specs.Str.Parse.digits_value, thorin_print.specs.declared.output.Failure.Failure}
 
 -- the digits behind `0x`
 pub digits_behind : (text digits : List ℕ) → StripsPrefix (FindsTextPrefix (codes "0x")) text digits

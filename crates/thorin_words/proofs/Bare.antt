@@ -1,11 +1,10 @@
 -- Words that name no file are told.
-use Rattle.std.proofs.Common.{◌≡◌, ℕ, List, [], length, Option, Some, None, Ok, Err, refl}
-use Rattle.std.proofs.Common.{rules, sym, ◌≤◌, ◌*◌, arith, IsUtf8}
-use Rattle.std.proofs.lemmas.Option.{none-some}
-use Rattle.thorin_words.specs.Responses.{Outcome, Stands, End, Plain}
-use Rattle.thorin_words.specs.Responses.{Refusal, Spoils, Meets, Here, Later, Within, name_in}
-use Rattle.thorin_words.specs.Responses.{Costs, Nothing, Word, Named, AreBare, CannotBeTold}
-use Rattle.thorin_words.specs.declared.responses.ResponseError.{ResponseError}
+use Rattle.std.proofs.Common.{Ok, refl, [], ℕ, ◌≡◌, ◌≤◌}
+use Rattle.std.proofs.Common.{arith, Err, IsUtf8, length, List, None, Option, rules, Some, sym, ◌*◌}
+use Rattle.thorin_words.specs.Responses.{AreBare, Nothing, Outcome, Refusal, Spoils, Stands, Within}
+use Rattle.thorin_words.specs.Responses.{CannotBeTold, Costs, End, Here, Later, Meets, Named, Plain}
+use Rattle.thorin_words.specs.{declared.responses.ResponseError.ResponseError, Responses.name_in}
+use Rattle.{std.proofs.lemmas.Option.none-some, thorin_words.specs.Responses.Word}
 use Rattle.thorin_words.specs.declared.responses.ResponseError.TheVariants as errors
 
 named : {name : List ℕ} → ¬ (Some name ≡ None)

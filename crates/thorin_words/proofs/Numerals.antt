@@ -1,10 +1,9 @@
 -- What a text of at most 16 hexadecimal digits is read as.
-use Rattle.std.proofs.Common.{get_or, length, List, MatchOption, lit<, ℕ, ◌<◌, ◌^◌, ◌≡◌, ◌≢◌, ◌≤◌}
-use Rattle.std.proofs.Common.{arith, Err, Ok, Result}
-use Rattle.std.proofs.{lemmas.Int.Digits.digits_value-lt, Math.Nat.pow-le-pow_right}
+use Rattle.std.proofs.Common.{Ok, ℕ, ◌≡◌, ◌≢◌, ◌≤◌}
+use Rattle.std.proofs.Common.{arith, Err, get_or, length, List, lit<, MatchOption, Result, ◌<◌, ◌^◌}
+use Rattle.std.proofs.lemmas.{Int.Digits.digits_value-lt, Str.Parse.without_leading_plus_none}
 use Rattle.std.specs.{Result.result_ok, Str.Parse.digits_value, Str.Parse.ParsesUnsigned}
-use Rattle.std.proofs.lemmas.Str.Parse.{without_leading_plus_none}
-use Rattle.thorin_words.specs.Identifiers.{IsIdentifier}
+use Rattle.{std.proofs.Math.Nat.pow-le-pow_right, thorin_words.specs.Identifiers.IsIdentifier}
 
 short : (text : List ℕ) → IsIdentifier text → digits_value 16 text < 2 ^ 64
 short text id =

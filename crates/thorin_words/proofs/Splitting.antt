@@ -1,12 +1,11 @@
 -- Reading words byte by byte: what was read of a word stands in front of what is left of it.
-use Rattle.std.proofs.Common.{append-nil, false, List, refl, Some, sym, true, [], ℕ, ◌++◌, ◌∷◌, ◌≡◌}
-use Rattle.std.proofs.Common.{append_assoc, arith, Bool, drop, get_or, length, not, ◌&&◌, ◌+◌, ◌<◌}
-use Rattle.std.proofs.Common.{◌≤◌}
+use Rattle.std.proofs.Common.{append-nil, append_assoc, arith, Bool, drop, get_or, List, refl, Some}
+use Rattle.std.proofs.Common.{false, length, not, sym, true, ℕ, ◌&&◌, ◌++◌, ◌+◌, ◌<◌, ◌∷◌, ◌≡◌, ◌≤◌}
 use Rattle.std.proofs.lemmas.{Bool.false≢true, List.drop_all, List.drop_more}
-use Rattle.std.specs.Prelude.{if◌then◌else◌}
+use Rattle.std.{specs.Prelude.if◌then◌else◌, proofs.Common.[]}
 use Rattle.thorin_words.specs.Words.{behind, escaped, is_between, put, quoted, words_from, words_of}
-use Rattle.thorin_words.specs.{declared.words.LexerState.LexerState, Words.keeps}
 use Rattle.thorin_words.specs.declared.words.LexerState.TheVariants.{Between, Inside}
+use Rattle.thorin_words.specs.{declared.words.LexerState.LexerState, Words.keeps}
 
 -- what was read of a word, in front of the first of these
 abbrev pub prefix : List ℕ → List (List ℕ) → List (List ℕ)

@@ -1,14 +1,13 @@
 -- What words stand for, while they are read one after another.
-use Rattle.std.proofs.Common.{length, List, map, Option, take, [], ℕ, ◌++◌, ◌+◌, ◌<◌, ◌∷◌, ◌≡◌, ◌≤◌}
-use Rattle.std.proofs.Common.{append-nil, append_assoc, false, get_or, Global, String, string_bytes}
-use Rattle.std.proofs.Common.{arith, drop, IsUtf8, Ok, refl, Some, subst, sym, Vec}
-use Rattle.thorin_words.specs.Responses.{after, End, Itself, Leaves, Nothing, Plain, Stands, Within}
-use Rattle.thorin_words.specs.Responses.{Costs, Deep, File, Here, Inner, Later, Named, Stops, Word}
-use Rattle.thorin_words.specs.Responses.{is_among, IsPlain, most_deep, Outcome, Refuses, words_in}
-use Rattle.std.proofs.Math.Seq.{take-append_seam}
+use Rattle.std.proofs.Common.{append-nil, append_assoc, arith, Global, IsUtf8, Option, string_bytes}
+use Rattle.std.proofs.Common.{drop, false, get_or, List, refl, Some, String, subst, take, Vec, ◌++◌}
+use Rattle.std.proofs.Common.{length, map, Ok, sym, [], ℕ, ◌+◌, ◌<◌, ◌∷◌, ◌≡◌, ◌≤◌}
 use Rattle.std.proofs.lemmas.List.{drop_more, length-map, map-append, take-map}
-use Rattle.thorin_words.specs.{declared.responses.Allowance.Allowance, Words.words_of}
-use Rattle.thorin_words.specs.declared.responses.ResponseError.{ResponseError}
+use Rattle.thorin_words.specs.Responses.{Costs, Inner, is_among, Later, most_deep, Within, words_in}
+use Rattle.thorin_words.specs.Responses.{IsPlain, Itself, Leaves, Nothing, Outcome, Refuses, Stands}
+use Rattle.thorin_words.specs.Responses.{after, Deep, End, File, Here, Named, Plain, Stops, Word}
+use Rattle.thorin_words.specs.declared.responses.{Allowance.Allowance, ResponseError.ResponseError}
+use Rattle.{std.proofs.Math.Seq.take-append_seam, thorin_words.specs.Words.words_of}
 use Rattle.thorin_words.specs.declared.responses.ResponseError.TheVariants as errors
 
 -- ---- lists of words and of names
@@ -128,10 +127,8 @@ module _ (offer : List ℕ → Option (List ℕ) → Type 0) (fails : List ℕ �
         → Refuses offer fails (names ++ name ∷ []) opened.files opened.bytes (words_of text) e
         → (rest : List (List ℕ))
         → Refuses offer fails names before.files before.bytes (word ∷ rest) e
-    inner (errors.Inside other) k rest =
-        rw is (Inner names rest name text _ fresh offered flat k)
-    inner (errors.TooDeep other) k rest =
-        rw is (Inner names rest name text _ fresh offered flat k)
+    inner (errors.Inside other) k rest = rw is (Inner names rest name text _ fresh offered flat k)
+    inner (errors.TooDeep other) k rest = rw is (Inner names rest name text _ fresh offered flat k)
     inner errors.Unreadable k rest = rw is (Within name text rest offered k)
     inner errors.NotUtf8 k rest = rw is (Within name text rest offered k)
     inner errors.TooMany (count, size, costs, many) rest =

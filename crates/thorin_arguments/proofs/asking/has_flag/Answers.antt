@@ -1,6 +1,5 @@
 use Rattle.std.proofs.Common.{◌∙◌}
-use Rattle.clap.specs.Words.{found_of}
-use Rattle.thorin_arguments.proofs.Getters.{flag_read}
+use Rattle.{clap.specs.Words.found_of, thorin_arguments.proofs.Getters.flag_read}
 use Rattle.thorin_arguments.proofs.asking.has_flag.Goals as goal
 
 pub returns : goal.returns

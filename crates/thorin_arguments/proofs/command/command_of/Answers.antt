@@ -1,7 +1,6 @@
 use Rattle.std.proofs.Common.{ap, arith, ◌∙◌}
-use Rattle.std.proofs.lemmas.List.{take_all}
-use Rattle.clap.specs.Simple.{app_of_fields}
 use Rattle.thorin_arguments.{proofs.Rules.add_word, specs.Rules.app_of_words}
+use Rattle.{clap.specs.Simple.app_of_fields, std.proofs.lemmas.List.take_all}
 use Rattle.thorin_arguments.proofs.command.command_of.Goals as goal
 
 pub loop-word-init : goal.loop-word-init

@@ -1,6 +1,5 @@
-use Rattle.std.proofs.Common.{◌≡◌, take}
-use Rattle.clap.specs.Words.{app_of}
-use Rattle.thorin_arguments.specs.Rules.{app_of_words}
+use Rattle.std.proofs.Common.{take, ◌≡◌}
+use Rattle.{clap.specs.Words.app_of, thorin_arguments.specs.Rules.app_of_words}
 use Rattle.thorin_arguments.proofs.command.command_of.Given as goal
 
 -- the words so far

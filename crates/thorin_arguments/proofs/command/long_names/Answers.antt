@@ -1,8 +1,6 @@
-use Rattle.std.proofs.Common.{◌≡◌, arith, map}
-use Rattle.std.proofs.lemmas.{Grind.common_steps, List.append_assoc, List.map-append}
-use Rattle.clap.specs.Walk.{texts}
-use Rattle.thorin_arguments.specs.Rules.{rule_in}
-use Rattle.thorin_arguments.proofs.Rules.{are_long_names, longs}
+use Rattle.std.proofs.{Common.map, lemmas.List.append_assoc, lemmas.List.map-append, Common.◌≡◌}
+use Rattle.thorin_arguments.{proofs.Rules.are_long_names, proofs.Rules.longs, specs.Rules.rule_in}
+use Rattle.{clap.specs.Walk.texts, std.proofs.Common.arith, std.proofs.lemmas.Grind.common_steps}
 use Rattle.thorin_arguments.proofs.command.long_names.Goals as goal
 
 pub returns : goal.returns

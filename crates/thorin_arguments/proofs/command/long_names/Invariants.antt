@@ -1,7 +1,5 @@
-use Rattle.std.proofs.Common.{◌≡◌, ◌++◌, drop, map}
-use Rattle.std.specs.Prelude.{filter_map}
-use Rattle.clap.specs.Walk.{texts}
-use Rattle.thorin_arguments.specs.Rules.{rule_in}
+use Rattle.std.{proofs.Common.drop, proofs.Common.map, specs.Prelude.filter_map, proofs.Common.◌++◌}
+use Rattle.{clap.specs.Walk.texts, thorin_arguments.specs.Rules.rule_in, std.proofs.Common.◌≡◌}
 use Rattle.thorin_arguments.proofs.command.long_names.Given as goal
 
 -- the names so far, and those of the words that are left

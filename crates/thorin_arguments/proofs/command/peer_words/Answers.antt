@@ -1,6 +1,5 @@
-use Rattle.std.proofs.Common.{◌∷◌, List, [], codes, refl}
-use Rattle.std.specs.Borrow.{Bor}
-use Rattle.clap.specs.Walk.{Text}
+use Rattle.std.proofs.Common.{codes, List, refl, [], ◌∷◌}
+use Rattle.{clap.specs.Walk.Text, std.specs.Borrow.Bor}
 use Rattle.thorin_arguments.proofs.command.peer_words.Goals as goal
 
 abbrev text_at_none : Text → Bor Text

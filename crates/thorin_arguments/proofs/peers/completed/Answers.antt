@@ -1,7 +1,6 @@
 use Rattle.std.proofs.Common.{ap₂, arith, sym, ◌∙◌, ◌≡◌}
-use Rattle.std.proofs.lemmas.Grind.{common_steps}
-use Rattle.clap.specs.Walk.{texts}
 use Rattle.thorin_arguments.specs.{Asked.words_in, Whole.completed}
+use Rattle.{clap.specs.Walk.texts, std.proofs.lemmas.Grind.common_steps}
 use Rattle.thorin_arguments.proofs.peers.completed.Goals as goal
 
 pub returns : goal.returns

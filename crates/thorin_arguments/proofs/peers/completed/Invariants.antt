@@ -1,7 +1,6 @@
 use Rattle.std.proofs.Common.{drop, ◌++◌, ◌≡◌}
-use Rattle.std.specs.Prelude.{if◌then◌else◌}
-use Rattle.clap.specs.Walk.{texts}
 use Rattle.thorin_arguments.specs.{Asked.words_in, Whole.completed}
+use Rattle.{clap.specs.Walk.texts, std.specs.Prelude.if◌then◌else◌}
 use Rattle.thorin_arguments.proofs.peers.completed.Given as goal
 
 -- the words so far, and what those that are left come to

@@ -1,8 +1,7 @@
-use Rattle.std.proofs.Common.{ap, arith, false, List, None, Some, sym, [], ℕ, ◌==◌, ◌∙◌, ◌∷◌, ◌≡◌}
-use Rattle.std.proofs.{Common.length, lemmas.Str.Pattern.split_parts}
-use Rattle.std.specs.Prelude.{option_and_then}
 use Rattle.clap.specs.Lexer.{long_of, long_of_rest, name_and_value, strip_byte}
-use Rattle.clap.proofs.LexerLemmas.{name_and_value-without}
+use Rattle.std.proofs.Common.{ap, arith, false, length, List, None, Some, sym, [], ℕ, ◌∙◌, ◌∷◌, ◌≡◌}
+use Rattle.std.{proofs.lemmas.Str.Pattern.split_parts, specs.Prelude.option_and_then}
+use Rattle.{clap.proofs.LexerLemmas.name_and_value-without, std.proofs.Common.◌==◌}
 use Rattle.thorin_arguments.proofs.peers.long_of.Goals as goal
 
 behind_dashes : (word first rest : List ℕ) → Some first ≡ strip_byte 45 word

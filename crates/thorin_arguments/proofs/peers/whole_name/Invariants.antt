@@ -1,8 +1,6 @@
-use Rattle.std.proofs.Common.{◌≡◌, ◌∷◌, drop, false}
-use Rattle.std.specs.Prelude.{filter, if◌then◌else◌}
-use Rattle.std.specs.Str.{IsUtf8}
-use Rattle.clap.specs.Walk.{texts}
-use Rattle.thorin_arguments.specs.Whole.{begins}
+use Rattle.std.proofs.Common.{drop, false, ◌∷◌, ◌≡◌}
+use Rattle.std.specs.{Prelude.filter, Prelude.if◌then◌else◌, Str.IsUtf8}
+use Rattle.{clap.specs.Walk.texts, thorin_arguments.specs.Whole.begins}
 use Rattle.thorin_arguments.proofs.peers.whole_name.Given as goal
 
 -- those that begin so: the one that was met, and those that are left

@@ -1,9 +1,8 @@
 use Rattle.std.proofs.Common.{List, map, refl, rules, tests, [], ◌∙◌, ◌≡◌}
+use Rattle.std.proofs.lemmas.Iterator.{Search.any_from_yields_List, YieldsList-from_slice}
 use Rattle.std.specs.Prelude.{None, Option, option_map, Some, unwrap_or}
-use Rattle.std.{proofs.lemmas.Iterator.YieldsList-from_slice, specs.Borrow.Bor, specs.List.list_any}
-use Rattle.std.proofs.lemmas.Iterator.Search.{any_from_yields_List}
-use Rattle.clap.{proofs.WalkLemmas.list_any-map, specs.Walk.Text}
-use Rattle.thorin_arguments.specs.Wrong.{lacks_mark}
+use Rattle.{clap.proofs.WalkLemmas.list_any-map, thorin_arguments.specs.Wrong.lacks_mark}
+use Rattle.{clap.specs.Walk.Text, std.specs.Borrow.Bor, std.specs.List.list_any}
 use Rattle.thorin_arguments.proofs.reading.lack_marks.Goals as goal
 
 in_values : (o : Option (Bor (List (Bor Text)))) (none : Bor (List (Bor Text))) → none.now ≡ []

@@ -1,6 +1,5 @@
-use Rattle.std.proofs.lemmas.Result.{err_from_is_err_and}
-use Rattle.clap.specs.Words.{app_of}
 use Rattle.thorin_arguments.{proofs.Matched.read, proofs.Matched.unread, specs.Asked.words_in}
+use Rattle.{clap.specs.Words.app_of, std.proofs.lemmas.Result.err_from_is_err_and}
 use Rattle.thorin_arguments.proofs.reading.read_by.Goals as goal
 
 pub returns : goal.returns

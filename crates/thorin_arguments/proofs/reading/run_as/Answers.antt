@@ -1,8 +1,7 @@
-use Rattle.std.proofs.Common.{◌∙◌, sym}
-use Rattle.std.specs.Prelude.{option_map}
 use Rattle.clap.specs.Words.{found_of, kind_of, rows_of, subcommand_rows_of}
+use Rattle.std.proofs.Common.{sym, ◌∙◌}
 use Rattle.thorin_arguments.proofs.Matched.{by_stream, does_asked, does_refuse, does_show}
-use Rattle.thorin_arguments.proofs.Completing.{kept}
+use Rattle.{std.specs.Prelude.option_map, thorin_arguments.proofs.Completing.kept}
 use Rattle.thorin_arguments.proofs.reading.run_as.Goals as goal
 
 pub returns-in-Ok-read : goal.returns-in-Ok-read

@@ -1,6 +1,5 @@
-use Rattle.std.proofs.{Common.map-id, lemmas.Iterator.YieldsList-from_chars}
-use Rattle.std.proofs.lemmas.Iterator.Consumers.{YieldsList-end}
-use Rattle.thorin_words.specs.Printed.{printed}
+use Rattle.std.proofs.lemmas.Iterator.{Consumers.YieldsList-end, YieldsList-from_chars}
+use Rattle.{std.proofs.Common.map-id, thorin_words.specs.Printed.printed}
 use Rattle.thorin_words.proofs.printing.printed.Goals as goal
 
 pub returns : goal.returns
