@@ -19,7 +19,6 @@ use Joined.{type_signature, unit_bytes, unit_section, UnitRead, UnitSection, Use
 use Joined.{with_each_part, with_input, with_new_unit, with_new_units, with_part, with_parts}
 use Joined.{with_unit_added, [], ℕ, ◌++◌, ◌+◌, ◌-◌, ◌<◌, ◌∙◌, ◌∷◌, ◌≡◌, ◌⊎◌}
 use Rattle.dwp_base.proofs.Bools.{or-right}
-use Rattle.dwp_units.proofs.Readings.{more}
 use Rattle.dwp_units.specs.Units.{header_at, older_at, older_type_at, unit_at, units, units_within}
 use Rattle.std.proofs.Common.{eqb-true}
 use Rattle.std.proofs.lemmas.List.{Elements.recursion_from_All, Sums.AllPass-from_list_all}

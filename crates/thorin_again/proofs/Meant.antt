@@ -1,7 +1,7 @@
 -- What a unit of a written package means as an input: just what was joined. A finished package,
 -- taken as an input, means the units that were joined in it.
 use Rattle.thorin_join.proofs.Terms as Joined
-use Joined.{Adding, adding, after, All, ap, append-nil, arith, bind-was, Bool, by-bool, can_join}
+use Joined.{Adding, adding, All, ap, append-nil, arith, bind-was, Bool, by-bool, can_join}
 use Joined.{content_of, Contents, Contribution, contribution_to, DwarfObject, Each, elf_of}
 use Joined.{Encoding, entry_ids, ErrorValue, false, File, file_text, filter-append, first, has_info}
 use Joined.{Header, identifier_of, identity, Index, IndexEntry, Indexes, indexes_of, InProgress}
@@ -19,33 +19,33 @@ use Rattle.dwp_table.specs.{Probing.found_row, Probing.look_count, Table.FindsEx
 use Rattle.dwp_units.specs.Units.{units, units_within}
 use Rattle.std.proofs.Common.{ap₂, eqb-true, find, get_or, IsPermutation, ◌≢◌}
 use Rattle.std.proofs.Math.{Dec.eqb-suc-zero, Seq.drop-append_seam, Seq.take-append_seam}
-use Rattle.std.proofs.lemmas.List.Elements.{All-drop, All-filter, All-head, All-tail, All-take}
-use Rattle.std.proofs.lemmas.List.Sorted.{All-permutation, IsPermutation-map, IsPermutation-trans}
-use Rattle.std.proofs.lemmas.List.Sorted.{IsPermutation-append_comm, IsPermutation-refl}
+use Rattle.std.proofs.lemmas.List.Elements.{All-drop, All-filter, All-from_recursion, All-tail}
+use Rattle.std.proofs.lemmas.List.Sorted.{All-permutation, IsPermutation-map, IsPermutation-sym}
+use Rattle.std.proofs.lemmas.List.Sorted.{IsPermutation-append_comm, IsPermutation-trans}
 use Rattle.std.proofs.lemmas.List.Sorted.{IsPermutation-append_right, IsPermutation-filter_both}
-use Rattle.std.proofs.lemmas.List.{Elements.All-from_recursion, Sorted.IsPermutation-sym}
+use Rattle.std.proofs.lemmas.List.{Elements.All-head, Elements.All-take, Sorted.IsPermutation-refl}
 use Rattle.std.proofs.lemmas.List.{Folds.Any-from_list_any, get_or_append_left}
 use Rattle.std.proofs.lemmas.Option.{slice_get-get_or, slice_get_within}
-use Rattle.thorin_again.proofs.Opened.{IsOwnRow, IsReadOf, lie-kept, none-behind, read-of}
-use Rattle.thorin_again.proofs.Opened.{empty-first, first-written, info-written, input-encoding}
-use Rattle.thorin_again.proofs.Opened.{mean_of, object-written, opened-elf, rest-differ, section_of}
-use Rattle.thorin_again.proofs.Sections.{at-row, at-seam, IsBelow, of-section, range_at, row-there}
-use Rattle.thorin_again.proofs.Sections.{bytes-own, IsUnitOf, lie-used}
+use Rattle.thorin_again.proofs.Opened.{empty-first, IsReadOf, object-written, opened-elf}
+use Rattle.thorin_again.proofs.Opened.{first-written, input-encoding, IsOwnRow, mean_of, read-of}
+use Rattle.thorin_again.proofs.Opened.{info-written, lie-kept, none-behind, rest-differ, section_of}
+use Rattle.thorin_again.proofs.Sections.{IsUnitOf, lie-used, range_at}
+use Rattle.thorin_again.proofs.Sections.{at-row, at-seam, bytes-own, IsBelow, of-section, row-there}
 use Rattle.thorin_again.specs.Again.{all_meant, HaveEncodingOf, MeansWhereTaken}
 use Rattle.thorin_again.specs.OwnInput.{IsOwn, own_source, written_object, written_used}
 use Rattle.thorin_again.{proofs.Kept.joined, specs.OwnUnits.AllOf}
 use Rattle.thorin_index.specs.ReadRows.{HasContributions, HasEntries}
-use Rattle.thorin_input.specs.Rows.{abbreviations_for, own_contribution, row_abbreviations}
+use Rattle.thorin_input.specs.Rows.{abbreviations_for, numbered_abbreviations, row_abbreviations}
 use Rattle.thorin_input.specs.{Adjusting.row_of, Indexes.index_for, Indexes.looked_up}
-use Rattle.thorin_input.specs.{Encodings.encoding_of, Rows.numbered_abbreviations, Rows.row_test}
+use Rattle.thorin_input.specs.{Encodings.encoding_of, Rows.own_contribution, Rows.row_test}
 use Rattle.thorin_join.proofs.Files.{finished-grows, finished-order, id-at, members, part-there}
 use Rattle.thorin_join.proofs.Units.{AreAdded, identity-sort, name-identity, Reads}
 use Rattle.thorin_join.proofs.{Files.HasRows, Joined.source-made, Rows.keep-rows, Rows.not-outside}
-use Rattle.thorin_join.specs.Builder.{finish_test, IsFinishedState, taken, with_source_or_new}
-use Rattle.thorin_join.specs.Builder.{order_of, source_for, State, with_units}
-use Rattle.thorin_join.specs.Meaning.{input_meaning, meaning_by, meaning_with, meant, shared_kinds}
-use Rattle.thorin_join.specs.Meaning.{lie_inside, named_at, named_each, named_sections}
-use Rattle.thorin_join.specs.Meaning.{named_unit, object_meaning, source_meaning, unit_meaning}
+use Rattle.thorin_join.specs.Builder.{IsFinishedState, order_of, State, taken}
+use Rattle.thorin_join.specs.Builder.{finish_test, source_for, with_source_or_new, with_units}
+use Rattle.thorin_join.specs.Meaning.{input_meaning, meaning_with, named_each, named_sections}
+use Rattle.thorin_join.specs.Meaning.{lie_inside, meaning_by, meant, named_at, named_unit}
+use Rattle.thorin_join.specs.Meaning.{object_meaning, shared_kinds, source_meaning, unit_meaning}
 use Rattle.thorin_join.{proofs.Ranges.strings-are, specs.Laid.is_at, specs.Laid.rows_at}
 use Rattle.thorin_package_input.{proofs.Rows.first_found, specs.RowPlaces.row_by_place}
 use Rattle.dwp_base.specs.declared.section.SectionKind.TheVariants as kinds
