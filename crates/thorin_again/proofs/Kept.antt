@@ -17,7 +17,7 @@ use Joined.{package_or_new, part_of, Parts, place_for, place_of, ReadError, refl
 use Joined.{same_kind, same_name, section, SectionKind, slice_get, Some, Source, subst, sym, true}
 use Joined.{type_signature, unit_bytes, unit_section, UnitRead, UnitSection, Used, with_bytes}
 use Joined.{with_each_part, with_input, with_new_unit, with_new_units, with_part, with_parts}
-use Joined.{with_unit_added, [], ℕ, ◌++◌, ◌+◌, ◌-◌, ◌<◌, ◌∙◌, ◌∷◌, ◌≡◌, ◌⊎◌}
+use Joined.{with_unit_added, [], ℕ, ◌++◌, ◌<◌, ◌∙◌, ◌∷◌, ◌≡◌, ◌⊎◌}
 use Rattle.dwp_base.proofs.Bools.{or-right}
 use Rattle.dwp_units.specs.Units.{header_at, older_at, older_type_at, unit_at, units, units_within}
 use Rattle.std.proofs.Common.{eqb-true}
@@ -32,7 +32,7 @@ use Rattle.thorin_input.specs.Format.{is_in_format}
 use Rattle.thorin_input.specs.{Adjusting.adjusted, Adjusting.moved, Rows.abbreviations_for}
 use Rattle.thorin_join.proofs.Joined.{can-lie, keys-held, Made, same-begun, source-made, takes}
 use Rattle.thorin_join.proofs.Joined.{grows-with_parts, names-added, sound-inside, with_all_parts}
-use Rattle.thorin_join.proofs.Parts.{content-with_bytes, each-part, each-unit as unit-by-unit, step}
+use Rattle.thorin_join.proofs.Parts.{content-with_bytes, each-part, each-unit as unit-by-unit}
 use Rattle.thorin_join.proofs.Parts.{content-with_parts, joined_parts-other, parts-copied}
 use Rattle.thorin_join.proofs.Rows.{Grows, grows-trans, is-unit_row, row-own, whole-else}
 use Rattle.thorin_join.proofs.Rows.{adjusted-plain, front-long, IsUnitRow, keep-part, row-part}

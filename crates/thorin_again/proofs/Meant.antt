@@ -12,7 +12,7 @@ use Joined.{None, none-some, Ok, opened, Option, order_test, package_or_new, par
 use Joined.{Ranges, refl, Result, row_in, rows_of, same-ok, section, SectionKind, slice_get, Some}
 use Joined.{Source, source_units, strings_of, subst, suc, sym, take-length, true, unit_section}
 use Joined.{UnitRead, units_in, units_of, UnitSection, with_input, with_source, zero, [], ℕ, ◌++◌}
-use Joined.{◌+◌, ◌-◌, ◌<◌, ◌∙◌, ◌∷◌, ◌≡◌, ◌≤◌}
+use Joined.{◌+◌, ◌<◌, ◌∙◌, ◌∷◌, ◌≡◌, ◌≤◌}
 use Rattle.dwp_elf.specs.Written.{written_elf}
 use Rattle.dwp_table.proofs.Tables.{finds_exactly}
 use Rattle.dwp_table.specs.{Probing.found_row, Probing.look_count, Table.FindsExactly}
