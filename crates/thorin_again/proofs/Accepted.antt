@@ -2,68 +2,64 @@
 -- row: by a package without units all of them, since no name comes twice; by any other unless a
 -- compilation unit is there already. A written package of plain objects of one encoding is
 -- accepted: by any package of its byte order, unless it is foreseen otherwise, and by a new one.
-use Rattle.thorin_join.proofs.Terms as Joined
-use Joined.{Adding, adding, All-append, all_kinds, ap, append_assoc, AreApart, arith, begun_by}
-use Joined.{Bool, by-bool, cond, content_of, Contents, Contribution, contribution_put}
-use Joined.{contribution_to, count_of, data_of, DwarfObject, elf_of, Encoding, eqb, ErrorValue}
-use Joined.{false, File, file_text, filter, Header, identifier_of, Index, IndexEntry, Indexes}
-use Joined.{indexes_of, inl, InProgress, inr, is_chosen, is_shared, is_some, IsSoundBegun, IsTable}
-use Joined.{joined_parts, joining, kept_bytes, keys, kind_of, KindsDiffer, le-leb, length}
-use Joined.{length-append, length-map, LieInside, List, list_any-append, lookup, map, map-map}
-use Joined.{name_for, nat_tests, New, new_units, NewUnit, None, not, Ok, Option, package_or_new}
-use Joined.{Parts, parts_of, place_of, range_in, read_each, ReadError, refl, Result, rewritten}
-use Joined.{rows_of, same-self, same_name, section, SectionKind, slice_get, Some, Source}
-use Joined.{StrOffsets, subst, sym, take-length, true, unit_section, units_begun, units_in}
-use Joined.{units_of, UnitSection, Used, with_source, with_unit, [], ℕ, ◌++◌, ◌+◌, ◌<◌, ◌>>=◌, ◌||◌}
-use Joined.{◌∙◌, ◌∷◌, ◌≡◌, ◌≤◌, ◌⊎◌}
-use Rattle.dwp_base.proofs.Bools.{both}
-use Rattle.dwp_elf.specs.Written.{written_elf}
-use Rattle.dwp_units.specs.Units.{units}
-use Rattle.indexmap.proofs.MapLemmas.{lookup_permutation}
+use Joined.{Adding, adding, elf_of, filter, Header, le-leb, length, Option, Result, rows_of, Source}
+use Joined.{All-append, ErrorValue, SectionKind, take-length, units_begun, UnitSection, with_source}
+use Joined.{AreApart, content_of, Contents, Indexes, indexes_of, kept_bytes, length-map, StrOffsets}
+use Joined.{IndexEntry, new_units, read_each, rewritten, same-self, same_name, slice_get, with_unit}
+use Joined.{all_kinds, file_text, InProgress, is_chosen, is_shared, LieInside, nat_tests, ReadError}
+use Joined.{ap, Ok, true, [], ℕ, ◌++◌, ◌||◌, ◌⊎◌}
+use Joined.{append_assoc, Contribution, contribution_to, identifier_of, IsSoundBegun, length-append}
+use Joined.{arith, Bool, false, File, Index, List, lookup, None, Parts, section, Some, subst, ◌>>=◌}
+use Joined.{begun_by, count_of, Encoding, IsTable, name_for, parts_of, place_of, range_in, units_in}
+use Joined.{by-bool, data_of, is_some, joining, kind_of, map-map, NewUnit, package_or_new, units_of}
+use Joined.{cond, eqb, inl, inr, keys, map, New, not, refl, sym, Used, ◌+◌, ◌<◌, ◌∙◌, ◌∷◌, ◌≡◌, ◌≤◌}
+use Joined.{contribution_put, DwarfObject, joined_parts, KindsDiffer, list_any-append, unit_section}
 use Rattle.std.proofs.Common.{IsPermutation, ltb-true, nat_lt, ◌≢◌}
 use Rattle.std.proofs.lemmas.List.Sorted.{IsPermutation-middle, sum_by-IsPermutation}
 use Rattle.std.proofs.lemmas.List.{Elements.All-from_recursion, Sorted.IsPermutation-map}
 use Rattle.std.proofs.lemmas.Map.Keys.{IsDistinct-from_apart, IsDistinct-IsPermutation}
 use Rattle.std.proofs.lemmas.{Bool.eqb-false, Option.get_or_from_slice_get, Option.slice_get_within}
 use Rattle.std.proofs.lemmas.{List.Folds.list_any_none, Map.lookup-none, Map.NonePasses}
-use Rattle.std.proofs.{ByRecursion.all_kept_by, Math.Bool.and-false, Math.ListN.get_or-map}
-use Rattle.std.specs.List.{IsDistinct}
-use Rattle.std.{proofs.lemmas.List.Sums.length-filter, specs.Cmp.both_ways, specs.Cmp.IsEquivalence}
-use Rattle.thorin_again.proofs.Lists.{answers-whole, IsEncoded, meant_or, rows-encoded, units-all}
-use Rattle.thorin_again.proofs.Lists.{begun-now, Encoded, first-of, input-order, there-back}
-use Rattle.thorin_again.proofs.Meant.{found-range, named-again, parts, row-lies, row-tested}
-use Rattle.thorin_again.proofs.Opened.{and-then, answered, offsets-are, present-written, then-fares}
-use Rattle.thorin_again.proofs.Opened.{behind, Fares, input-encoding, IsReadOf, Unless, up-to-parts}
-use Rattle.thorin_again.proofs.Opened.{finished-shared, in-format, own-made, OwnMade, section_of}
-use Rattle.thorin_again.proofs.Opened.{front, info-written, lie-kept, object-written, read-of}
-use Rattle.thorin_again.proofs.Opened.{opened-elf, own-offsets, own-parts-tried, rest-differ}
-use Rattle.thorin_again.proofs.Sections.{any-chosen, by-passing, IsUnitOf, lie-used, of-section}
-use Rattle.thorin_again.proofs.Sections.{at-row, place-eq, place-is, read-alone, row-there}
+use Rattle.thorin_again.proofs.Lists.{Encoded, first-of, input-order, meant_or, units-all}
+use Rattle.thorin_again.proofs.Lists.{answers-whole, begun-now, IsEncoded, rows-encoded, there-back}
+use Rattle.thorin_again.proofs.Meant.{again-is, found-range, found-row, parts, row-lies, row-tested}
+use Rattle.thorin_again.proofs.Opened.{Fares, front, own-made, read-of, up-to-parts}
+use Rattle.thorin_again.proofs.Opened.{and-then, in-format, info-written, IsReadOf, own-parts-tried}
+use Rattle.thorin_again.proofs.Opened.{answered, behind, lie-kept, OwnMade, present-written, Unless}
+use Rattle.thorin_again.proofs.Opened.{finished-shared, input-encoding, object-written, offsets-are}
+use Rattle.thorin_again.proofs.Opened.{opened-elf, own-offsets, rest-differ, section_of, then-fares}
+use Rattle.thorin_again.proofs.Sections.{any-chosen, at-row, IsUnitOf, lie-used, place-eq, place-is}
+use Rattle.thorin_again.proofs.Sections.{by-passing, of-section, read-alone, row-there}
 use Rattle.thorin_again.specs.OwnInput.{IsOwn, own_source, written_object, written_used}
 use Rattle.thorin_again.specs.{Again.all_meant, Again.HaveEncodingOf, OwnRefusals.IsForeseen}
 use Rattle.thorin_again.specs.{Own.has_content, Own.has_sections, Own.packs_again, Plain.HoldsPlain}
 use Rattle.thorin_again.specs.{OwnAccepted.IsAccepted, OwnAccepted.IsAcceptedByNew, Plain.IsPlain}
-use Rattle.thorin_again.{proofs.Kept.keep-names, specs.Plain.NamesItself}
-use Rattle.thorin_again.{proofs.Meant.again-is, proofs.Meant.found-row, specs.OwnUnits.HoldsOwn}
-use Rattle.thorin_errors.specs.Errors.{DuplicateUnit}
-use Rattle.thorin_index.specs.IndexText.{is_used}
-use Rattle.thorin_input.specs.Adjusting.{adjusted, Adjustor, moved, moved_range, own_index, row_of}
-use Rattle.thorin_input.specs.Adjusting.{has_column_for, other_index}
+use Rattle.thorin_again.{proofs.Kept.keep-names, proofs.Meant.named-again, specs.OwnUnits.HoldsOwn}
+use Rattle.thorin_input.specs.Adjusting.{adjusted, Adjustor, has_column_for, moved_range, own_index}
+use Rattle.thorin_input.specs.Adjusting.{moved, other_index, row_of}
 use Rattle.thorin_input.specs.Encodings.{file_encoding, own_encoding}
-use Rattle.thorin_input.specs.NewUnits.{SeenSections, with_each_read, with_each_section}
-use Rattle.thorin_input.specs.NewUnits.{is_met, once_test, with_read, with_section, with_section_in}
-use Rattle.thorin_input.specs.NewUnits.{none_met, with_first, with_met, with_section_at}
+use Rattle.thorin_input.specs.NewUnits.{SeenSections, with_each_read, with_section, with_section_at}
+use Rattle.thorin_input.specs.NewUnits.{is_met, with_each_section, with_met}
+use Rattle.thorin_input.specs.NewUnits.{none_met, once_test, with_first, with_read, with_section_in}
 use Rattle.thorin_input.specs.Rows.{adjusted_contribution, row_test, unit_contribution, unit_row}
-use Rattle.thorin_join.proofs.Files.{finished-grows, finished-is, finished-own, HasRows, part-there}
+use Rattle.thorin_join.proofs.Files.{finished-grows, finished-order, finished-own, finished-strings}
 use Rattle.thorin_join.proofs.Joined.{input-keeps, new-sound, sound-inside}
 use Rattle.thorin_join.proofs.Parts.{copied-or-offsets, parts-first, rows-read}
-use Rattle.thorin_join.proofs.Rows.{adjustor, own-index, place-put, some-index, whole-part}
-use Rattle.thorin_join.proofs.Units.{keys-units, kind-place, same_name-sym, same_name-true}
-use Rattle.thorin_join.proofs.{Files.finished-order, Files.finished-strings, Moved.identity-shifted}
-use Rattle.thorin_join.specs.Builder.{finish_test, IsFinishedState, order_of, start, State, taken}
-use Rattle.thorin_join.specs.{Builder.with_source_or_new, Laid.same_place, State.abbreviations_test}
-use Rattle.thorin_join.specs.{Join.limit_of, Join.look_limit, Join.same_sort, StandApart.EachRow}
-use Rattle.thorin_join.{proofs.Rows.range-none, proofs.Units.same_name-self, specs.Laid.is_at}
+use Rattle.thorin_join.proofs.Rows.{own-index, place-put, range-none, some-index, whole-part}
+use Rattle.thorin_join.proofs.Units.{keys-units, same_name-self, same_name-sym, same_name-true}
+use Rattle.thorin_join.proofs.{Files.finished-is, Files.HasRows, Files.part-there, Units.kind-place}
+use Rattle.thorin_join.specs.Builder.{IsFinishedState, order_of, start, State, with_source_or_new}
+use Rattle.thorin_join.specs.Join.{limit_of, look_limit, same_sort}
+use Rattle.thorin_join.specs.{Builder.finish_test, Builder.taken, State.abbreviations_test}
+use Rattle.thorin_join.specs.{Laid.is_at, Laid.same_place, StandApart.EachRow}
+use Rattle.{dwp_base.proofs.Bools.both, dwp_units.specs.Units.units, std.proofs.Math.Bool.and-false}
+use Rattle.{dwp_elf.specs.Written.written_elf, std.specs.Cmp.both_ways, std.specs.Cmp.IsEquivalence}
+use Rattle.{indexmap.proofs.MapLemmas.lookup_permutation, std.proofs.lemmas.List.Sums.length-filter}
+use Rattle.{std.proofs.ByRecursion.all_kept_by, thorin_index.specs.IndexText.is_used}
+use Rattle.{std.proofs.Math.ListN.get_or-map, thorin_join.proofs.Rows.adjustor}
+use Rattle.{std.specs.List.IsDistinct, thorin_again.specs.Plain.NamesItself}
+use Rattle.{thorin_errors.specs.Errors.DuplicateUnit, thorin_join.proofs.Moved.identity-shifted}
+use Rattle.thorin_join.proofs.Terms as Joined
 use Rattle.dwp_base.specs.declared.section.SectionKind.TheVariants as kinds
 use Rattle.dwp_units.specs.declared.unit.UnitSection.TheVariants as places
 

@@ -5,45 +5,43 @@
 -- of its row each unit of a package that such objects are added to. And info of such a package has
 -- bytes, where it has units: the first unit of an object stands in info, with the object's
 -- encoding, and its name's unit goes there.
-use Rattle.thorin_join.proofs.Terms as Joined
-use Joined.{Adding, adding, All-append, All-weaker, ap, append-nil, append_assoc, arith, bind-was}
-use Joined.{by-bool, content_of, Contents, Contribution, contribution_put, contribution_to}
-use Joined.{DwarfObject, Each, Encoding, Endianness, eqb, ErrorValue, false, first, HasFront}
-use Joined.{Header, identity, IndexEntry, inl, InProgress, Input, inr, is-same, is_package}
-use Joined.{is_shared, is_some, IsSound, joined_content, joined_parts, joining, keys, kind_of}
-use Joined.{length, length-append, LieInside, List, list_all, list_any, list_any-append, map}
-use Joined.{map-append, name_for, name_signature, names_of, nat_tests, NewUnit, None, Ok, Option}
-use Joined.{package_or_new, part_of, Parts, place_for, place_of, ReadError, refl, row_at, same-ok}
-use Joined.{same_kind, same_name, section, SectionKind, slice_get, Some, Source, subst, sym, true}
-use Joined.{type_signature, unit_bytes, unit_section, UnitRead, UnitSection, Used, with_bytes}
-use Joined.{with_each_part, with_input, with_new_unit, with_new_units, with_part, with_parts}
-use Joined.{with_unit_added, [], ℕ, ◌++◌, ◌<◌, ◌∙◌, ◌∷◌, ◌≡◌, ◌⊎◌}
-use Rattle.dwp_base.proofs.Bools.{or-right}
+use Joined.{Adding, adding, Header, Input, joining, kind_of, length, Option, part_of, Parts, Source}
+use Joined.{All-append, contribution_to, list_any-append, unit_section, UnitSection, with_new_units}
+use Joined.{All-weaker, append-nil, Endianness, ErrorValue, IndexEntry, InProgress, with_unit_added}
+use Joined.{DwarfObject, package_or_new, SectionKind, type_signature, with_each_part, with_new_unit}
+use Joined.{ap, eqb, inl, inr, map, Ok, subst, sym, true, [], ℕ, ◌++◌, ◌<◌, ◌∙◌, ◌∷◌, ◌≡◌, ◌⊎◌}
+use Joined.{append_assoc, Contribution, joined_content, joined_parts, length-append, name_signature}
+use Joined.{arith, Each, false, first, keys, List, None, refl, row_at, same-ok, section, Some, Used}
+use Joined.{bind-was, Contents, Encoding, HasFront, identity, IsSound, list_all, list_any, UnitRead}
+use Joined.{by-bool, is-same, is_some, name_for, names_of, NewUnit, place_of, with_part, with_parts}
+use Joined.{content_of, contribution_put, is_package, LieInside, map-append, unit_bytes, with_bytes}
+use Joined.{is_shared, nat_tests, place_for, ReadError, same_kind, same_name, slice_get, with_input}
 use Rattle.dwp_units.specs.Units.{header_at, older_at, older_type_at, unit_at, units, units_within}
 use Rattle.std.proofs.Common.{eqb-true}
 use Rattle.std.proofs.lemmas.List.{Elements.recursion_from_All, Sums.AllPass-from_list_all}
 use Rattle.std.proofs.lemmas.Option.{get_or_from_slice_get, slice_get_within}
 use Rattle.thorin_again.proofs.Sections.{identity-stays, put-stays}
 use Rattle.thorin_again.specs.Plain.{HasNamedParts, HasNamedUnits, NamesItself}
-use Rattle.thorin_again.specs.{Again.input_encoding, InFormat.IsInFormat}
-use Rattle.thorin_index.specs.{EntryTests.same_encoding, IndexText.is_used}
 use Rattle.thorin_input.specs.Encodings.{encoding_of, first_encoding, has_encoding, section_has}
-use Rattle.thorin_input.specs.Format.{is_in_format}
 use Rattle.thorin_input.specs.{Adjusting.adjusted, Adjusting.moved, Rows.abbreviations_for}
-use Rattle.thorin_join.proofs.Joined.{can-lie, keys-held, Made, same-begun, source-made, takes}
-use Rattle.thorin_join.proofs.Joined.{grows-with_parts, names-added, sound-inside, with_all_parts}
-use Rattle.thorin_join.proofs.Parts.{content-with_bytes, each-part, each-unit as unit-by-unit}
+use Rattle.thorin_join.proofs.Joined.{can-lie, grows-with_parts, Made, takes, with_all_parts}
+use Rattle.thorin_join.proofs.Joined.{keys-held, names-added, same-begun, sound-inside, source-made}
 use Rattle.thorin_join.proofs.Parts.{content-with_parts, joined_parts-other, parts-copied}
-use Rattle.thorin_join.proofs.Rows.{Grows, grows-trans, is-unit_row, row-own, whole-else}
-use Rattle.thorin_join.proofs.Rows.{adjusted-plain, front-long, IsUnitRow, keep-part, row-part}
-use Rattle.thorin_join.proofs.Rows.{content-put, grows-with_bytes, own-place, row-name, whole-part}
-use Rattle.thorin_join.proofs.Units.{AllSo, known-in, News, Reads, same_name-self, same_name-true}
-use Rattle.thorin_join.proofs.Units.{AreAdded, identity-sort, name-identity, units-go, units-joined}
-use Rattle.thorin_join.proofs.Units.{added-keys, each-all, each-joining, goes-alone, sections-are}
-use Rattle.thorin_join.proofs.Units.{each-named, Goes, IsAdded, IsKnown, kind-place, UnitsJoined}
-use Rattle.thorin_join.proofs.{Moved.identity-shifted, Moved.newer-five, Units.Listed}
+use Rattle.thorin_join.proofs.Rows.{Grows, keep-part, own-place, row-own, row-part}
+use Rattle.thorin_join.proofs.Rows.{adjusted-plain, content-put, front-long, whole-else, whole-part}
+use Rattle.thorin_join.proofs.Rows.{grows-trans, grows-with_bytes, is-unit_row, IsUnitRow, row-name}
+use Rattle.thorin_join.proofs.Units.{AllSo, Listed, name-identity, Reads, same_name-true, WasRead}
+use Rattle.thorin_join.proofs.Units.{AreAdded, identity-sort, kind-place, units-joined, UnitsJoined}
+use Rattle.thorin_join.proofs.Units.{added-keys, each-joining, each-named, goes-alone, sections-are}
+use Rattle.thorin_join.proofs.Units.{each-all, IsAdded, IsKnown, known-in, same_name-self, units-go}
+use Rattle.thorin_join.proofs.{Moved.identity-shifted, Moved.newer-five, Units.Goes, Units.News}
 use Rattle.thorin_join.specs.Meaning.{named_at, named_each, named_sections}
-use Rattle.thorin_join.{proofs.Units.WasRead, specs.StandApart.EachRow, specs.StandApart.rows_begun}
+use Rattle.thorin_join.specs.StandApart.{EachRow, rows_begun}
+use Rattle.{dwp_base.proofs.Bools.or-right, thorin_index.specs.IndexText.is_used}
+use Rattle.{thorin_again.specs.Again.input_encoding, thorin_index.specs.EntryTests.same_encoding}
+use Rattle.{thorin_again.specs.InFormat.IsInFormat, thorin_input.specs.Format.is_in_format}
+use Rattle.thorin_join.proofs.Terms as Joined
+use Rattle.thorin_join.proofs.Parts.{content-with_bytes, each-part, each-unit as unit-by-unit}
 use Rattle.dwp_base.specs.declared.section.SectionKind.TheVariants as kinds
 use Rattle.dwp_units.specs.declared.unit.UnitSection.TheVariants as places
 

@@ -4,47 +4,45 @@
 -- these inputs; its rows are in the format; and where all units of each input have one encoding,
 -- the header of each unit has the encoding that is recorded of it, wherever its bytes are read
 -- again, each has its strings, and what is written has the encoding, as an input.
-use Rattle.thorin_join.proofs.Terms as Joined
-use Joined.{All, ap, arith, bind-was, content_of, Contents, data_of, DwarfObject, Elf, elf_of}
-use Joined.{Encoding, encoding_in, Endianness, false, File, file_text, first, GivesNone, has_info}
-use Joined.{Header, IndexEntry, inl, InProgress, Input, inr, is_package, IsFinished, IsSound}
-use Joined.{IsSoundBegun, Joins, kind_of, KindsDiffer, length, length-append, length-map, List}
-use Joined.{list_all, list_any, lookup, map, MatchOption, Meaning, meaning_at, Members, nat_tests}
-use Joined.{None, Ok, opened, Option, Package, package_or_new, place_of, ReadError, refl, same-ok}
-use Joined.{same_name, same_Some, section, Some, subst, sym, true, unit_bytes, units_begun}
-use Joined.{units_in, units_of, UnitSection, Used, with_input, [], ℕ, ◌+◌, ◌<◌, ◌∙◌, ◌∷◌, ◌≡◌}
+use Joined.{All, Elf, File, first, inl, inr, List, None, refl, Some, subst, true, units_begun, Used}
+use Joined.{Contents, file_text, GivesNone, meaning_at, nat_tests, ReadError, same_Some, unit_bytes}
+use Joined.{DwarfObject, encoding_in, Endianness, InProgress, KindsDiffer, MatchOption, UnitSection}
+use Joined.{ap, map, Ok, sym, [], ℕ, ◌+◌, ◌<◌, ◌∙◌, ◌∷◌, ◌≡◌}
+use Joined.{arith, elf_of, false, Input, Joins, length, lookup, opened, section, units_in, units_of}
+use Joined.{bind-was, Encoding, has_info, list_all, list_any, package_or_new, same_name, with_input}
+use Joined.{content_of, IndexEntry, is_package, IsFinished, IsSoundBegun, length-append, length-map}
+use Joined.{data_of, Header, IsSound, kind_of, Meaning, Members, Option, Package, place_of, same-ok}
 use Rattle.dwp_base.specs.declared.section.SectionKind.TheVariants.{CuIndex, TuIndex}
 use Rattle.dwp_bytes.specs.declared.encoding.Format.TheVariants.{Dwarf32}
-use Rattle.dwp_elf.specs.Written.{written_elf}
 use Rattle.dwp_index.specs.Package.{found_counted, package_of, unit_at_row, unit_in}
-use Rattle.dwp_units.proofs.Readings.{one_answer}
 use Rattle.dwp_units.specs.Units.{header_at, older_at, unit_at, units, units_within}
-use Rattle.std.proofs.Common.{get_or, unwrap_or, ◌↔◌}
-use Rattle.std.proofs.lemmas.List.Elements.{All-cons, All-head, All-map, All-nil, All-tail}
-use Rattle.std.proofs.lemmas.List.Elements.{All-from_recursion, recursion_from_All}
-use Rattle.std.proofs.lemmas.{Map.Views.IfSome-lookup_from_All, Option.slice_get-get_or}
-use Rattle.thorin_again.proofs.Kept.{HasInfo, info-there, input-rows, new-encoding, rows-added}
-use Rattle.thorin_again.proofs.Kept.{encoding-eq, names-kept, of-one, OfOne, order-added, own-lies}
-use Rattle.thorin_again.proofs.Opened.{first-written, HaveEncoding, input-encoding, IsOwnRow}
-use Rattle.thorin_again.proofs.Opened.{mean_of, OwnMade, rows-of}
-use Rattle.thorin_again.proofs.Sections.{of-section, read-alone}
-use Rattle.thorin_again.proofs.{Kept.named-kept, Kept.news-are, Offsets.no-turn, Offsets.tiled-kept}
+use Rattle.std.proofs.lemmas.List.Elements.{All-cons, All-head, All-map, All-nil}
+use Rattle.std.proofs.lemmas.List.Elements.{All-from_recursion, All-tail, recursion_from_All}
+use Rattle.std.proofs.{Common.get_or, Common.unwrap_or, lemmas.Option.slice_get-get_or, Common.◌↔◌}
+use Rattle.thorin_again.proofs.Kept.{HasInfo, names-kept, news-are, of-one, order-added, rows-added}
+use Rattle.thorin_again.proofs.Kept.{encoding-eq, info-there, input-rows, named-kept, new-encoding}
+use Rattle.thorin_again.proofs.Opened.{first-written, input-encoding, IsOwnRow, OwnMade, rows-of}
+use Rattle.thorin_again.proofs.{Kept.OfOne, Kept.own-lies, Offsets.no-turn, Offsets.tiled-kept}
+use Rattle.thorin_again.proofs.{Opened.mean_of, Sections.of-section, Sections.read-alone}
 use Rattle.thorin_again.specs.InFormat.{AreInFormat, HasEncodingOfOne, HaveEncodingsOf, IsInFormat}
 use Rattle.thorin_again.specs.OneEncoding.{AnswersAs, IsOfEncoding, IsOfOneEncoding}
 use Rattle.thorin_again.specs.OneEncoding.{AnswersOnceWritten, GivesWhole, HaveEncodingOnceWritten}
 use Rattle.thorin_again.specs.Plain.{HasNamedUnits, HasTiledOffsets, HoldsPlain, IsPlain}
 use Rattle.thorin_again.specs.PlainInputs.{AreTaken, EachAdds, IsOfPlainObjects, IsPlainOf}
-use Rattle.thorin_again.specs.{Again.input_encoding, InFormat.IsOneOf, OwnInput.written_object}
 use Rattle.thorin_again.specs.{Own.has_sections, Own.packs_again, OwnUnits.AllOf, OwnUnits.HoldsOwn}
-use Rattle.thorin_input.specs.Encodings.{encoding_of, file_encoding, is_index, own_encoding}
-use Rattle.thorin_input.specs.Encodings.{first_encoding, section_has}
-use Rattle.thorin_input.specs.Indexes.{index_in, indexes_of}
+use Rattle.thorin_again.{proofs.Opened.HaveEncoding, specs.Again.input_encoding}
+use Rattle.thorin_input.specs.Encodings.{encoding_of, file_encoding, first_encoding, own_encoding}
+use Rattle.thorin_input.specs.{Encodings.is_index, Encodings.section_has, Indexes.indexes_of}
 use Rattle.thorin_join.proofs.Files.{finished-is, finished-order, finished-own}
-use Rattle.thorin_join.proofs.Joined.{all_there, input-keeps, made-order, sound-inside}
-use Rattle.thorin_join.proofs.Joined.{new-sound, same-begun, source-made, Takes, takes, TakesUnits}
-use Rattle.thorin_join.specs.Builder.{finish_test, names_in, order_of, start, State, taken}
-use Rattle.thorin_join.specs.{Builder.IsFinishedState, StandApart.EachRow, StandApart.rows_begun}
+use Rattle.thorin_join.proofs.Joined.{all_there, input-keeps, new-sound, Takes, takes}
+use Rattle.thorin_join.proofs.Joined.{made-order, same-begun, sound-inside, source-made, TakesUnits}
+use Rattle.thorin_join.specs.Builder.{finish_test, IsFinishedState, order_of, start, State, taken}
+use Rattle.thorin_join.specs.{Builder.names_in, StandApart.EachRow, StandApart.rows_begun}
 use Rattle.thorin_join.{proofs.Rows.keep-part, specs.Join.GivesUnit, specs.Join.look_limit}
+use Rattle.{dwp_elf.specs.Written.written_elf, thorin_again.specs.InFormat.IsOneOf}
+use Rattle.{dwp_units.proofs.Readings.one_answer, thorin_again.specs.OwnInput.written_object}
+use Rattle.{std.proofs.lemmas.Map.Views.IfSome-lookup_from_All, thorin_input.specs.Indexes.index_in}
+use Rattle.thorin_join.proofs.Terms as Joined
 use Rattle.dwp_units.specs.declared.unit.UnitSection.TheVariants as places
 
 -- what holds of what the units of rows mean holds of the units

@@ -1,53 +1,51 @@
 -- What a unit of a written package means as an input: just what was joined. A finished package,
 -- taken as an input, means the units that were joined in it.
-use Rattle.thorin_join.proofs.Terms as Joined
-use Joined.{Adding, adding, All, ap, append-nil, arith, bind-was, Bool, by-bool, can_join}
-use Joined.{content_of, Contents, Contribution, contribution_to, DwarfObject, Each, elf_of}
-use Joined.{Encoding, entry_ids, ErrorValue, false, File, file_text, filter-append, first, has_info}
-use Joined.{Header, identifier_of, identity, Index, IndexEntry, Indexes, indexes_of, InProgress}
-use Joined.{Input, is_chosen, is_compilation, is_none, is_outside, IsRowOf, IsSound, IsSoundBegun}
-use Joined.{joining, kind_of, KindsDiffer, length, length-map, LieInside, List, map, map-append}
-use Joined.{Meaning, Members, name_for, name_signature, nat_eq, nat_tests, NewUnit, nil_from_length}
-use Joined.{None, none-some, Ok, opened, Option, order_test, package_or_new, part_of, range_in}
-use Joined.{Ranges, refl, Result, row_in, rows_of, same-ok, section, SectionKind, slice_get, Some}
-use Joined.{Source, source_units, strings_of, subst, suc, sym, take-length, true, unit_section}
-use Joined.{UnitRead, units_in, units_of, UnitSection, with_input, with_source, zero, [], ℕ, ◌++◌}
-use Joined.{◌+◌, ◌<◌, ◌∙◌, ◌∷◌, ◌≡◌, ◌≤◌}
-use Rattle.dwp_elf.specs.Written.{written_elf}
-use Rattle.dwp_table.proofs.Tables.{finds_exactly}
+use Joined.{Adding, by-bool, Indexes, is_none, IsRowOf, IsSound, joining, Meaning, Members, NewUnit}
+use Joined.{All, Bool, Each, File, first, List, None, opened, refl, row_in, Some, subst, true, zero}
+use Joined.{Contribution, filter-append, is_compilation, IsSoundBegun, name_signature, source_units}
+use Joined.{Header, kind_of, Option, part_of, range_in, Ranges, rows_of, same-ok, section, units_in}
+use Joined.{adding, arith, elf_of, false, Index, Input, length, nat_eq, Result, Source, with_source}
+use Joined.{ap, map, Ok, suc, sym, units_of, [], ℕ, ◌++◌, ◌+◌, ◌<◌, ◌∙◌, ◌∷◌, ◌≡◌, ◌≤◌}
+use Joined.{append-nil, content_of, ErrorValue, IndexEntry, InProgress, package_or_new, SectionKind}
+use Joined.{bind-was, Contents, Encoding, is_outside, length-map, map-append, UnitRead, UnitSection}
+use Joined.{can_join, has_info, identity, name_for, order_test, strings_of, take-length, with_input}
+use Joined.{contribution_to, DwarfObject, identifier_of, KindsDiffer, nil_from_length, unit_section}
+use Joined.{entry_ids, file_text, indexes_of, is_chosen, LieInside, nat_tests, none-some, slice_get}
 use Rattle.dwp_table.specs.{Probing.found_row, Probing.look_count, Table.FindsExactly}
 use Rattle.dwp_units.specs.Units.{units, units_within}
 use Rattle.std.proofs.Common.{ap₂, eqb-true, find, get_or, IsPermutation, ◌≢◌}
 use Rattle.std.proofs.Math.{Dec.eqb-suc-zero, Seq.drop-append_seam, Seq.take-append_seam}
-use Rattle.std.proofs.lemmas.List.Elements.{All-drop, All-filter, All-from_recursion, All-tail}
-use Rattle.std.proofs.lemmas.List.Sorted.{All-permutation, IsPermutation-map, IsPermutation-sym}
-use Rattle.std.proofs.lemmas.List.Sorted.{IsPermutation-append_comm, IsPermutation-trans}
-use Rattle.std.proofs.lemmas.List.Sorted.{IsPermutation-append_right, IsPermutation-filter_both}
-use Rattle.std.proofs.lemmas.List.{Elements.All-head, Elements.All-take, Sorted.IsPermutation-refl}
-use Rattle.std.proofs.lemmas.List.{Folds.Any-from_list_any, get_or_append_left}
+use Rattle.std.proofs.lemmas.List.Elements.{All-drop, All-filter, All-from_recursion, All-head}
+use Rattle.std.proofs.lemmas.List.Sorted.{IsPermutation-append_comm, IsPermutation-append_right}
+use Rattle.std.proofs.lemmas.List.Sorted.{IsPermutation-filter_both, IsPermutation-refl}
+use Rattle.std.proofs.lemmas.List.Sorted.{IsPermutation-map, IsPermutation-sym, IsPermutation-trans}
+use Rattle.std.proofs.lemmas.List.{Elements.All-tail, Elements.All-take, Folds.Any-from_list_any}
+use Rattle.std.proofs.lemmas.List.{get_or_append_left, Sorted.All-permutation}
 use Rattle.std.proofs.lemmas.Option.{slice_get-get_or, slice_get_within}
-use Rattle.thorin_again.proofs.Opened.{empty-first, IsReadOf, object-written, opened-elf}
-use Rattle.thorin_again.proofs.Opened.{first-written, input-encoding, IsOwnRow, mean_of, read-of}
-use Rattle.thorin_again.proofs.Opened.{info-written, lie-kept, none-behind, rest-differ, section_of}
-use Rattle.thorin_again.proofs.Sections.{IsUnitOf, lie-used, range_at}
-use Rattle.thorin_again.proofs.Sections.{at-row, at-seam, bytes-own, IsBelow, of-section, row-there}
+use Rattle.thorin_again.proofs.Opened.{empty-first, info-written, IsOwnRow, none-behind, opened-elf}
+use Rattle.thorin_again.proofs.Opened.{first-written, input-encoding, IsReadOf, mean_of, section_of}
+use Rattle.thorin_again.proofs.Opened.{lie-kept, object-written, read-of, rest-differ}
+use Rattle.thorin_again.proofs.Sections.{at-row, of-section, range_at}
+use Rattle.thorin_again.proofs.Sections.{at-seam, bytes-own, IsBelow, IsUnitOf, lie-used, row-there}
 use Rattle.thorin_again.specs.Again.{all_meant, HaveEncodingOf, MeansWhereTaken}
 use Rattle.thorin_again.specs.OwnInput.{IsOwn, own_source, written_object, written_used}
-use Rattle.thorin_again.{proofs.Kept.joined, specs.OwnUnits.AllOf}
 use Rattle.thorin_index.specs.ReadRows.{HasContributions, HasEntries}
 use Rattle.thorin_input.specs.Rows.{abbreviations_for, numbered_abbreviations, row_abbreviations}
 use Rattle.thorin_input.specs.{Adjusting.row_of, Indexes.index_for, Indexes.looked_up}
 use Rattle.thorin_input.specs.{Encodings.encoding_of, Rows.own_contribution, Rows.row_test}
-use Rattle.thorin_join.proofs.Files.{finished-grows, finished-order, id-at, members, part-there}
+use Rattle.thorin_join.proofs.Files.{finished-grows, finished-order, HasRows, members, part-there}
 use Rattle.thorin_join.proofs.Units.{AreAdded, identity-sort, name-identity, Reads}
-use Rattle.thorin_join.proofs.{Files.HasRows, Joined.source-made, Rows.keep-rows, Rows.not-outside}
-use Rattle.thorin_join.specs.Builder.{IsFinishedState, order_of, State, taken}
-use Rattle.thorin_join.specs.Builder.{finish_test, source_for, with_source_or_new, with_units}
-use Rattle.thorin_join.specs.Meaning.{input_meaning, meaning_with, named_each, named_sections}
-use Rattle.thorin_join.specs.Meaning.{lie_inside, meaning_by, meant, named_at, named_unit}
-use Rattle.thorin_join.specs.Meaning.{object_meaning, shared_kinds, source_meaning, unit_meaning}
-use Rattle.thorin_join.{proofs.Ranges.strings-are, specs.Laid.is_at, specs.Laid.rows_at}
+use Rattle.thorin_join.proofs.{Files.id-at, Joined.source-made, Rows.keep-rows, Rows.not-outside}
+use Rattle.thorin_join.specs.Builder.{IsFinishedState, source_for, State, taken, with_source_or_new}
+use Rattle.thorin_join.specs.Meaning.{input_meaning, named_sections, object_meaning, source_meaning}
+use Rattle.thorin_join.specs.Meaning.{lie_inside, meaning_by, meaning_with, named_each, named_unit}
+use Rattle.thorin_join.specs.Meaning.{meant, named_at, shared_kinds, unit_meaning}
+use Rattle.thorin_join.specs.{Builder.finish_test, Builder.order_of, Builder.with_units, Laid.is_at}
 use Rattle.thorin_package_input.{proofs.Rows.first_found, specs.RowPlaces.row_by_place}
+use Rattle.{dwp_elf.specs.Written.written_elf, thorin_again.specs.OwnUnits.AllOf}
+use Rattle.{dwp_table.proofs.Tables.finds_exactly, thorin_join.proofs.Ranges.strings-are}
+use Rattle.{thorin_again.proofs.Kept.joined, thorin_join.specs.Laid.rows_at}
+use Rattle.thorin_join.proofs.Terms as Joined
 use Rattle.dwp_base.specs.declared.section.SectionKind.TheVariants as kinds
 use Rattle.dwp_units.specs.declared.unit.UnitSection.TheVariants as places
 

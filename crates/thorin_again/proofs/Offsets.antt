@@ -2,33 +2,30 @@
 -- rewritten unless the offset of a string doesn't fit; those that were rewritten, once more from
 -- the same strings on, give the same strings. The ranges fill their section, where plain objects of
 -- one encoding are added: what each gives to string offsets is nothing, or a whole range.
-use Rattle.thorin_join.proofs.Terms as Joined
-use Joined.{All-append, All-weaker, ap, arith, bind-was, Bool, by-bool, content_of, Contents}
-use Joined.{Contribution, contribution_put, data_of, drop, drop-append-le, Encoding, Endianness}
-use Joined.{entry_count, entry_in, eqb, false, first, fitting_offset, has_part, header_size}
-use Joined.{IndexEntry, inl, InProgress, inr, is-same, is_package, IsTable, joined_parts, kept_more}
-use Joined.{length, length-append, length-drop, List, named_at, nat_tests, no_header, none-some}
-use Joined.{number_front, offset_size, Ok, Option, Parts, parts_of, range_named, refl, remapped}
-use Joined.{same_Some, slice_range, Some, Source, Str, string_at, string_in, StrOffsets, subst, suc}
-use Joined.{sym, take, take-length, true, with_source, zero, [], ℕ, ◌*◌, ◌++◌, ◌+◌, ◌<◌, ◌>>=◌, ◌∙◌}
-use Joined.{◌∷◌, ◌≡◌, ◌≤◌, ◌⊎◌}
-use Rattle.dwp_base.specs.Numbers.{number}
-use Rattle.std.proofs.Common.{add-mul, eqb-true, leb, leb-false, lt-ltb, true≢false, ⊎_elim}
-use Rattle.std.proofs.Common.{zero-mul}
+use Joined.{All-append, All-weaker, entry_count, header_size, length-drop, offset_size, range_named}
+use Joined.{Bool, drop, eqb, length, List, refl, remapped, Some, Str, subst, take, true, zero, ◌++◌}
+use Joined.{Contents, nat_tests, no_header, none-some, same_Some, slice_range, string_at, string_in}
+use Joined.{Contribution, drop-append-le, fitting_offset, joined_parts, length-append, number_front}
+use Joined.{ap, inl, inr, Ok, suc, sym, [], ℕ, ◌*◌, ◌+◌, ◌<◌, ◌>>=◌, ◌∙◌, ◌∷◌, ◌≡◌, ◌≤◌, ◌⊎◌}
+use Joined.{arith, false, first, is-same, Option, Parts, parts_of, Source, take-length, with_source}
+use Joined.{bind-was, by-bool, data_of, Encoding, entry_in, has_part, is_package, IsTable, named_at}
+use Joined.{content_of, contribution_put, Endianness, IndexEntry, InProgress, kept_more, StrOffsets}
+use Rattle.std.proofs.Common.{add-mul, eqb-true, leb-false, lt-ltb, true≢false, zero-mul, ⊎_elim}
 use Rattle.std.proofs.{lemmas.Bool.eqb-false, lemmas.Nat.row_fits, Math.Seq.drop-append-add}
-use Rattle.thorin_again.proofs.Kept.{content-added, once-more, parted, row_with, RowHas, rows-share}
-use Rattle.thorin_again.proofs.{Kept.order-added, Kept.with-any, Kept.with-each, Sections.tile-end}
-use Rattle.thorin_again.specs.Plain.{GiveStrings, HasTiledOffsets, IsOfSome, IsWholeRange, Tile}
-use Rattle.thorin_again.specs.{OwnRefusals.UnlessStringOffset, Plain.HasOneOf, Plain.IsAmong}
-use Rattle.thorin_join.proofs.Joined.{Made as Added, source-made}
-use Rattle.thorin_join.proofs.Parts.{each-part, has-more, has-other, rewritten-plain, units-strings}
-use Rattle.thorin_join.proofs.Parts.{joined_parts-more, joined_parts-other, no-entries, Rewritten}
+use Rattle.thorin_again.proofs.Kept.{once-more, order-added, row_with, RowHas, rows-share, with-any}
+use Rattle.thorin_again.proofs.{Kept.content-added, Kept.parted, Kept.with-each, Sections.tile-end}
+use Rattle.thorin_again.specs.Plain.{GiveStrings, HasOneOf, HasTiledOffsets, IsOfSome, IsWholeRange}
+use Rattle.thorin_again.specs.{OwnRefusals.UnlessStringOffset, Plain.IsAmong, Plain.Tile}
+use Rattle.thorin_join.proofs.Parts.{each-part, has-more, has-other, joined_parts-more, Rewritten}
+use Rattle.thorin_join.proofs.Parts.{joined_parts-other, no-entries, rewritten-plain, units-strings}
 use Rattle.thorin_join.proofs.Rows.{own-bytes, place-put, range-front, range_for}
 use Rattle.thorin_join.{proofs.Ranges.count-again, proofs.Ranges.range-of, specs.StandApart.EachRow}
 use Rattle.thorin_package_input.specs.PackagedOffsets.{ranges_test, rewritten_from}
-use Rattle.thorin_package_input.specs.PackagedReading.{range_bytes}
 use Rattle.thorin_strings.specs.StringOffsets.{entry_bytes, header_of, offset_at, remapped_entries}
-use Rattle.thorin_strings.specs.StringOffsets.{remapped_entry}
+use Rattle.{dwp_base.specs.Numbers.number, thorin_package_input.specs.PackagedReading.range_bytes}
+use Rattle.{std.proofs.Common.leb, thorin_strings.specs.StringOffsets.remapped_entry}
+use Rattle.thorin_join.proofs.Terms as Joined
+use Rattle.thorin_join.proofs.Joined.{Made as Added, source-made}
 
 -- ranges that lie one directly behind the other
 module _ (order : Endianness) (encoding : Encoding) where

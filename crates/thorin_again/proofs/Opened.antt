@@ -3,51 +3,48 @@
 -- string offsets are. The indexes of a written package are taken, where its rows have the version
 -- of the input, and its sections are in the format of its units. A written package of plain objects
 -- is read again: its indexes, and its string offsets.
-use Rattle.thorin_join.proofs.Terms as Joined
-use Joined.{ap, append-nil, append_assoc, AreDistinct, AreRowsOf, arith, Bool, cond, content_of}
-use Joined.{Contents, contribution_to, count_of, data_of, DwarfObject, Elf, Encoding, Endianness}
-use Joined.{entry_ids, Err, ErrorValue, every, false, File, file_text, first, has_info, has_part}
-use Joined.{Index, index_tests, index_version_of, IndexEntry, Indexes, InProgress, input_file_of}
-use Joined.{is-same, is_chosen, is_package, is_shared, is_some, IsFinished, IsIndexOf, IsRowOf}
-use Joined.{IsSound, IsSoundBegun, kind_of, KindsDiffer, length, length-map, List, list_any}
-use Joined.{list_any-append, Meaning, meaning_at, name_of, nat_tests, nil_from_length, None, not}
-use Joined.{Ok, Option, order_test, packaged_offsets, Parts, parts_of, refl, Result, rewritten}
-use Joined.{rows_of, same-each, same-ok, same-self, same_kind, same_Some, SectionKind, slice_get}
-use Joined.{slice_index, Some, Source, StrOffsets, subst, sym, take-length, true, units_in}
-use Joined.{units_of, UnitSection, Used, with_each_part, with_input, with_offsets, with_part, [], ℕ}
-use Joined.{◌++◌, ◌+◌, ◌<◌, ◌>>=◌, ◌^◌, ◌∙◌, ◌∷◌, ◌≡◌, ◌≤◌}
+use Joined.{AreRowsOf, entry_ids, file_text, is_chosen, is_shared, IsIndexOf, nat_tests, with_input}
+use Joined.{Contents, rewritten, same-each, same-self, same_kind, same_Some, slice_get, UnitSection}
+use Joined.{DwarfObject, index_version_of, KindsDiffer, packaged_offsets, SectionKind, with_offsets}
+use Joined.{Endianness, ErrorValue, IndexEntry, InProgress, IsFinished, list_any-append, StrOffsets}
+use Joined.{Index, Parts, parts_of, Result, rows_of, same-ok, Source, units_in, units_of, with_part}
+use Joined.{ap, Elf, Err, length, not, Ok, sym, [], ◌++◌, ◌+◌, ◌<◌, ◌>>=◌, ◌^◌, ◌∙◌, ◌∷◌, ◌≡◌, ◌≤◌}
+use Joined.{append-nil, content_of, is_package, length-map, meaning_at, nil_from_length, order_test}
+use Joined.{append_assoc, AreDistinct, contribution_to, input_file_of, IsSoundBegun, with_each_part}
+use Joined.{arith, Bool, cond, every, false, File, first, List, None, refl, Some, subst, true, Used}
+use Joined.{count_of, Encoding, has_info, has_part, index_tests, list_any, slice_index, take-length}
+use Joined.{data_of, Indexes, is-same, is_some, IsRowOf, IsSound, kind_of, Meaning, name_of, Option}
+use Joined.{ℕ}
 use Rattle.dwp_base.proofs.EveryKind.{kind-named, not-older}
 use Rattle.dwp_base.specs.declared.section.SectionKind.TheVariants.{Info}
-use Rattle.dwp_elf.specs.FileText.{name_table}
 use Rattle.dwp_elf.specs.Written.{plain_section, written_elf, written_sections}
 use Rattle.dwp_elf_read.specs.Elf.{elf_of, is_named, is_of, SectionMeaning}
-use Rattle.dwp_elf_read.specs.Identification.{identity_of}
-use Rattle.dwp_index.specs.Contents.{is_of_kind}
-use Rattle.dwp_table.specs.Columns.{column_of}
-use Rattle.std.proofs.{ByRecursion.all_kept_by, lemmas.List.Elements.recursion_from_All}
-use Rattle.std.proofs.{Common.bytes_eq, lemmas.Bool.or_right, Math.ListN.get_or-map}
+use Rattle.std.proofs.{Common.bytes_eq, lemmas.Bool.or_right}
 use Rattle.thorin_again.proofs.Offsets.{all-rewritten, are-named, tile-tested}
-use Rattle.thorin_again.proofs.Sections.{any-chosen, at-row, has-range, passing, ranges-are}
-use Rattle.thorin_again.proofs.Sections.{one-is-there, some-has, tile-lies}
-use Rattle.thorin_again.specs.OwnInput.{CanTake, IsOwn, own_source, TakesParts, TakesUpToParts}
-use Rattle.thorin_again.specs.OwnUnits.{AllOf}
-use Rattle.thorin_again.specs.{Again.input_encoding, OwnInput.written_object, OwnInput.written_used}
+use Rattle.thorin_again.proofs.Sections.{any-chosen, has-range, one-is-there, ranges-are, tile-lies}
+use Rattle.thorin_again.proofs.Sections.{at-row, passing, some-has}
+use Rattle.thorin_again.specs.OwnInput.{IsOwn, own_source, TakesParts, TakesUpToParts, written_used}
+use Rattle.thorin_again.specs.{Again.input_encoding, OwnInput.CanTake, OwnInput.written_object}
 use Rattle.thorin_again.specs.{OwnRefusals.UnlessStringOffset, Plain.HasTiledOffsets, Plain.IsPlain}
 use Rattle.thorin_index.proofs.ReadAgain.{index_is_read, written_rows}
 use Rattle.thorin_index.{proofs.Held.have_passed, proofs.Held.used_known, specs.IndexText.is_used}
 use Rattle.thorin_input.specs.Indexes.{index_in, indexes_of, version_test}
 use Rattle.thorin_input.specs.Used.{counts_once, has_kind, is_present, opened, used_from, used_kind}
 use Rattle.thorin_input.specs.{Encodings.encoding_of, Format.is_in_format, Format.is_of_units}
-use Rattle.thorin_input.{proofs.Walking.found-any, specs.Used.used_bytes}
-use Rattle.thorin_join.proofs.Files.{chosen-fit, finished-order, finished-strings, tested-state}
-use Rattle.thorin_join.proofs.Files.{finished-content, finished-own, no-bytes, nothing, Tested}
+use Rattle.thorin_join.proofs.Files.{chosen-fit, finished-order, HasRows, members, no-bytes, Tested}
+use Rattle.thorin_join.proofs.Files.{finished-content, finished-own, finished-strings, tested-state}
 use Rattle.thorin_join.proofs.{Parts.rewritten-package, Parts.slice-long, Units.distinct_chosen}
-use Rattle.thorin_join.specs.Builder.{finish_test, IsFinishedState, same_order, source_for, State}
-use Rattle.thorin_join.specs.Laid.{IsLaid, Lie, rows_at}
-use Rattle.thorin_join.{proofs.Files.HasRows, proofs.Files.members, specs.StandApart.EachRow}
-use Rattle.thorin_join.{proofs.Rows.part-inside, specs.Builder.order_of, specs.Builder.with_units}
-use Rattle.thorin_package_input.proofs.Rows.{range_is}
+use Rattle.thorin_join.specs.Builder.{IsFinishedState, order_of, same_order, source_for, with_units}
+use Rattle.thorin_join.specs.{Builder.finish_test, Builder.State, StandApart.EachRow}
+use Rattle.thorin_join.{proofs.Files.nothing, specs.Laid.IsLaid, specs.Laid.Lie, specs.Laid.rows_at}
 use Rattle.thorin_package_input.specs.{PackagedOffsets.rewritten_from, PackagedReading.range_bytes}
+use Rattle.{dwp_elf.specs.FileText.name_table, dwp_table.specs.Columns.column_of}
+use Rattle.{dwp_elf_read.specs.Identification.identity_of, thorin_input.proofs.Walking.found-any}
+use Rattle.{dwp_index.specs.Contents.is_of_kind, std.proofs.lemmas.List.Elements.recursion_from_All}
+use Rattle.{std.proofs.ByRecursion.all_kept_by, thorin_input.specs.Used.used_bytes}
+use Rattle.{std.proofs.Math.ListN.get_or-map, thorin_again.specs.OwnUnits.AllOf}
+use Rattle.{thorin_join.proofs.Rows.part-inside, thorin_package_input.proofs.Rows.range_is}
+use Rattle.thorin_join.proofs.Terms as Joined
 use Rattle.dwp_base.specs.declared.section.SectionKind.TheVariants as kinds
 use Rattle.dwp_index.specs.Contents as contents
 use Rattle.dwp_units.specs.declared.unit.UnitSection.TheVariants as places

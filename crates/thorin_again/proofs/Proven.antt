@@ -1,9 +1,8 @@
 -- What the laws say, for the functions that state them.
-use Rattle.thorin_again.proofs.Accepted.{own-all, own-by-new}
-use Rattle.thorin_again.proofs.Lists.{again-exactly, begun-now, input-order, inputs-hold}
-use Rattle.thorin_again.proofs.Lists.{inputs-whole, rows-taken, taken-holds, taken-plain}
-use Rattle.thorin_again.proofs.{Meant.again-is, Opened.opened-elf, Opened.up-to-parts}
-use Rattle.thorin_again.proofs.{Sections.identity-stays}
+use Rattle.thorin_again.proofs.Lists.{again-exactly, inputs-whole, rows-taken}
+use Rattle.thorin_again.proofs.Lists.{begun-now, input-order, inputs-hold, taken-holds, taken-plain}
+use Rattle.thorin_again.proofs.{Accepted.own-all, Accepted.own-by-new, Meant.again-is}
+use Rattle.thorin_again.proofs.{Opened.opened-elf, Opened.up-to-parts, Sections.identity-stays}
 
 -- of inputs that are taken
 pub ruleset taken = (begun-now, input-order, inputs-hold, inputs-whole, opened-elf, rows-taken)
