@@ -6,7 +6,6 @@ use Rattle.thorin_check.specs.Gathered.{Adds, AllEndIn, Gathered, Gathers, IsGat
 use Rattle.thorin_check.specs.Strings.{HasStringsIn, HasStringsOf, IsRangeOfOne, range_by, range_of}
 use Rattle.thorin_check.specs.declared.{overlaps.Placed.Placed, strings.UnreadStrings.UnreadStrings}
 use Rattle.{dwp_base.specs.declared.endian.Endianness.Endianness, thorin_find.specs.Names.header_in}
-use Rattle.std.proofs.lemmas.List.Elements.{All-nil, All-push, Contains-append_left, Contains-push}
 use Rattle.{dwp_bytes.specs.Input.section, dwp_table.specs.declared.object.DwarfObject.DwarfObject}
 use Rattle.std.proofs.Common.{Option, option_map, refl, Result, Some, suc, sym, true, zero, [], ℕ}
 use Rattle.dwp_index.specs.Package.{is_outside, kind_of, lies_inside, Package, part_of, place_of}
@@ -20,10 +19,11 @@ use Rattle.dwp_index.specs.Package.{first_outside, found, found_counted, FoundUn
 use Rattle.thorin_check.specs.Remembered.{bytes_at, is_in_types, numbers_of, own_at, place_in}
 use Rattle.dwp_base.proofs.{Bools.by-bool, EveryKind.each, EveryKind.HoldsAll, Steps.same-ok}
 use Rattle.dwp_base.specs.declared.section.SectionKind.TheVariants.{Abbrev, Str, StrOffsets}
+use Rattle.std.proofs.lemmas.List.Elements.{All-push, Contains-append_left, Contains-push}
 use Rattle.{std.proofs.lemmas.Bool.Decides.nat_tests, thorin_find.specs.Finding.string_of}
 use Rattle.thorin_check.specs.Apart.{AreApartIn, HasRange, HasRanges, IsApart, tables_by}
 use Rattle.std.proofs.Common.{add-one, arith, Bool, drop, eqb, Err, false, find, get_or}
-use Rattle.thorin_check.specs.Overlaps.{has_units, overlap, range_by_index, same_range, slot_range}
+use Rattle.thorin_check.specs.Overlaps.{has_units, overlap, range_by_index, slot_range}
 use Rattle.std.proofs.lemmas.List.{drop-take, get_or_default, Sorted.all_adjacent_more}
 use Rattle.dwp_bytes.specs.StringOffsets.{entry_count, entry_in, string_at, string_in}
 use Rattle.thorin_check.specs.declared.strings.{Ends.Ends, StringRange.StringRange}
@@ -43,10 +43,6 @@ use Rattle.dwp_index.specs.Contents.{content, Sections}
 use Rattle.dwp_base.specs.declared.section.SectionKind.TheVariants as kinds
 use Rattle.thorin_check.specs.contracts.abbreviations.UnitPlacePartialEq.TheImpl as places
 use Rattle.thorin_check.specs.contracts.strings.StringRangePartialEq.TheImpl as string_ranges
-
--- two ranges that are the same, or both absent
-pub one_range : (a b : Option Contribution) → same_range a b ≡ true → a ≡ b
-one_range a b e = grind (arith, nat_tests)
 
 -- ---- sorted ranges, gone through
 
@@ -304,13 +300,6 @@ module _ (strings : List ℕ) where
   pub unreached : IsLastByte (is_byte 0) strings None → IsReach strings 0
   unreached h offset = grind (arith, nat_tests, behind 0 offset h)
 
--- ---- strings of a package
-
-pub of_package : (ends : Ends) (order : Endianness) (strings : List ℕ) (pack : Package)
-    → HasEnds ends order strings → order ≡ pack.order → strings ≡ content pack.contents Str
-    → HasEnds ends pack.order (content pack.contents Str)
-of_package ends order strings pack h e f = rw (e, f) at h
-
 -- ---- strings of a unit
 
 pub all_read : (ends : Ends) (order : Endianness) (strings : List ℕ) → HasEnds ends order strings
@@ -330,22 +319,8 @@ same_offsets before range equal = grind (arith, nat_tests)
 
 -- ---- units that are gathered
 
--- nothing yet
-pub nothing_gathered : (pack : Package) (strings : UnreadStrings)
-    → HasEnds strings.ends pack.order (content pack.contents Str) → strings.last ≡ None
-    → strings.unread.items ≡ [] → Gathers pack strings
-nothing_gathered pack strings ends last none = record {
-  ends = ends;
-  last = λ range e. absurd (let some = sym last ∙ e in cc);
-  are = rw none (All-nil (IsOfUnit pack));
-}
-
 module _ (pack : Package) (old : UnreadStrings) (unit : FoundUnit) (object : DwarfObject)
     (g : Gathers pack old) (is : found pack object ≡ Ok (Some unit)) where
-  -- it has no string offsets
-  pub none_added : None ≡ range_of unit → Adds pack old old unit
-  none_added none = grind (arith)
-
   module _ (range : StringRange) (has : Some range ≡ range_of unit) where
     -- it has those of the unit before
     pub last_added : old.last ≡ Some range → Adds pack old old unit

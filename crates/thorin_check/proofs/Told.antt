@@ -3,8 +3,7 @@
 use Rattle.std.proofs.lemmas.List.Elements.{All-append, All-contains, All-get_or, All-more, All-nil}
 use Rattle.std.proofs.Common.{get_or, Global, IfOk, inl, inr, length, List, map, min, nat_eq, None}
 use Rattle.std.proofs.Common.{take_all, true, [], ℕ, ◌&&◌, ◌++◌, ◌+◌, ◌-◌, ◌<◌, ◌^◌, ◌∙◌, ◌∷◌, ◌≡◌}
-use Rattle.thorin_check.specs.Gathered.{GoesOn, IsGathered, IsGatheredIn, IsOfUnit, IsSeen, Listed}
-use Rattle.thorin_check.specs.{Apart.AreApart, Faults.TellsStringsOf, Faults.TellsUnit, Own.own_of}
+use Rattle.thorin_check.specs.Faults.{row_fault, TellsFound, TellsOwn, TellsRowsOf, TellsStringsOf}
 use Rattle.std.proofs.lemmas.List.Elements.{All-push, Contains-append_left, Contains-append_right}
 use Rattle.thorin_check.{proofs.Packages.has_strings, specs.Texts.IsTextOf, specs.Texts.TellsText}
 use Rattle.thorin_check.specs.Telling.{counted_on, ForEach, InTurn, Is, IsFault, Progress, Tells}
@@ -13,26 +12,26 @@ use Rattle.std.proofs.Common.{ap, append-nil, append_assoc, arith, below_more, B
 use Rattle.thorin_check.specs.Strings.{HasOffsets, IsBehind, IsRangeOfOne, number_of, ShareNone}
 use Rattle.dwp_index.specs.declared.{error.PackageError.PackageError, units.UnitEntry.UnitEntry}
 use Rattle.dwp_table.specs.{Columns.contribution_kinds, declared.object.DwarfObject.DwarfObject}
+use Rattle.std.{proofs.Common.◌≢◌, proofs.Common.◌≤◌, proofs.Common.◌⊎◌, specs.Ordering.nat_cmp}
 use Rattle.std.specs.List.{All, AllPairs, Contains, Sorted.IsPermutation, Sorted.IsSortedByKey}
-use Rattle.thorin_check.specs.Faults.{IsUnnamed, row_fault, TellsFound, TellsOwn, TellsRowsOf}
-use Rattle.{dwp_base.proofs.Bools.both, std.specs.Ordering.nat_cmp, std.specs.Result.IsErrAnd}
+use Rattle.thorin_check.specs.{Apart.AreApart, Faults.TellsUnit, Telling.TellsOr, Telling.Told}
 use Rattle.std.proofs.Common.{Ok, OnOk, Option, refl, Result, rules, Some, String, sym, take}
 use Rattle.thorin_check.specs.Checking.{TellsSlot, TellsSlots, TellsStringsOfAll, TellsUnits}
 use Rattle.std.proofs.lemmas.List.Sorted.{Contains-permutation, IsNonDecreasingBy-from_sort}
-use Rattle.thorin_print.specs.{Answers.Grows, Answers.Outcome, Answers.Prints, Shown.shown}
-use Rattle.thorin_check.specs.Faults.{ArePast, is_bare, is_from, is_of, IsBroken, IsNamed}
+use Rattle.thorin_check.specs.Faults.{ArePast, is_bare, is_from, is_of, IsNamed, IsUnnamed}
+use Rattle.thorin_check.specs.Gathered.{GoesOn, IsGathered, IsGatheredIn, IsOfUnit, Listed}
 use Rattle.thorin_check.specs.declared.{strings.StringRange.StringRange, units.Seen.Seen}
 use Rattle.std.proofs.lemmas.{Bool.Decides.nat_tests, List.Quantifiers.all_pairs_push}
 use Rattle.std.proofs.lemmas.{Bool.cases_lt, Grind.flat_map-append, Option.same_Some}
-use Rattle.{thorin_print.proofs.Printed.grown, thorin_words.specs.Printed.printed}
-use Rattle.thorin_check.specs.Rendering.{fault_text, FaultValue, of_executable}
+use Rattle.thorin_check.specs.{Gathered.TellsListed, Gathered.TellsSeen, Own.own_of}
 use Rattle.thorin_print.specs.declared.{form.Form.Form, output.Failure.Failure}
-use Rattle.thorin_check.specs.Gathered.{TellsListed, TellsSeen}
+use Rattle.{dwp_base.proofs.Bools.both, thorin_print.proofs.Printed.grown}
+use Rattle.thorin_check.specs.Rendering.{fault_text, FaultValue}
 use Rattle.dwp_index.specs.Package.{found, FoundUnit, Package}
 use Rattle.thorin_find.specs.Listing.{place_by, place_of_line}
+use Rattle.thorin_print.specs.Answers.{Grows, Outcome, Prints}
 use Rattle.std.proofs.KnownBytes.{Appends-nil, Appends-trans}
-use Rattle.thorin_check.specs.Telling.{TellsOr, Told}
-use Rattle.std.proofs.Common.{◌≢◌, ◌≤◌, ◌⊎◌}
+use Rattle.std.specs.Result.{IsErrAnd}
 
 -- what the exit of a `?` answers
 pub exit_is : {T E : Type 0} {e : E} {r : Result T E} → IsErrAnd r (λ y. y ≡ e) → r ≡ Err e
@@ -173,15 +172,6 @@ pub of_its_own : (pack : Package) (entry : UnitEntry) (unit : FoundUnit) (bare :
     → IsTextOf (TellsOwn entry.object (own_of entry.object unit)) entry.object text
     → IsTextOf (TellsFound pack entry unit) entry.object text
 of_its_own pack entry unit bare is row text e h = grind (arith)
-
--- ---- executables
-
-pub broken : (executable : List ℕ) (a b : Progress) (result : Outcome) (told : List ℕ)
-    → ((text : List ℕ) × (told ≡ printed text))
-    → Tells (IsFault (of_executable (shown executable) told)) a b result
-    → Tells (IsBroken executable) a b result
-broken executable a b result told is =
-    tells_as a b result (λ faults e. (is.0, rw is.1 at e))
 
 -- ---- rows that no slot names
 
@@ -385,10 +375,6 @@ module _ (pack : Package) (entries : List UnitEntry) (listed : Listed) (any : Bo
       grind (arith)
 
 -- ---- units that are gone through
-
--- nothing was remembered
-pub stays_seen : (pack : Package) (seen : Seen) → IsSeen pack seen → GoesOn pack seen seen
-stays_seen pack seen is = record { seen = is; kept = λ range there. there }
 
 module _ (pack : Package) where
   -- what was made for a unit was told

@@ -191,7 +191,6 @@ fn tell_error<O: Write>(
 }
 
 /// Tells why an executable isn't read to its end.
-#[tactic(auto, using(crate::proofs::Told::broken))]
 fn tell_broken<O: Write>(
     executable: &str,
     cause: &str,

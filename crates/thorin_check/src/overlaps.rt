@@ -247,7 +247,6 @@ fn are_apart(ranges: &[Placed]) -> bool
 }
 
 /// Whether a range is the same as the one before and has its abbreviations, or begins behind it.
-#[tactic(auto, using(crate::proofs::Packages::one_range))]
 fn is_apart(last: Placed, range: Placed) -> bool
     ensures { result ≡ true → IsApart last range }
 {

@@ -35,7 +35,7 @@ pub(crate) struct Ends {
 
 impl Ends {
     /// Those of a package.
-    #[tactic(auto, using(crate::proofs::Packages::of_package, crate::proofs::Packages::reached, crate::proofs::Packages::unreached))]
+    #[tactic(auto, using(crate::proofs::Packages::reached, crate::proofs::Packages::unreached))]
     pub(crate) fn of(pack: &PackageFile<'_>) -> Ends
         ensures { HasEnds result pack.now.order (content pack.now.contents SectionKind.Str) }
     {
@@ -172,7 +172,6 @@ pub(crate) struct UnreadStrings {
 impl UnreadStrings {
     /// Adds a unit, unless it has the string offsets of the one before, or all its strings can be
     /// read; whether that is so isn't told where it would take too long.
-    #[tactic(auto, using(crate::proofs::Packages::none_added))]
     pub(crate) fn add(
         &mut self,
         unit: &PackagedUnit<'_>,

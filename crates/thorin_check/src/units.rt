@@ -35,7 +35,6 @@ struct Seen<'a> {
 
 /// Checks each unit that a slot names, then the strings of each range of string offsets. That
 /// ranges clash and nothing is told can't be; then this tells of want of memory.
-#[tactic(auto, using(crate::proofs::Packages::nothing_gathered))]
 pub(crate) fn check_units<O: Write>(
     indexed: IndexedPackage<'_, '_>,
     faults: &mut Faults,
@@ -73,7 +72,7 @@ pub(crate) fn check_units<O: Write>(
 }
 
 /// What is told of the unit that a slot names, if anything.
-#[tactic(auto, using(crate::proofs::Told::stays_seen), unfolding(crate::specs::Faults::TellsUnit))]
+#[tactic(auto, unfolding(crate::specs::Faults::TellsUnit))]
 fn text_of<'a>(
     pack: &PackageFile<'a>,
     entry: UnitEntry,
@@ -97,7 +96,7 @@ fn text_of<'a>(
 /// that of the slot's row, which is to have abbreviations where the package has some; none of its
 /// ranges is to clash with that of another, and its own identifier is to be that of the slot. Then
 /// the unit is gathered for the check of its strings.
-#[tactic(auto, using(crate::proofs::Told::of_its_own, crate::proofs::Told::stays_seen))]
+#[tactic(auto, using(crate::proofs::Told::of_its_own))]
 fn text_of_found<'a>(
     pack: &PackageFile<'a>,
     entry: UnitEntry,
