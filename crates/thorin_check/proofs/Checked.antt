@@ -2,6 +2,7 @@
 -- names, and what was checked.
 use Rattle.thorin_check.specs.Faults.{TellsLooked, TellsNamed, TellsNumbered, TellsOwn, TellsRowsOf}
 use Rattle.{dwp_base.specs.declared.section.SectionKind.SectionKind, thorin_check.specs.Ends.AllEnd}
+use Rattle.{std.proofs.KnownBytes.Appends-trans, thorin_print.specs.declared.output.Failure.Failure}
 use Rattle.std.proofs.Common.{get_or, inl, inr, length, List, None, Ok, OnOk, Option, refl, Result}
 use Rattle.std.proofs.lemmas.List.Sorted.{All-permutation, Contains-permutation, IsPermutation-sym}
 use Rattle.thorin_check.specs.Indexes.{column_faults, lacks_column, mixed_versions, section_faults}
@@ -12,7 +13,6 @@ use Rattle.thorin_check.specs.Faults.{longest_path, missing_faults, room_of, row
 use Rattle.thorin_check.specs.Faults.{strings_of, TellsEnd, TellsFound, TellsInRow, TellsListed}
 use Rattle.dwp_index.specs.declared.{error.PackageError.PackageError, units.UnitEntry.UnitEntry}
 use Rattle.dwp_table.specs.{Columns.contribution_kinds, declared.object.DwarfObject.DwarfObject}
-use Rattle.std.proofs.{KnownBytes.Appends-trans, KnownBytes.Keeps-refl, lemmas.Option.same_Some}
 use Rattle.thorin_check.specs.Checking.{Checks, ChecksBytes, ChecksIndexed, FailsOne, Finishes}
 use Rattle.std.proofs.lemmas.List.FromFn.{get_or-map-range_with_len, length-map-range_with_len}
 use Rattle.std.{proofs.lemmas.Bool.Decides.nat_tests, specs.declared.io.Error.Error as IoError}
@@ -22,22 +22,21 @@ use Rattle.thorin_check.specs.Sound.{AreNamed, Executables, HasUnitsOf, IsSound,
 use Rattle.thorin_check.specs.{declared.executables.Reading.Reading, Indexes.versions_faults}
 use Rattle.{thorin_check.specs.Strings.HasStringsOf, thorin_errors.specs.Answers.MemoryAside}
 use Rattle.std.proofs.lemmas.List.{length-map, nil_from_length, Sorted.length_permutation}
-use Rattle.thorin_print.{proofs.Printed.none_grown, specs.declared.output.Failure.Failure}
 use Rattle.thorin_check.specs.Faults.{is_bare, IsBroken, IsUnread, long_bytes, long_size}
+use Rattle.thorin_find.specs.{Finding.string_count, Finding.string_of, Listing.AreByRow}
 use Rattle.{dwp_index.specs.Index.Index, std.specs.List.All, std.specs.List.flat_map}
 use Rattle.thorin_check.proofs.Told.{counted_from, stopped_behind, then_or, told_as}
+use Rattle.{std.proofs.lemmas.Option.same_Some, thorin_errors.specs.Errors.error_of}
 use Rattle.thorin_check.specs.Checking.{TellsPackage, TellsSlot, TellsStringsOfAll}
 use Rattle.thorin_check.proofs.Packages.{lies_in, own_once, range_ends, unit_ends}
 use Rattle.thorin_errors.specs.declared.error.Error.{Error, TheVariants.Memory}
-use Rattle.thorin_find.specs.{Files.FailsToRead, Files.Offer, Listing.AreByRow}
-use Rattle.{thorin_check.specs.Own.own_of, thorin_errors.specs.Errors.error_of}
 use Rattle.thorin_check.specs.Faults.{TellsStrings, TellsStringsOf, TellsUnit}
 use Rattle.std.proofs.lemmas.List.Elements.{All-cons, All-contains, All-nil}
 use Rattle.thorin_print.specs.Answers.{Grows, IsOfPrinting, Outcome, Prints}
 use Rattle.dwp_index.specs.Package.{found, FoundUnit, Package, package_of}
 use Rattle.thorin_executable.specs.Skeletons.{Listed, Named, skeletons_by}
+use Rattle.{thorin_check.specs.Own.own_of, thorin_find.specs.Files.Offer}
 use Rattle.dwp_bytes.specs.StringOffsets.{entry_in, string_in}
-use Rattle.thorin_find.specs.Finding.{string_count, string_of}
 use Rattle.std.proofs.Common.{◌≡◌, ◌≢◌, ◌≤◌, ◌⊎◌}
 use Rattle.std.specs.Result.{result_err}
 use Rattle.dwp_base.specs.declared.section.SectionKind.TheVariants as kinds
@@ -361,10 +360,6 @@ module _ (offer : Offer) where
       → IsOfChecking offer executables failure
   of_printing executables failure h = grind (arith)
 
-  pub executable_unread : (path : List ℕ) (failure : Failure) (a : Option (List ℕ))
-      → FailsToRead offer path failure → IsOfReading offer path failure × Grows a a
-  executable_unread path failure a h = grind (arith, none_grown a)
-
   -- one of them is one of all
   fails_one : (es : List (Bor (List ℕ))) (i : ℕ) (d : Bor (List ℕ)) → i < length es
       → (cause : IoError) × offer (get_or es i d).now (Err cause) → FailsOne offer es
@@ -433,9 +428,3 @@ module _ (offer : Offer) (executables : Executables) where
       → Checks offer path executables a c result
   unfolding Checks
   file_read path bytes lent a c result read same h = inl (bytes, read, rw same at h)
-
-  -- it can't be read, or there is no memory
-  pub not_checked : (path : List ℕ) (a : Option (List ℕ)) (failure : Failure)
-      → FailsToRead offer path failure → Checks offer path executables a a (Err failure)
-  unfolding Checks
-  not_checked path a failure h = inr (h, Keeps-refl a)

@@ -320,40 +320,40 @@ same_offsets before range equal = grind (arith, nat_tests)
 -- ---- units that are gathered
 
 module _ (pack : Package) (old : UnreadStrings) (unit : FoundUnit) (object : DwarfObject)
-    (g : Gathers pack old) (is : found pack object ≡ Ok (Some unit)) where
-  module _ (range : StringRange) (has : Some range ≡ range_of unit) where
-    -- it has those of the unit before
-    pub last_added : old.last ≡ Some range → Adds pack old old unit
-    last_added last = grind (arith, g.last)
+    (g : Gathers pack old) (is : found pack object ≡ Ok (Some unit)) (range : StringRange)
+    (has : Some range ≡ range_of unit) where
+  -- it has those of the unit before
+  pub last_added : old.last ≡ Some range → Adds pack old old unit
+  last_added last = grind (arith, g.last)
 
-    -- it is gathered, and those before still are
-    pub gathered : (new : UnreadStrings) → new.ends ≡ old.ends → new.last ≡ Some range
-        → All (IsOfUnit pack) new.unread.items → ((other : StringRange)
-        → IsGathered pack old.unread.items other → IsGathered pack new.unread.items other)
-        → IsGathered pack new.unread.items range → Adds pack old new unit
-    gathered new ends last are kept here = record {
-      gathers = record {
-        ends = rw ends g.ends;
-        last = λ other e. rw (← same_Some range other (sym last ∙ e)) here;
-        are = are;
-      };
-      kept = kept;
-      added = λ other e. rw (← same_Some range other (has ∙ e)) here;
-    }
+  -- it is gathered, and those before still are
+  pub gathered : (new : UnreadStrings) → new.ends ≡ old.ends → new.last ≡ Some range
+      → All (IsOfUnit pack) new.unread.items → ((other : StringRange)
+      → IsGathered pack old.unread.items other → IsGathered pack new.unread.items other)
+      → IsGathered pack new.unread.items range → Adds pack old new unit
+  gathered new ends last are kept here = record {
+    gathers = record {
+      ends = rw ends g.ends;
+      last = λ other e. rw (← same_Some range other (sym last ∙ e)) here;
+      are = are;
+    };
+    kept = kept;
+    added = λ other e. rw (← same_Some range other (has ∙ e)) here;
+  }
 
-    -- it is listed
-    pub listed_added : (new : UnreadStrings) → new.ends ≡ old.ends
-        → new.unread.items ≡ old.unread.items ++ ((range, object) ∷ [])
-        → new.last ≡ Some range → Adds pack old new unit
-    listed_added new ends unread last =
-        let more = Contains-append_left old.unread.items ((range, object) ∷ []) in
-        gathered new ends last (rw unread (All-push (IsOfUnit pack) old.unread.items (range, object)
-        g.are (unit, is, sym has)))
-        (λ other there. elim there [
-          | inl all ↦ inl all
-          | inr listed ↦ inr (listed.0, rw unread (more (other, listed.0) listed.1))
-        ])
-        (inr (object, rw unread (Contains-push old.unread.items (range, object))))
+  -- it is listed
+  pub listed_added : (new : UnreadStrings) → new.ends ≡ old.ends
+      → new.unread.items ≡ old.unread.items ++ ((range, object) ∷ [])
+      → new.last ≡ Some range → Adds pack old new unit
+  listed_added new ends unread last =
+      let more = Contains-append_left old.unread.items ((range, object) ∷ []) in
+      gathered new ends last (rw unread (All-push (IsOfUnit pack) old.unread.items (range, object)
+      g.are (unit, is, sym has)))
+      (λ other there. elim there [
+        | inl all ↦ inl all
+        | inr listed ↦ inr (listed.0, rw unread (more (other, listed.0) listed.1))
+      ])
+      (inr (object, rw unread (Contains-push old.unread.items (range, object))))
 
 -- ---- units whose strings were checked
 

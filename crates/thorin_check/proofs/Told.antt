@@ -3,7 +3,6 @@
 use Rattle.std.proofs.lemmas.List.Elements.{All-append, All-contains, All-get_or, All-more, All-nil}
 use Rattle.std.proofs.Common.{get_or, Global, IfOk, inl, inr, length, List, map, min, nat_eq, None}
 use Rattle.std.proofs.Common.{take_all, true, [], ℕ, ◌&&◌, ◌++◌, ◌+◌, ◌-◌, ◌<◌, ◌^◌, ◌∙◌, ◌∷◌, ◌≡◌}
-use Rattle.thorin_check.specs.Faults.{row_fault, TellsFound, TellsOwn, TellsRowsOf, TellsStringsOf}
 use Rattle.std.proofs.lemmas.List.Elements.{All-push, Contains-append_left, Contains-append_right}
 use Rattle.thorin_check.{proofs.Packages.has_strings, specs.Texts.IsTextOf, specs.Texts.TellsText}
 use Rattle.thorin_check.specs.Telling.{counted_on, ForEach, InTurn, Is, IsFault, Progress, Tells}
@@ -14,19 +13,20 @@ use Rattle.dwp_index.specs.declared.{error.PackageError.PackageError, units.Unit
 use Rattle.dwp_table.specs.{Columns.contribution_kinds, declared.object.DwarfObject.DwarfObject}
 use Rattle.std.{proofs.Common.◌≢◌, proofs.Common.◌≤◌, proofs.Common.◌⊎◌, specs.Ordering.nat_cmp}
 use Rattle.std.specs.List.{All, AllPairs, Contains, Sorted.IsPermutation, Sorted.IsSortedByKey}
-use Rattle.thorin_check.specs.{Apart.AreApart, Faults.TellsUnit, Telling.TellsOr, Telling.Told}
 use Rattle.std.proofs.Common.{Ok, OnOk, Option, refl, Result, rules, Some, String, sym, take}
+use Rattle.thorin_check.specs.Faults.{ArePast, is_from, is_of, IsNamed, IsUnnamed, row_fault}
 use Rattle.thorin_check.specs.Checking.{TellsSlot, TellsSlots, TellsStringsOfAll, TellsUnits}
 use Rattle.std.proofs.lemmas.List.Sorted.{Contains-permutation, IsNonDecreasingBy-from_sort}
-use Rattle.thorin_check.specs.Faults.{ArePast, is_bare, is_from, is_of, IsNamed, IsUnnamed}
 use Rattle.thorin_check.specs.Gathered.{GoesOn, IsGathered, IsGatheredIn, IsOfUnit, Listed}
 use Rattle.thorin_check.specs.declared.{strings.StringRange.StringRange, units.Seen.Seen}
 use Rattle.std.proofs.lemmas.{Bool.Decides.nat_tests, List.Quantifiers.all_pairs_push}
 use Rattle.std.proofs.lemmas.{Bool.cases_lt, Grind.flat_map-append, Option.same_Some}
-use Rattle.thorin_check.specs.{Gathered.TellsListed, Gathered.TellsSeen, Own.own_of}
 use Rattle.thorin_print.specs.declared.{form.Form.Form, output.Failure.Failure}
+use Rattle.thorin_check.specs.Faults.{TellsRowsOf, TellsStringsOf, TellsUnit}
+use Rattle.thorin_check.specs.{Apart.AreApart, Telling.TellsOr, Telling.Told}
 use Rattle.{dwp_base.proofs.Bools.both, thorin_print.proofs.Printed.grown}
 use Rattle.thorin_check.specs.Rendering.{fault_text, FaultValue}
+use Rattle.thorin_check.specs.Gathered.{TellsListed, TellsSeen}
 use Rattle.dwp_index.specs.Package.{found, FoundUnit, Package}
 use Rattle.thorin_find.specs.Listing.{place_by, place_of_line}
 use Rattle.thorin_print.specs.Answers.{Grows, Outcome, Prints}
@@ -162,16 +162,6 @@ pub text_told : {E : Type 0} (P : List FaultValue → Type 0) (object : DwarfObj
     (text : Result (Option (String Global)) E) (a b : Progress) (result : Outcome)
     → IsTextOf P object text → TellsText object text a b result → Tells P a b result
 text_told P object text a b result is h = grind (arith)
-
--- ---- units
-
--- what its own identifier gives was made for a unit that is found in its row
-pub of_its_own : (pack : Package) (entry : UnitEntry) (unit : FoundUnit) (bare : Bool)
-    → bare ≡ is_bare pack unit → unit.number ≡ entry.row → {E : Type 0}
-    (text : Result (Option (String Global)) E) → bare ≡ false
-    → IsTextOf (TellsOwn entry.object (own_of entry.object unit)) entry.object text
-    → IsTextOf (TellsFound pack entry unit) entry.object text
-of_its_own pack entry unit bare is row text e h = grind (arith)
 
 -- ---- rows that no slot names
 

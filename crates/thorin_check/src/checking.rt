@@ -23,7 +23,7 @@ use thorin_print::{Failure, flush, print};
 /// are, in lines or as JSON objects. Answers the status, 1 where there are faults. Errors: `Input`
 /// where a file can't be read, `Malformed` where it is no package, `NoIndex` where it has no index,
 /// `Line` or `Memory`.
-#[tactic(auto, using(crate::proofs::Checked::not_checked))]
+#[tactic(auto, unfolding(crate::specs::Checking::Checks))]
 pub fn check_by<F: FileReader, O: Write>(
     alloc: Global,
     files: &F,

@@ -38,7 +38,7 @@ pub struct Reading {
 }
 
 /// Each split unit that an executable names is in the package, and it names one.
-#[tactic(auto, using(crate::proofs::Checked::executable_read, crate::proofs::Checked::executable_unread))]
+#[tactic(auto, using(thorin_print::proofs::Printed::none_grown))]
 pub(crate) fn check_executable<F: FileReader, O: Write>(
     files: &F,
     pack: &PackageFile<'_>,

@@ -96,7 +96,6 @@ fn text_of<'a>(
 /// that of the slot's row, which is to have abbreviations where the package has some; none of its
 /// ranges is to clash with that of another, and its own identifier is to be that of the slot. Then
 /// the unit is gathered for the check of its strings.
-#[tactic(auto, using(crate::proofs::Told::of_its_own))]
 fn text_of_found<'a>(
     pack: &PackageFile<'a>,
     entry: UnitEntry,
