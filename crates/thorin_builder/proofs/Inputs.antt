@@ -46,7 +46,7 @@ use Rattle.{thorin_errors.specs.declared.error.InputError.InputError, thorin_inp
 use Rattle.{thorin_executable.specs.Skeletons.Listed, thorin_input.specs.Encodings.own_encoding}
 use Rattle.dwp_table.specs.contracts.object.DwarfObjectPartialEq.TheImpl as derived
 
--- a name is among others, or is missing there
+-- a name is among others
 pub among_is : (a : DwarfObject) (names : List DwarfObject) → list_any (derived.eq-value.it a) names
     ≡ list_any (same_name a) names
 among_is a names = ap (λ f. list_any f names) (same_name-is a)

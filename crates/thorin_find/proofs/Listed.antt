@@ -24,12 +24,6 @@ pub all_waits : (old new : Option (List ℕ)) (text rest : List ℕ) → rest �
 all_waits old new text rest none h =
     record { front = text; split = rw none (sym (append-nil text)); printed = h }
 
--- it wasn't printed whole
-pub not_printed : (failure : Failure) (text : List ℕ) (old new : Option (List ℕ))
-    → Comes (Err failure) (record { printed = text; answer = Ok 0 }) old new
-    → Begins failure text old new
-not_printed failure text old new h = grind (arith)
-
 -- of what waits before the rest some was printed
 front_more : (old middle new : Option (List ℕ)) (all next still more : List ℕ)
     → PrintsFront old middle all (next ++ more) → PrintsFront middle new next still
@@ -141,12 +135,6 @@ listed_alone false form lines is_all e =
 
 module _ (form : ListForm) (is_all : Bool) (old new : List ℕ) (given : Result ℕ Failure)
     (answered : given ≡ answer_of is_all) where
-  -- columns
-  pub listed_columns : form.columns ≡ true
-      → IsListedIn form.columns form (record { printed = old; is_all = is_all })
-      (record { printed = new; answer = given })
-  listed_columns asked = rw asked answered
-
   -- nothing: a unit can't be looked up, or sizes aren't asked for
   pub listed_plain : new ≡ old
       → IsListedIn form.columns form (record { printed = old; is_all = is_all })

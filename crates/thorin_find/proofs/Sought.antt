@@ -1,21 +1,11 @@
 -- What words ask for, and what came of a command that reads a file.
-use Rattle.dwp_table.specs.declared.object.DwarfObject.{DwarfObject}
-use Rattle.std.proofs.Common.{ap, get_or, inr, Ok, ℕ, ◌≡◌, ◌≢◌}
-use Rattle.std.proofs.Common.{arith, codes, Err, inl, List, MatchResult, None, Option, refl, Result}
-use Rattle.std.specs.Str.{Parse.ParsesUnsigned, Pattern.FindsTextPrefix, Pattern.StripsPrefix}
+use Rattle.std.proofs.Common.{ap, arith, Err, get_or, List, MatchResult, Ok, Option, Result, ℕ, ◌≡◌}
+use Rattle.{dwp_table.specs.declared.object.DwarfObject.DwarfObject, std.proofs.Common.◌≢◌}
 use Rattle.std.{proofs.lemmas.Str.Parse.without_leading_plus_none, specs.Result.IsErrAnd}
-use Rattle.thorin_find.specs.Finding.{Asks, AsksFor, Finds, FindsAsked, HasDigits, IsNumber, Words}
+use Rattle.thorin_find.specs.Finding.{Asks, AsksFor, Finds, FindsAsked, IsNumber, Words}
 use Rattle.thorin_find.specs.{declared.finding.Wanted.Wanted, Files.Offer}
-use Rattle.{std.specs.Str.Parse.digits_value, thorin_print.specs.declared.output.Failure.Failure}
-
--- the digits behind `0x`
-pub digits_behind : (text digits : List ℕ) → StripsPrefix (FindsTextPrefix (codes "0x")) text digits
-    → HasDigits text digits
-digits_behind text digits h = inl (rw h.2 h.1.1)
-
--- the text is digits alone
-pub digits_alone : (text : List ℕ) → FindsTextPrefix (codes "0x") text None → HasDigits text text
-digits_alone text h = inr (h, refl)
+use Rattle.thorin_print.specs.declared.output.Failure.{Failure}
+use Rattle.std.specs.Str.Parse.{digits_value, ParsesUnsigned}
 
 -- what decimal digits are read as
 pub number_read : {E : Type 0} (text : List ℕ) (r : Result ℕ E) → get_or text 0 0 ≢ 43
@@ -28,6 +18,7 @@ pub exit_is : {T E : Type 0} {e : E} {r : Result T E} → IsErrAnd r (λ y. y �
 exit_is {r = Ok x} h = absurd h
 exit_is {r = Err y} h = ap Err h
 
+-- what words ask for, and what came of it
 pub found : (offer : Offer) (path : List ℕ) (words : Words) (a : Option (List ℕ))
     (asked : Result DwarfObject Failure) → Asks words.kind words.id asked
     → (wanted : Result Wanted Failure) → AsksFor words.string words.section wanted

@@ -171,7 +171,6 @@ fn wanted_of(string: Option<&str>, section: Option<&str>) -> Result<Wanted, Fail
 }
 
 /// The identifier that 1 to 16 hexadecimal digits write, with or without `0x` in front.
-#[tactic(auto, using(crate::proofs::Sought::digits_behind, crate::proofs::Sought::digits_alone))]
 fn identifier(text: &str) -> Result<u64, Failure>
     ensures { MatchResult result (Writes text.now)
         (λ failure. (failure ≡ failures.BadIdentifier) × WritesNone text.now) }

@@ -80,7 +80,7 @@ struct Listed<'m, 'a> {
 
 /// Adds what stands behind the lines: totals where sizes are asked for, or columns. Answers what is
 /// to be answered.
-#[tactic(auto, using(crate::proofs::Listed::listed_columns, crate::proofs::Listed::listed_plain, crate::proofs::Listed::listed_sized))]
+#[tactic(auto, using(crate::proofs::Listed::listed_plain, crate::proofs::Listed::listed_sized))]
 fn put_rest(
     listed: Listed<'_, '_>,
     is_all: bool,
@@ -142,7 +142,7 @@ fn print_lines<O: Write>(
 }
 
 /// Prints what waits in a text, where it is much: then nothing waits.
-#[tactic(auto, using(crate::proofs::Listed::all_waits, crate::proofs::Listed::none_waits, crate::proofs::Listed::not_printed))]
+#[tactic(auto, using(crate::proofs::Listed::all_waits, crate::proofs::Listed::none_waits))]
 fn print_much<O: Write>(waiting: &mut String, out: &mut O) -> Result<(), Failure>
     ensures whole { OnOk result (PrintsFront (O.contents out.old) (O.contents out.new)
         (string_bytes waiting.old) (string_bytes waiting.new)) }

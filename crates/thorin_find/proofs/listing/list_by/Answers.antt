@@ -1,11 +1,7 @@
-use Rattle.thorin_find.proofs.Listed.{begun_listing, file_read, not_listed, rest_begun}
-use Rattle.thorin_find.proofs.{Listed.whole_listing, Sought.exit_is}
-use Rattle.std.proofs.{Common.refl, KnownBytes.Appends-nil}
+use Rattle.thorin_find.proofs.Listed.{begun_listing, file_read, rest_begun, whole_listing}
+use Rattle.{std.proofs.KnownBytes.Appends-nil, thorin_find.proofs.Sought.exit_is}
+use Rattle.std.proofs.Common.{refl}
 use Rattle.thorin_find.proofs.listing.list_by.Goals as goal
-
-pub returns-in_err-bytes : goal.returns-in_err-bytes
-returns-in_err-bytes g c =
-    rw (exit_is c.from_residual.ensures.1) (not_listed _ _ _ _ _ c.in_err-bytes.ensures.refused)
 
 pub returns-in_default : goal.returns-in_default
 returns-in_default g c =
