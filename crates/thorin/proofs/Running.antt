@@ -1,38 +1,37 @@
 -- A run, one input after the other, what it accepted, and groups that are packed one by one.
 -- Joining in groups: joining what groups joined is joining all of them. And what packing in groups
 -- means: the join of all inputs at once.
-use Rattle.thorin_join.proofs.Terms as Joined
-use Joined.{ap, append-nil, append_assoc, arith, bind-was, Bool, can_join, Compilation, cond, drop}
-use Joined.{DwarfObject, elf_of, Err, ErrorValue, File, file_text, filter, filter-append, inl, inr}
-use Joined.{is_compilation, IsSoundBegun, joining, keys, KindsDiffer, length, length-append}
-use Joined.{length-map, List, list_any, lookup, map, map-append, Meaning, Members, nat_tests, None}
-use Joined.{Ok, Option, refl, Result, same-ok, same_name, Some, subst, sym, take, take-append-drop}
-use Joined.{true, TypeUnit, units_in, ℕ, [], ◌&&◌, ◌++◌, ◌+◌, ◌∙◌, ◌∷◌, ◌≡◌}
-use Rattle.thorin_errors.specs.declared.error.MissingReferencedObjectBehaviour.{MissingReferencedObjectBehaviour}
+use Joined.{ap, Ok, true, [], ℕ, ◌&&◌, ◌++◌, ◌+◌, ◌∙◌, ◌∷◌, ◌≡◌}
+use Joined.{append-nil, DwarfObject, ErrorValue, file_text, is_compilation, KindsDiffer, length-map}
+use Joined.{append_assoc, Compilation, filter-append, IsSoundBegun, length-append, take-append-drop}
+use Joined.{arith, Bool, elf_of, filter, length, lookup, map-append, Option, Result, same-ok, subst}
+use Joined.{bind-was, can_join, joining, list_any, Meaning, Members, nat_tests, same_name, TypeUnit}
+use Joined.{cond, drop, Err, File, inl, inr, keys, List, map, None, refl, Some, sym, take, units_in}
+use Rattle.std.proofs.Common.{flat_map, IsPermutation, map-id, rules, ◌==◌}
+use Rattle.std.proofs.Math.Seq.{drop-append_seam, take-append_seam}
 use Rattle.std.proofs.lemmas.Map.{Lookups.hash_map_IsPermutation_from_get, Made.keys_of-map_values}
-use Rattle.thorin_again.specs.Again.{all_meant, HaveEncodingOf, MeansOnceWritten, MeansWhereTaken}
-use Rattle.thorin_builder.specs.Taking.{TakesRead, TakesReferred, TakesSkeleton, TakesSkeletons}
+use Rattle.std.proofs.lemmas.{List.Sorted.IsPermutation-sym, Map.Keys.IsDistinct-from_apart}
+use Rattle.std.specs.List.{drop-map, IsDistinct, Sorted.apply_swaps, take-map}
+use Rattle.thorin.specs.Groups.{AreJoined, inputs_of, IsPackageOfAll, taken_each}
+use Rattle.thorin.specs.Groups.{ArePackedAlone, HaveTheirEncodings, IsPackedAlone, IsPackedInGroups}
 use Rattle.thorin.specs.{declared.packing.Input.Input, Run.IsWritten, Run.Ran, Run.TakesInput}
-use Rattle.thorin_errors.specs.declared.error.InputError.TheVariants.{Io, Memory as no_memory}
-use Rattle.thorin_builder.specs.Taking.{Came, came, Outcome, TakesBytes, TakesExecutableRead}
-use Rattle.std.proofs.lemmas.List.{Folds.list_any-append, Sorted.IsPermutation-sym}
-use Rattle.thorin.specs.Groups.{IsPackageOfAll, IsPackedAlone, IsPackedInGroups, taken_each}
-use Rattle.{dwp_base.proofs.Bools.both as both-true, thorin_join.proofs.Joined.input-keeps}
-use Rattle.std.proofs.Math.{Seq.drop-append_seam, Seq.take-append_seam}
-use Rattle.thorin.specs.Groups.{AreJoined, ArePackedAlone, HaveTheirEncodings, inputs_of}
+use Rattle.thorin_again.proofs.Accepted.{count-again, equivalence, found-again}
+use Rattle.thorin_again.specs.Again.{all_meant, HaveEncodingOf, MeansOnceWritten, MeansWhereTaken}
+use Rattle.thorin_builder.specs.Taking.{Came, Outcome, TakesRead, TakesSkeleton, TakesSkeletons}
+use Rattle.thorin_builder.specs.Taking.{TakesBytes, TakesExecutableRead, TakesReferred, with_target}
+use Rattle.thorin_errors.specs.declared.error.MissingReferencedObjectBehaviour.{MissingReferencedObjectBehaviour}
+use Rattle.thorin_executable.specs.Skeletons.{Listed, named_skeletons_of, skeletons_of}
 use Rattle.thorin_join.proofs.Units.{apart-none, joined_distinct, same_name-true}
 use Rattle.thorin_join.specs.Builder.{finish_test, IsFinishedState, start, State, taken}
-use Rattle.thorin_executable.specs.Skeletons.{Listed, named_skeletons_of, skeletons_of}
-use Rattle.std.{proofs.lemmas.Map.Keys.IsDistinct-from_apart, specs.Option.option_or}
 use Rattle.thorin_join.specs.{Join.IsPackageOf, Join.JoinAll, Meaning.input_meaning}
-use Rattle.std.proofs.Common.{flat_map, IsPermutation, map-id, rules, ◌==◌}
-use Rattle.thorin_again.proofs.Accepted.{count-again, equivalence, found-again}
-use Rattle.std.specs.List.{drop-map, IsDistinct, Sorted.apply_swaps, take-map}
-use Rattle.{dwp_elf.specs.Written.written_elf, indexmap.proofs.ReorderLemmas.map-swap}
-use Rattle.indexmap.specs.Layout.{hash_map}
-use Rattle.thorin_again.{proofs.Lists.begun-now, specs.PlainInputs.AreTaken}
-use Rattle.thorin_builder.{proofs.Inputs.Offer, specs.Taking.with_target}
-use Rattle.thorin_errors.specs.declared.error.InputError.{InputError}
+use Rattle.{dwp_elf.specs.Written.written_elf, thorin_builder.proofs.Inputs.Offer}
+use Rattle.{indexmap.proofs.ReorderLemmas.map-swap, thorin_again.proofs.Lists.begun-now}
+use Rattle.{indexmap.specs.Layout.hash_map, thorin_builder.specs.Taking.came}
+use Rattle.{std.proofs.lemmas.List.Folds.list_any-append, thorin_again.specs.PlainInputs.AreTaken}
+use Rattle.{std.specs.Option.option_or, thorin_errors.specs.declared.error.InputError.InputError}
+use Rattle.thorin_join.proofs.Terms as Joined
+use Rattle.thorin_errors.specs.declared.error.InputError.TheVariants.{Io, Memory as no_memory}
+use Rattle.{dwp_base.proofs.Bools.both as both-true, thorin_join.proofs.Joined.input-keeps}
 use Rattle.thorin.specs.declared.packing.Input.TheVariants as inputs
 
 -- a run goes on with one more input

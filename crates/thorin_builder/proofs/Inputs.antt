@@ -2,48 +2,47 @@
 -- other, by what `==` of names says of a name that is among others, and a package loses nothing of
 -- what it had. What an input adds that adds no unit, however often it is taken, is the same over
 -- more strings, and beside more units.
-use Rattle.thorin_join.proofs.Terms as Joined
-use Joined.{Adding, filter, first, Joins, kept_bytes, lookup, map-append, remapped, units_in, ◌>>=◌}
-use Joined.{Contents, Encoding, InProgress, is_some, list_any, Meaning, name_for, NewUnit, parts_of}
+use Joined.{Adding, filter, first, Joins, kept_bytes, map-append, remapped, Source, units_in, ◌>>=◌}
 use Joined.{IndexEntry, new_units, none-some, ReadError, rewritten, same_name, with_part, with_unit}
-use Joined.{append-nil, entry_count, ErrorValue, slice_range, take-length, units_begun, with_string}
+use Joined.{append-nil, Contents, Encoding, is_some, list_any, Meaning, name_for, NewUnit, parts_of}
 use Joined.{append_assoc, Contribution, DwarfObject, packaged_offsets, with_each_part, with_offsets}
-use Joined.{keys, New, Source, Str, Used, with_input}
+use Joined.{entry_count, ErrorValue, InProgress, slice_range, take-length, units_begun, with_string}
+use Joined.{keys, lookup, New, Str, Used, with_input}
 use Rattle.dwp_elf.specs.Growing.{Begins, IsGrown}
 use Rattle.dwp_strings.proofs.Named.{there_later, there_once_used}
 use Rattle.dwp_table.specs.declared.object.DebugTypeSignature.{DebugTypeSignature}
-use Rattle.std.proofs.Common.{Bool, cond, drop, false, find, List, None, OnOk, rules, String, subst}
-use Rattle.std.proofs.Common.{Err, inl, inr, map, refl, Some, suc, sym, take, take-take, zero, ◌++◌}
-use Rattle.std.proofs.Common.{[], ap, Ok, ℕ, ◌+◌, ◌∙◌, ◌∷◌, ◌≡◌, ◌≢◌, ◌⊎◌}
-use Rattle.std.proofs.Common.{add-one, arith, Global, le-ltb, length, length-append, Option, Result}
+use Rattle.std.proofs.Common.{Bool, cond, drop, false, length, List, None, OnOk, rules, Some, subst}
+use Rattle.std.proofs.Common.{Err, find, inl, inr, map, refl, suc, sym, take, take-take, zero, ◌++◌}
+use Rattle.std.proofs.Common.{add-one, arith, Global, le-ltb, length-append, Option, Result, String}
+use Rattle.std.proofs.Common.{ap, Ok, [], ℕ, ◌+◌, ◌∙◌, ◌∷◌, ◌≡◌, ◌≢◌, ◌⊎◌}
 use Rattle.std.proofs.Common.{bytes_eq, length-take, slice_get, string_bytes, string_eq, true≢false}
 use Rattle.std.proofs.{lemmas.Bool.cond-true, Math.Seq.take-append-add, Math.Seq.take-append_seam}
 use Rattle.thorin_builder.specs.Reading.{error_in, input_error_in, OnDeclined, outcome_of, unread}
 use Rattle.thorin_builder.specs.Repeated.{AddsAgain, AddsAgainTo, AreTaken, ExtendsBegun, Remembers}
 use Rattle.thorin_builder.specs.Repeated.{IsLater, IsLaterBegun, IsTaken, with_more}
-use Rattle.thorin_builder.specs.StateView.{begun_of, in_progress_of}
 use Rattle.thorin_builder.specs.Taking.{TakesExecutableBy, TakesFile, TakesSkeleton, TakesSkeletons}
 use Rattle.thorin_builder.specs.Taking.{came, Manner, MayRead, Outcome, TakesNamed, with_target}
 use Rattle.thorin_builder.specs.declared.in_progress.InProgressDwarfPackage.{InProgressDwarfPackage}
-use Rattle.thorin_builder.specs.declared.repeated.UnitlessInput.{UnitlessInput}
-use Rattle.thorin_errors.specs.Errors.{error_of, Memory}
+use Rattle.thorin_builder.specs.{declared.reader.NotTaken.NotTaken, Reading.DeclinesNamed}
+use Rattle.thorin_builder.specs.{declared.repeated.UnitlessInput.UnitlessInput, StateView.begun_of}
 use Rattle.thorin_errors.specs.declared.error.MissingReferencedObjectBehaviour.{MissingReferencedObjectBehaviour}
+use Rattle.thorin_errors.specs.declared.error.{Error.Error, InputError.InputError}
+use Rattle.thorin_errors.specs.{Answers.MemoryAside, Errors.error_of, Errors.Memory}
 use Rattle.thorin_input.specs.NewUnits.{SeenSections, with_each_read, with_section, with_section_at}
 use Rattle.thorin_input.specs.NewUnits.{none_met, once_test, or_held, with_each_section, with_first}
+use Rattle.thorin_input.{proofs.NewUnitLemmas.same_name-is, specs.Encodings.own_encoding}
 use Rattle.thorin_join.specs.Builder.{names_in, own_after, State, taken}
 use Rattle.thorin_join.{proofs.Units.keys-units, specs.State.Extends, specs.State.held_units}
 use Rattle.thorin_package_input.specs.PackagedOffsets.{offset_ranges, rewritten_from}
 use Rattle.thorin_strings.specs.StringOffsets.{remapped_entries, remapped_entry}
+use Rattle.{std.proofs.lemmas.Grind.length_at_push, thorin_errors.specs.Inputs.input_error}
+use Rattle.{std.proofs.lemmas.Simd.map-map, thorin_input.specs.NewUnits.with_read}
+use Rattle.{std.proofs.lemmas.Slice.Eq.bytes_eq-Decides, thorin_executable.specs.Skeletons.Listed}
+use Rattle.{thorin_builder.specs.StateView.in_progress_of, thorin_input.specs.View.part}
+use Rattle.thorin_join.proofs.Terms as Joined
 use Rattle.{dwp_elf.specs.FileText.Object as File, indexmap.specs.IndexMap.insert_entry}
 use Rattle.{dwp_strings.specs.Strings.offset_of, dwp_units.specs.Units.Unit as Header}
-use Rattle.{std.proofs.lemmas.Grind.length_at_push, thorin_errors.specs.declared.error.Error.Error}
-use Rattle.{std.proofs.lemmas.Simd.map-map, thorin_builder.specs.declared.reader.NotTaken.NotTaken}
-use Rattle.{std.proofs.lemmas.Slice.Eq.bytes_eq-Decides, thorin_builder.specs.Reading.DeclinesNamed}
 use Rattle.{std.specs.declared.io.Error.Error as IoError, thorin_strings.proofs.Remapping.kept_more}
-use Rattle.{thorin_errors.specs.Answers.MemoryAside, thorin_input.proofs.NewUnitLemmas.same_name-is}
-use Rattle.{thorin_errors.specs.Inputs.input_error, thorin_input.specs.NewUnits.with_read}
-use Rattle.{thorin_errors.specs.declared.error.InputError.InputError, thorin_input.specs.View.part}
-use Rattle.{thorin_executable.specs.Skeletons.Listed, thorin_input.specs.Encodings.own_encoding}
 use Rattle.dwp_table.specs.contracts.object.DwarfObjectPartialEq.TheImpl as derived
 
 -- a name is among others

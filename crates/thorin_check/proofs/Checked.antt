@@ -1,44 +1,41 @@
 -- Where no fault was told, the package is sound. And what was told of the units that an executable
 -- names, and what was checked.
-use Rattle.thorin_check.specs.Faults.{TellsLooked, TellsNamed, TellsNumbered, TellsOwn, TellsRowsOf}
-use Rattle.{dwp_base.specs.declared.section.SectionKind.SectionKind, thorin_check.specs.Ends.AllEnd}
-use Rattle.{std.proofs.KnownBytes.Appends-trans, thorin_print.specs.declared.output.Failure.Failure}
-use Rattle.std.proofs.Common.{get_or, inl, inr, length, List, None, Ok, OnOk, Option, refl, Result}
-use Rattle.std.proofs.lemmas.List.Sorted.{All-permutation, Contains-permutation, IsPermutation-sym}
-use Rattle.thorin_check.specs.Indexes.{column_faults, lacks_column, mixed_versions, section_faults}
-use Rattle.thorin_check.specs.Telling.{fault_count, ForEach, InTurn, Is, Progress, Tells, TellsOr}
-use Rattle.std.proofs.Common.{Some, subst, suc, sym, true, zero, [], ℕ, ◌++◌, ◌+◌, ◌<◌, ◌∙◌, ◌∷◌}
-use Rattle.std.proofs.Common.{ap, append-nil, append_assoc, arith, Bool, Bor, codes, Err, false}
-use Rattle.thorin_check.specs.Faults.{longest_path, missing_faults, room_of, row_end, row_fault}
-use Rattle.thorin_check.specs.Faults.{strings_of, TellsEnd, TellsFound, TellsInRow, TellsListed}
-use Rattle.dwp_index.specs.declared.{error.PackageError.PackageError, units.UnitEntry.UnitEntry}
-use Rattle.dwp_table.specs.{Columns.contribution_kinds, declared.object.DwarfObject.DwarfObject}
-use Rattle.thorin_check.specs.Checking.{Checks, ChecksBytes, ChecksIndexed, FailsOne, Finishes}
-use Rattle.std.proofs.lemmas.List.FromFn.{get_or-map-range_with_len, length-map-range_with_len}
-use Rattle.std.{proofs.lemmas.Bool.Decides.nat_tests, specs.declared.io.Error.Error as IoError}
-use Rattle.thorin_check.specs.{Rendering.FaultValue, Sound.NameOnce, Sound.slots, Telling.Told}
-use Rattle.thorin_check.specs.Checking.{IsOfChecking, IsOfReading, status_of, TellsExecutable}
-use Rattle.thorin_check.specs.Sound.{AreNamed, Executables, HasUnitsOf, IsSound, IsSoundUnit}
-use Rattle.thorin_check.specs.{declared.executables.Reading.Reading, Indexes.versions_faults}
-use Rattle.{thorin_check.specs.Strings.HasStringsOf, thorin_errors.specs.Answers.MemoryAside}
-use Rattle.std.proofs.lemmas.List.{length-map, nil_from_length, Sorted.length_permutation}
-use Rattle.thorin_check.specs.Faults.{is_bare, IsBroken, IsUnread, long_bytes, long_size}
-use Rattle.thorin_find.specs.{Finding.string_count, Finding.string_of, Listing.AreByRow}
-use Rattle.{dwp_index.specs.Index.Index, std.specs.List.All, std.specs.List.flat_map}
-use Rattle.thorin_check.proofs.Told.{counted_from, stopped_behind, then_or, told_as}
-use Rattle.{std.proofs.lemmas.Option.same_Some, thorin_errors.specs.Errors.error_of}
-use Rattle.thorin_check.specs.Checking.{TellsPackage, TellsSlot, TellsStringsOfAll}
-use Rattle.thorin_check.proofs.Packages.{lies_in, own_once, range_ends, unit_ends}
-use Rattle.thorin_errors.specs.declared.error.Error.{Error, TheVariants.Memory}
-use Rattle.thorin_check.specs.Faults.{TellsStrings, TellsStringsOf, TellsUnit}
-use Rattle.std.proofs.lemmas.List.Elements.{All-cons, All-contains, All-nil}
-use Rattle.thorin_print.specs.Answers.{Grows, IsOfPrinting, Outcome, Prints}
-use Rattle.dwp_index.specs.Package.{found, FoundUnit, Package, package_of}
-use Rattle.thorin_executable.specs.Skeletons.{Listed, Named, skeletons_by}
-use Rattle.{thorin_check.specs.Own.own_of, thorin_find.specs.Files.Offer}
 use Rattle.dwp_bytes.specs.StringOffsets.{entry_in, string_in}
-use Rattle.std.proofs.Common.{◌≡◌, ◌≢◌, ◌≤◌, ◌⊎◌}
-use Rattle.std.specs.Result.{result_err}
+use Rattle.dwp_index.specs.Package.{found, FoundUnit, Package, package_of}
+use Rattle.dwp_index.specs.declared.{error.PackageError.PackageError, units.UnitEntry.UnitEntry}
+use Rattle.std.proofs.Common.{Bool, Err, false, inl, length, suc, sym, zero, [], ◌+◌, ◌≢◌, ◌≤◌, ◌⊎◌}
+use Rattle.std.proofs.Common.{ap, Bor, codes, inr, Option, refl, Result, Some, subst, ◌∙◌, ◌∷◌, ◌≡◌}
+use Rattle.std.proofs.Common.{append-nil, append_assoc, arith, get_or, List, Ok, OnOk, ℕ, ◌++◌, ◌<◌}
+use Rattle.std.proofs.lemmas.List.Elements.{All-cons, All-contains, All-nil}
+use Rattle.std.proofs.lemmas.List.FromFn.{get_or-map-range_with_len, length-map-range_with_len}
+use Rattle.std.proofs.lemmas.List.Sorted.{All-permutation, Contains-permutation, length_permutation}
+use Rattle.std.proofs.lemmas.List.{length-map, nil_from_length, Sorted.IsPermutation-sym}
+use Rattle.std.proofs.{Common.None, Common.true, KnownBytes.Appends-trans, lemmas.Option.same_Some}
+use Rattle.thorin_check.proofs.Packages.{lies_in, own_once, range_ends, unit_ends}
+use Rattle.thorin_check.proofs.Told.{counted_from, stopped_behind, then_or, told_as}
+use Rattle.thorin_check.specs.Checking.{Checks, ChecksIndexed, FailsOne, status_of, TellsExecutable}
+use Rattle.thorin_check.specs.Checking.{ChecksBytes, Finishes, IsOfChecking, IsOfReading, TellsSlot}
+use Rattle.thorin_check.specs.Checking.{TellsPackage, TellsStringsOfAll}
+use Rattle.thorin_check.specs.Faults.{IsBroken, room_of, row_fault, strings_of, TellsOwn, TellsUnit}
+use Rattle.thorin_check.specs.Faults.{is_bare, IsUnread, longest_path, TellsStrings, TellsStringsOf}
+use Rattle.thorin_check.specs.Faults.{long_bytes, TellsFound, TellsInRow, TellsNamed, TellsNumbered}
+use Rattle.thorin_check.specs.Faults.{long_size, missing_faults, TellsEnd, TellsListed, TellsRowsOf}
+use Rattle.thorin_check.specs.Indexes.{column_faults, lacks_column, section_faults, versions_faults}
+use Rattle.thorin_check.specs.Sound.{Executables, HasUnitsOf, IsSound, IsSoundUnit, NameOnce, slots}
+use Rattle.thorin_check.specs.Telling.{fault_count, ForEach, InTurn, Progress, Tells, TellsOr, Told}
+use Rattle.thorin_check.specs.{Ends.AllEnd, Faults.row_end, Faults.TellsLooked, Sound.AreNamed}
+use Rattle.thorin_check.specs.{Indexes.mixed_versions, Own.own_of, Rendering.FaultValue, Telling.Is}
+use Rattle.thorin_check.specs.{declared.executables.Reading.Reading, Strings.HasStringsOf}
+use Rattle.thorin_errors.specs.{Answers.MemoryAside, declared.error.Error.Error}
+use Rattle.thorin_errors.specs.{declared.error.Error.TheVariants.Memory, Errors.error_of}
+use Rattle.thorin_executable.specs.Skeletons.{Listed, Named, skeletons_by}
+use Rattle.thorin_find.specs.{Files.Offer, Finding.string_count, Finding.string_of}
+use Rattle.thorin_print.specs.Answers.{Grows, IsOfPrinting, Outcome, Prints}
+use Rattle.{dwp_base.specs.declared.section.SectionKind.SectionKind, std.specs.Result.result_err}
+use Rattle.{dwp_index.specs.Index.Index, dwp_table.specs.declared.object.DwarfObject.DwarfObject}
+use Rattle.{dwp_table.specs.Columns.contribution_kinds, std.specs.List.All, std.specs.List.flat_map}
+use Rattle.{thorin_find.specs.Listing.AreByRow, thorin_print.specs.declared.output.Failure.Failure}
+use Rattle.std.{proofs.lemmas.Bool.Decides.nat_tests, specs.declared.io.Error.Error as IoError}
 use Rattle.dwp_base.specs.declared.section.SectionKind.TheVariants as kinds
 
 -- ---- no faults

@@ -2,44 +2,42 @@
 -- are read alike; the unit that a look-up finds is that of a row, whose ranges lie inside their
 -- sections; the identifiers that units' own bytes give; which strings end, as the last zero byte of
 -- all tells, and the strings of units, by the string offsets that they share.
-use Rattle.thorin_check.specs.Gathered.{Adds, AllEndIn, Gathered, Gathers, IsGathered, IsGatheredIn}
-use Rattle.thorin_check.specs.Strings.{HasStringsIn, HasStringsOf, IsRangeOfOne, range_by, range_of}
-use Rattle.thorin_check.specs.declared.{overlaps.Placed.Placed, strings.UnreadStrings.UnreadStrings}
-use Rattle.{dwp_base.specs.declared.endian.Endianness.Endianness, thorin_find.specs.Names.header_in}
-use Rattle.{dwp_bytes.specs.Input.section, dwp_table.specs.declared.object.DwarfObject.DwarfObject}
-use Rattle.std.proofs.Common.{Option, option_map, refl, Result, Some, suc, sym, true, zero, [], ℕ}
-use Rattle.dwp_index.specs.Package.{is_outside, kind_of, lies_inside, Package, part_of, place_of}
-use Rattle.std.proofs.Common.{get_or-drop, inl, inr, IsTrue, length, length-drop, List, None, Ok}
-use Rattle.thorin_check.specs.{declared.abbreviations.UnitPlace.UnitPlace, Remembered.section_by}
-use Rattle.std.proofs.lemmas.{List.Folds.list_any_at, List.Folds.list_any_none, Option.same_Some}
-use Rattle.{dwp_bytes.specs.declared.encoding.Encoding.Encoding, std.proofs.lemmas.Bool.cases_lt}
-use Rattle.dwp_index.specs.declared.{error.PackageError.PackageError, units.UnitEntry.UnitEntry}
-use Rattle.dwp_base.specs.declared.section.{Contribution.Contribution, SectionKind.SectionKind}
-use Rattle.dwp_index.specs.Package.{first_outside, found, found_counted, FoundUnit, index_for}
-use Rattle.thorin_check.specs.Remembered.{bytes_at, is_in_types, numbers_of, own_at, place_in}
 use Rattle.dwp_base.proofs.{Bools.by-bool, EveryKind.each, EveryKind.HoldsAll, Steps.same-ok}
 use Rattle.dwp_base.specs.declared.section.SectionKind.TheVariants.{Abbrev, Str, StrOffsets}
-use Rattle.std.proofs.lemmas.List.Elements.{All-push, Contains-append_left, Contains-push}
-use Rattle.{std.proofs.lemmas.Bool.Decides.nat_tests, thorin_find.specs.Finding.string_of}
-use Rattle.thorin_check.specs.Apart.{AreApartIn, HasRange, HasRanges, IsApart, tables_by}
-use Rattle.std.proofs.Common.{add-one, arith, Bool, drop, eqb, Err, false, find, get_or}
-use Rattle.thorin_check.specs.Overlaps.{has_units, overlap, range_by_index, slot_range}
-use Rattle.std.proofs.lemmas.List.{drop-take, get_or_default, Sorted.all_adjacent_more}
+use Rattle.dwp_base.specs.declared.{endian.Endianness.Endianness, section.Contribution.Contribution}
 use Rattle.dwp_bytes.specs.StringOffsets.{entry_count, entry_in, string_at, string_in}
-use Rattle.thorin_check.specs.declared.strings.{Ends.Ends, StringRange.StringRange}
+use Rattle.dwp_bytes.specs.{declared.encoding.Encoding.Encoding, Input.section}
 use Rattle.dwp_index.specs.Index.{column_place, Index, range_in, Ranges, row_in}
-use Rattle.std.specs.List.{All, AllAdjacentBelow, AllPairs, Contains, list_any}
-use Rattle.std.proofs.Common.{◌++◌, ◌+◌, ◌-◌, ◌<◌, ◌∙◌, ◌∷◌, ◌≡◌, ◌≤◌, ◌⊎◌}
-use Rattle.thorin_check.specs.Gathered.{IsOfUnit, Listed, Lists, string_by}
-use Rattle.thorin_check.specs.Ends.{AllEnd, HasEnds, is_inside, IsReach}
-use Rattle.dwp_index.specs.Package.{row_bytes, unit_at_row, unit_in}
-use Rattle.thorin_check.specs.{Faults.is_of, Own.own_by, Own.own_of}
-use Rattle.memchr.specs.Find.{is_byte, IsLastByte, Nowhere, Passes}
+use Rattle.dwp_index.specs.Package.{FoundUnit, is_outside, lies_inside, part_of, row_bytes, unit_in}
+use Rattle.dwp_index.specs.Package.{first_outside, found, found_counted, kind_of, Package, place_of}
+use Rattle.dwp_index.specs.{Contents.content, Contents.Sections, declared.units.UnitEntry.UnitEntry}
+use Rattle.dwp_index.specs.{Finding.own_bytes, Package.index_for, Package.unit_at_row}
+use Rattle.dwp_index.specs.{declared.error.PackageError.PackageError, Finding.LiesInside}
 use Rattle.dwp_table.specs.Columns.{column_of, contribution_kinds}
-use Rattle.dwp_index.specs.Finding.{LiesInside, own_bytes}
-use Rattle.std.specs.{Option.option_eq, Result.result_err}
+use Rattle.memchr.specs.Find.{is_byte, IsLastByte, Nowhere, Passes}
+use Rattle.std.proofs.Common.{None, Ok, ℕ, ◌++◌, ◌-◌, ◌∙◌}
+use Rattle.std.proofs.Common.{add-one, Bool, inl, IsTrue, List, option_map, refl, Result, sym, true}
+use Rattle.std.proofs.Common.{arith, drop, find, length, length-drop, suc, zero, ◌+◌, ◌<◌, ◌≡◌, ◌⊎◌}
+use Rattle.std.proofs.Common.{eqb, Err, false, get_or, get_or-drop, inr, Option, Some, [], ◌∷◌, ◌≤◌}
+use Rattle.std.proofs.lemmas.List.Elements.{All-push, Contains-append_left, Contains-push}
+use Rattle.std.proofs.lemmas.List.{Folds.list_any_at, Folds.list_any_none, Sorted.all_adjacent_more}
+use Rattle.std.proofs.lemmas.{Bool.cases_lt, List.drop-take, List.get_or_default, Option.same_Some}
+use Rattle.std.specs.List.{All, AllAdjacentBelow, AllPairs, Contains, list_any}
+use Rattle.thorin_check.specs.Apart.{AreApartIn, HasRange, HasRanges, IsApart, tables_by}
+use Rattle.thorin_check.specs.Gathered.{Adds, Gathers, IsGatheredIn, Lists}
+use Rattle.thorin_check.specs.Gathered.{AllEndIn, Gathered, IsGathered, IsOfUnit, Listed, string_by}
+use Rattle.thorin_check.specs.Overlaps.{has_units, overlap, range_by_index, slot_range}
+use Rattle.thorin_check.specs.Remembered.{bytes_at, is_in_types, numbers_of, place_in, section_by}
+use Rattle.thorin_check.specs.Strings.{HasStringsIn, HasStringsOf, IsRangeOfOne, range_by, range_of}
+use Rattle.thorin_check.specs.declared.strings.{Ends.Ends, StringRange.StringRange}
+use Rattle.thorin_check.specs.{Ends.AllEnd, Ends.HasEnds, Ends.is_inside, Ends.IsReach, Own.own_of}
+use Rattle.thorin_check.specs.{declared.abbreviations.UnitPlace.UnitPlace, Faults.is_of, Own.own_by}
+use Rattle.thorin_check.specs.{declared.strings.UnreadStrings.UnreadStrings, Remembered.own_at}
+use Rattle.{dwp_base.specs.declared.section.SectionKind.SectionKind, std.specs.Result.result_err}
+use Rattle.{dwp_table.specs.declared.object.DwarfObject.DwarfObject, std.specs.Option.option_eq}
+use Rattle.{std.proofs.lemmas.Bool.Decides.nat_tests, thorin_find.specs.Names.header_in}
+use Rattle.{thorin_check.specs.declared.overlaps.Placed.Placed, thorin_find.specs.Finding.string_of}
 use Rattle.dwp_units.specs.Units.{Unit as Header, units}
-use Rattle.dwp_index.specs.Contents.{content, Sections}
 use Rattle.dwp_base.specs.declared.section.SectionKind.TheVariants as kinds
 use Rattle.thorin_check.specs.contracts.abbreviations.UnitPlacePartialEq.TheImpl as places
 use Rattle.thorin_check.specs.contracts.strings.StringRangePartialEq.TheImpl as string_ranges

@@ -1,37 +1,35 @@
 -- Faults that were told: of rows that no slot names, and of units, one of each range of string
 -- offsets.
-use Rattle.std.proofs.lemmas.List.Elements.{All-append, All-contains, All-get_or, All-more, All-nil}
-use Rattle.std.proofs.Common.{get_or, Global, IfOk, inl, inr, length, List, map, min, nat_eq, None}
-use Rattle.std.proofs.Common.{take_all, true, [], ℕ, ◌&&◌, ◌++◌, ◌+◌, ◌-◌, ◌<◌, ◌^◌, ◌∙◌, ◌∷◌, ◌≡◌}
-use Rattle.std.proofs.lemmas.List.Elements.{All-push, Contains-append_left, Contains-append_right}
-use Rattle.thorin_check.{proofs.Packages.has_strings, specs.Texts.IsTextOf, specs.Texts.TellsText}
-use Rattle.thorin_check.specs.Telling.{counted_on, ForEach, InTurn, Is, IsFault, Progress, Tells}
-use Rattle.std.proofs.lemmas.List.{Elements.Contains-push, get_or_default, map-append, take_more}
-use Rattle.std.proofs.Common.{ap, append-nil, append_assoc, arith, below_more, Bool, Err, false}
-use Rattle.thorin_check.specs.Strings.{HasOffsets, IsBehind, IsRangeOfOne, number_of, ShareNone}
+use Rattle.dwp_index.specs.Package.{found, FoundUnit, Package}
 use Rattle.dwp_index.specs.declared.{error.PackageError.PackageError, units.UnitEntry.UnitEntry}
 use Rattle.dwp_table.specs.{Columns.contribution_kinds, declared.object.DwarfObject.DwarfObject}
-use Rattle.std.{proofs.Common.◌≢◌, proofs.Common.◌≤◌, proofs.Common.◌⊎◌, specs.Ordering.nat_cmp}
-use Rattle.std.specs.List.{All, AllPairs, Contains, Sorted.IsPermutation, Sorted.IsSortedByKey}
-use Rattle.std.proofs.Common.{Ok, OnOk, Option, refl, Result, rules, Some, String, sym, take}
-use Rattle.thorin_check.specs.Faults.{ArePast, is_from, is_of, IsNamed, IsUnnamed, row_fault}
-use Rattle.thorin_check.specs.Checking.{TellsSlot, TellsSlots, TellsStringsOfAll, TellsUnits}
+use Rattle.std.proofs.Common.{Bool, false, get_or, IfOk, length, List, nat_eq, None, Result, String}
+use Rattle.std.proofs.Common.{Err, inl, inr, map, min, OnOk, refl, Some, sym, take, true, ◌&&◌, ◌+◌}
+use Rattle.std.proofs.Common.{ap, Ok, rules, [], ◌++◌, ◌-◌, ◌<◌, ◌^◌, ◌∙◌, ◌∷◌, ◌≡◌, ◌≢◌, ◌≤◌, ◌⊎◌}
+use Rattle.std.proofs.Common.{append-nil, append_assoc, arith, below_more, Global, Option, take_all}
+use Rattle.std.proofs.lemmas.List.Elements.{All-append, Contains-append_left, Contains-append_right}
+use Rattle.std.proofs.lemmas.List.Elements.{All-get_or, All-more, All-nil, All-push, Contains-push}
 use Rattle.std.proofs.lemmas.List.Sorted.{Contains-permutation, IsNonDecreasingBy-from_sort}
-use Rattle.thorin_check.specs.Gathered.{GoesOn, IsGathered, IsGatheredIn, IsOfUnit, Listed}
-use Rattle.thorin_check.specs.declared.{strings.StringRange.StringRange, units.Seen.Seen}
+use Rattle.std.proofs.lemmas.List.{Elements.All-contains, get_or_default, map-append, take_more}
 use Rattle.std.proofs.lemmas.{Bool.Decides.nat_tests, List.Quantifiers.all_pairs_push}
-use Rattle.std.proofs.lemmas.{Bool.cases_lt, Grind.flat_map-append, Option.same_Some}
-use Rattle.thorin_print.specs.declared.{form.Form.Form, output.Failure.Failure}
-use Rattle.thorin_check.specs.Faults.{TellsRowsOf, TellsStringsOf, TellsUnit}
-use Rattle.thorin_check.specs.{Apart.AreApart, Telling.TellsOr, Telling.Told}
-use Rattle.{dwp_base.proofs.Bools.both, thorin_print.proofs.Printed.grown}
+use Rattle.std.proofs.{KnownBytes.Appends-nil, KnownBytes.Appends-trans, lemmas.Option.same_Some}
+use Rattle.std.specs.List.{All, AllPairs, Contains, Sorted.IsPermutation, Sorted.IsSortedByKey}
+use Rattle.thorin_check.specs.Checking.{TellsSlot, TellsSlots, TellsStringsOfAll, TellsUnits}
+use Rattle.thorin_check.specs.Faults.{ArePast, is_of, IsNamed, IsUnnamed, TellsStringsOf, TellsUnit}
+use Rattle.thorin_check.specs.Faults.{is_from, row_fault, TellsRowsOf}
+use Rattle.thorin_check.specs.Gathered.{IsGathered, IsGatheredIn, IsOfUnit, TellsListed, TellsSeen}
 use Rattle.thorin_check.specs.Rendering.{fault_text, FaultValue}
-use Rattle.thorin_check.specs.Gathered.{TellsListed, TellsSeen}
-use Rattle.dwp_index.specs.Package.{found, FoundUnit, Package}
+use Rattle.thorin_check.specs.Strings.{HasOffsets, IsBehind, IsRangeOfOne, number_of, ShareNone}
+use Rattle.thorin_check.specs.Telling.{counted_on, ForEach, IsFault, Progress, Tells, TellsOr, Told}
+use Rattle.thorin_check.specs.declared.{strings.StringRange.StringRange, units.Seen.Seen}
+use Rattle.thorin_check.specs.{Apart.AreApart, Telling.InTurn, Telling.Is}
+use Rattle.thorin_check.specs.{Gathered.GoesOn, Gathered.Listed, Texts.IsTextOf, Texts.TellsText}
 use Rattle.thorin_find.specs.Listing.{place_by, place_of_line}
 use Rattle.thorin_print.specs.Answers.{Grows, Outcome, Prints}
-use Rattle.std.proofs.KnownBytes.{Appends-nil, Appends-trans}
-use Rattle.std.specs.Result.{IsErrAnd}
+use Rattle.thorin_print.specs.declared.{form.Form.Form, output.Failure.Failure}
+use Rattle.{dwp_base.proofs.Bools.both, std.specs.Ordering.nat_cmp, std.specs.Result.IsErrAnd}
+use Rattle.{std.proofs.lemmas.Bool.cases_lt, thorin_print.proofs.Printed.grown, std.proofs.Common.ℕ}
+use Rattle.{std.proofs.lemmas.Grind.flat_map-append, thorin_check.proofs.Packages.has_strings}
 
 -- what the exit of a `?` answers
 pub exit_is : {T E : Type 0} {e : E} {r : Result T E} → IsErrAnd r (λ y. y ≡ e) → r ≡ Err e
@@ -48,8 +46,7 @@ counted-append n (x ∷ xs) ys = counted-append (min (n + 1) (2 ^ 64 - 1)) xs ys
 pub counted_from : (n : ℕ) (faults : List FaultValue) → n ≤ 2 ^ 64 - 1
     → counted_on n faults ≡ min (n + length faults) (2 ^ 64 - 1)
 counted_from n [] fits = omega arith
-counted_from n (fault ∷ faults) fits =
-    grind (arith, counted_from (min (n + 1) (2 ^ 64 - 1)) faults)
+counted_from n (fault ∷ faults) fits = grind (arith, counted_from (min (n + 1) (2 ^ 64 - 1)) faults)
 
 -- ---- faults
 
@@ -86,8 +83,7 @@ tells_as a b result goes t = grind (arith)
 -- what comes next stopped
 pub stopped_behind : {P : List FaultValue → Type 0} {Why : Type 0} {a b : Progress}
     (c : Option (List ℕ)) → Told P a b → Why × Grows b.written c → Why × Grows a.written c
-stopped_behind {a = a} {b = b} c p q =
-    (q.0, grown a.written b.written c (p.handed, p.added) q.1)
+stopped_behind {a = a} {b = b} c p q = (q.0, grown a.written b.written c (p.handed, p.added) q.1)
 
 pub in_turn : {P Q : List FaultValue → Type 0} (xs ys : List FaultValue) → P xs → Q ys
     → InTurn P Q (xs ++ ys)

@@ -27,8 +27,7 @@ returns-clause-taken c accepted state bytes before after are w have other took =
 plain-encoding : (encoding : Encoding) (bytes : List ℕ) → IsPlainOf encoding bytes
     → IsOfEncoding encoding bytes
 unfolding input_encoding
-plain-encoding encoding bytes p =
-    (λ file object e h k l. grind (arith, p), λ e h. grind (arith, p))
+plain-encoding encoding bytes p = (λ file object e h k l. grind (arith, p), λ e h. grind (arith, p))
 
 pub returns-clause-own : goal.returns-clause-own
 returns-clause-own c accepted state bytes are packs w =

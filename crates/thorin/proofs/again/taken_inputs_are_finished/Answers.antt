@@ -35,8 +35,7 @@ use Rattle.thorin.proofs.again.taken_inputs_are_finished.Goals as goal
 length-takes : (i : Input) (x : (Format × ℕ) × Input) → initial_length_at i ≡ Ok x
     → length x.1.bytes + 4 ≤ length i.bytes
 unfolding initial_length_at number_at
-length-takes i x h =
-    grind (arith, nat_tests, length-drop 4 i.bytes, length-drop 8 (drop 4 i.bytes))
+length-takes i x h = grind (arith, nat_tests, length-drop 4 i.bytes, length-drop 8 (drop 4 i.bytes))
 
 unit-long : (place : UnitSection) (i : Input) (x : Header × Input) → unit_at place i ≡ Ok x
     → 6 ≤ length i.bytes

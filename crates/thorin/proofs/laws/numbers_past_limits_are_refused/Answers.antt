@@ -11,8 +11,7 @@ returns-clause-elf_32_file c o is past fits =
     absurd (omega (arith, first, far))
 
 pub returns-clause-elf_32_bytes : goal.returns-clause-elf_32_bytes
-returns-clause-elf_32_bytes c o e is past h =
-    grind (arith, returns-clause-elf_32_file c o is past)
+returns-clause-elf_32_bytes c o e is past h = grind (arith, returns-clause-elf_32_file c o is past)
 
 pub returns-clause-elf_32_writer : goal.returns-clause-elf_32_writer
 returns-clause-elf_32_writer c o old new e is past h =

@@ -1,9 +1,8 @@
-use Rattle.{dwp_bytes.specs.declared.error.ReadError.ReadError, thorin_find.specs.Finding.string_of}
-use Rattle.thorin_check.proofs.Told.{exit_is, for_each_more, none_told, stopped_behind, text_told}
-use Rattle.thorin_check.{proofs.Packages.of_found, specs.Faults.TellsNumbered}
 use Rattle.std.proofs.Common.{arith, Err, List, Ok, Option, Result, ℕ}
 use Rattle.std.proofs.lemmas.List.FromFn.{map-range_with_len_more}
-use Rattle.thorin_check.proofs.Told.{told_then}
+use Rattle.thorin_check.proofs.Told.{for_each_more, none_told, stopped_behind, text_told, told_then}
+use Rattle.thorin_check.{proofs.Packages.of_found, proofs.Told.exit_is, specs.Faults.TellsNumbered}
+use Rattle.{dwp_bytes.specs.declared.error.ReadError.ReadError, thorin_find.specs.Finding.string_of}
 use Rattle.thorin_check.proofs.strings.check_strings_of.Goals as goal
 
 pub string_text-text-requires : goal.string_text-text-requires
@@ -27,5 +26,4 @@ returns-in_err-tell g c =
     (c.string_text-text.ensures c.args.object) c.in_err-tell.ensures))
 
 pub returns : goal.returns
-returns g c =
-    rw (rw c.in-Ok-Some.field-0-is at c.in-Ok-Some.ensures) (grind (arith, none_told))
+returns g c = rw (rw c.in-Ok-Some.field-0-is at c.in-Ok-Some.ensures) (grind (arith, none_told))

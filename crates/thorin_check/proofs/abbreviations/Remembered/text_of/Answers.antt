@@ -14,10 +14,7 @@ returns-then-eq-clause-text c =
 
 pub returns-then-has_twin-clause-knows : goal.returns-then-has_twin-clause-knows
 returns-then-has_twin-clause-knows c =
-    let read : PlaceRead = record {
-      place = c.of-place.result;
-      own = c.in_ok-own.own;
-    } in
+    let read : PlaceRead = record { place = c.of-place.result; own = c.in_ok-own.own } in
     let is = own_is c.args.pack.now c.args.object c.args.unit.now c.requires.is_found in
     record {
       tables = rw c.read.ensures.kept c.requires.knows.tables;

@@ -1,7 +1,6 @@
-use Rattle.std.proofs.lemmas.{Bool.not-false, List.Elements.All-more}
-use Rattle.{dwp_base.proofs.Bools.neither, std.proofs.Common.take_all}
-use Rattle.thorin_check.{proofs.Packages.slots_apart, specs.Apart.AreApartIn}
-use Rattle.dwp_table.specs.Columns.{contribution_kinds}
+use Rattle.std.proofs.{Common.take_all, lemmas.Bool.not-false, lemmas.List.Elements.All-more}
+use Rattle.{dwp_base.proofs.Bools.neither, thorin_check.proofs.Packages.slots_apart}
+use Rattle.{dwp_table.specs.Columns.contribution_kinds, thorin_check.specs.Apart.AreApartIn}
 use Rattle.thorin_check.proofs.overlaps.Overlaps.find.Goals as goal
 
 pub loop-kind-preserved : goal.loop-kind-preserved
