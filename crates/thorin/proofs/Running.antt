@@ -1,6 +1,7 @@
 -- A run, one input after the other, what it accepted, and groups that are packed one by one.
 -- Joining in groups: joining what groups joined is joining all of them. And what packing in groups
 -- means: the join of all inputs at once.
+use Rattle.thorin_join.proofs.Terms as Joined
 use Joined.{ap, Ok, true, [], ℕ, ◌&&◌, ◌++◌, ◌+◌, ◌∙◌, ◌∷◌, ◌≡◌}
 use Joined.{append-nil, DwarfObject, ErrorValue, file_text, is_compilation, KindsDiffer, length-map}
 use Joined.{append_assoc, Compilation, filter-append, IsSoundBegun, length-append, take-append-drop}
@@ -29,7 +30,6 @@ use Rattle.{indexmap.proofs.ReorderLemmas.map-swap, thorin_again.proofs.Lists.be
 use Rattle.{indexmap.specs.Layout.hash_map, thorin_builder.specs.Taking.came}
 use Rattle.{std.proofs.lemmas.List.Folds.list_any-append, thorin_again.specs.PlainInputs.AreTaken}
 use Rattle.{std.specs.Option.option_or, thorin_errors.specs.declared.error.InputError.InputError}
-use Rattle.thorin_join.proofs.Terms as Joined
 use Rattle.thorin_errors.specs.declared.error.InputError.TheVariants.{Io, Memory as no_memory}
 use Rattle.{dwp_base.proofs.Bools.both as both-true, thorin_join.proofs.Joined.input-keeps}
 use Rattle.thorin.specs.declared.packing.Input.TheVariants as inputs

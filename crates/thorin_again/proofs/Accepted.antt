@@ -2,6 +2,7 @@
 -- row: by a package without units all of them, since no name comes twice; by any other unless a
 -- compilation unit is there already. A written package of plain objects of one encoding is
 -- accepted: by any package of its byte order, unless it is foreseen otherwise, and by a new one.
+use Rattle.thorin_join.proofs.Terms as Joined
 use Joined.{Adding, adding, elf_of, filter, Header, le-leb, length, Option, Result, rows_of, Source}
 use Joined.{All-append, ErrorValue, SectionKind, take-length, units_begun, UnitSection, with_source}
 use Joined.{AreApart, content_of, Contents, Indexes, indexes_of, kept_bytes, length-map, StrOffsets}
@@ -59,7 +60,6 @@ use Rattle.{std.proofs.ByRecursion.all_kept_by, thorin_index.specs.IndexText.is_
 use Rattle.{std.proofs.Math.ListN.get_or-map, thorin_join.proofs.Rows.adjustor}
 use Rattle.{std.specs.List.IsDistinct, thorin_again.specs.Plain.NamesItself}
 use Rattle.{thorin_errors.specs.Errors.DuplicateUnit, thorin_join.proofs.Moved.identity-shifted}
-use Rattle.thorin_join.proofs.Terms as Joined
 use Rattle.dwp_base.specs.declared.section.SectionKind.TheVariants as kinds
 use Rattle.dwp_units.specs.declared.unit.UnitSection.TheVariants as places
 

@@ -5,6 +5,7 @@
 -- of its row each unit of a package that such objects are added to. And info of such a package has
 -- bytes, where it has units: the first unit of an object stands in info, with the object's
 -- encoding, and its name's unit goes there.
+use Rattle.thorin_join.proofs.Terms as Joined
 use Joined.{Adding, adding, Header, Input, joining, kind_of, length, Option, part_of, Parts, Source}
 use Joined.{All-append, contribution_to, list_any-append, unit_section, UnitSection, with_new_units}
 use Joined.{All-weaker, append-nil, Endianness, ErrorValue, IndexEntry, InProgress, with_unit_added}
@@ -40,7 +41,6 @@ use Rattle.thorin_join.specs.StandApart.{EachRow, rows_begun}
 use Rattle.{dwp_base.proofs.Bools.or-right, thorin_index.specs.IndexText.is_used}
 use Rattle.{thorin_again.specs.Again.input_encoding, thorin_index.specs.EntryTests.same_encoding}
 use Rattle.{thorin_again.specs.InFormat.IsInFormat, thorin_input.specs.Format.is_in_format}
-use Rattle.thorin_join.proofs.Terms as Joined
 use Rattle.thorin_join.proofs.Parts.{content-with_bytes, each-part, each-unit as unit-by-unit}
 use Rattle.dwp_base.specs.declared.section.SectionKind.TheVariants as kinds
 use Rattle.dwp_units.specs.declared.unit.UnitSection.TheVariants as places

@@ -4,6 +4,7 @@
 -- these inputs; its rows are in the format; and where all units of each input have one encoding,
 -- the header of each unit has the encoding that is recorded of it, wherever its bytes are read
 -- again, each has its strings, and what is written has the encoding, as an input.
+use Rattle.thorin_join.proofs.Terms as Joined
 use Joined.{All, Elf, File, first, inl, inr, List, None, refl, Some, subst, true, units_begun, Used}
 use Joined.{Contents, file_text, GivesNone, meaning_at, nat_tests, ReadError, same_Some, unit_bytes}
 use Joined.{DwarfObject, encoding_in, Endianness, InProgress, KindsDiffer, MatchOption, UnitSection}
@@ -42,7 +43,6 @@ use Rattle.thorin_join.{proofs.Rows.keep-part, specs.Join.GivesUnit, specs.Join.
 use Rattle.{dwp_elf.specs.Written.written_elf, thorin_again.specs.InFormat.IsOneOf}
 use Rattle.{dwp_units.proofs.Readings.one_answer, thorin_again.specs.OwnInput.written_object}
 use Rattle.{std.proofs.lemmas.Map.Views.IfSome-lookup_from_All, thorin_input.specs.Indexes.index_in}
-use Rattle.thorin_join.proofs.Terms as Joined
 use Rattle.dwp_units.specs.declared.unit.UnitSection.TheVariants as places
 
 -- what holds of what the units of rows mean holds of the units

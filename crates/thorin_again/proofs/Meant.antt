@@ -1,5 +1,6 @@
 -- What a unit of a written package means as an input: just what was joined. A finished package,
 -- taken as an input, means the units that were joined in it.
+use Rattle.thorin_join.proofs.Terms as Joined
 use Joined.{Adding, by-bool, Indexes, is_none, IsRowOf, IsSound, joining, Meaning, Members, NewUnit}
 use Joined.{All, Bool, Each, File, first, List, None, opened, refl, row_in, Some, subst, true, zero}
 use Joined.{Contribution, filter-append, is_compilation, IsSoundBegun, name_signature, source_units}
@@ -45,7 +46,6 @@ use Rattle.thorin_package_input.{proofs.Rows.first_found, specs.RowPlaces.row_by
 use Rattle.{dwp_elf.specs.Written.written_elf, thorin_again.specs.OwnUnits.AllOf}
 use Rattle.{dwp_table.proofs.Tables.finds_exactly, thorin_join.proofs.Ranges.strings-are}
 use Rattle.{thorin_again.proofs.Kept.joined, thorin_join.specs.Laid.rows_at}
-use Rattle.thorin_join.proofs.Terms as Joined
 use Rattle.dwp_base.specs.declared.section.SectionKind.TheVariants as kinds
 use Rattle.dwp_units.specs.declared.unit.UnitSection.TheVariants as places
 

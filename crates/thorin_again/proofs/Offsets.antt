@@ -2,6 +2,7 @@
 -- rewritten unless the offset of a string doesn't fit; those that were rewritten, once more from
 -- the same strings on, give the same strings. The ranges fill their section, where plain objects of
 -- one encoding are added: what each gives to string offsets is nothing, or a whole range.
+use Rattle.thorin_join.proofs.Terms as Joined
 use Joined.{All-append, All-weaker, entry_count, header_size, length-drop, offset_size, range_named}
 use Joined.{Bool, drop, eqb, length, List, refl, remapped, Some, Str, subst, take, true, zero, ◌++◌}
 use Joined.{Contents, nat_tests, no_header, none-some, same_Some, slice_range, string_at, string_in}
@@ -24,7 +25,6 @@ use Rattle.thorin_package_input.specs.PackagedOffsets.{ranges_test, rewritten_fr
 use Rattle.thorin_strings.specs.StringOffsets.{entry_bytes, header_of, offset_at, remapped_entries}
 use Rattle.{dwp_base.specs.Numbers.number, thorin_package_input.specs.PackagedReading.range_bytes}
 use Rattle.{std.proofs.Common.leb, thorin_strings.specs.StringOffsets.remapped_entry}
-use Rattle.thorin_join.proofs.Terms as Joined
 use Rattle.thorin_join.proofs.Joined.{Made as Added, source-made}
 
 -- ranges that lie one directly behind the other

@@ -3,6 +3,7 @@
 -- string offsets are. The indexes of a written package are taken, where its rows have the version
 -- of the input, and its sections are in the format of its units. A written package of plain objects
 -- is read again: its indexes, and its string offsets.
+use Rattle.thorin_join.proofs.Terms as Joined
 use Joined.{AreRowsOf, entry_ids, file_text, is_chosen, is_shared, IsIndexOf, nat_tests, with_input}
 use Joined.{Contents, rewritten, same-each, same-self, same_kind, same_Some, slice_get, UnitSection}
 use Joined.{DwarfObject, index_version_of, KindsDiffer, packaged_offsets, SectionKind, with_offsets}
@@ -44,7 +45,6 @@ use Rattle.{dwp_index.specs.Contents.is_of_kind, std.proofs.lemmas.List.Elements
 use Rattle.{std.proofs.ByRecursion.all_kept_by, thorin_input.specs.Used.used_bytes}
 use Rattle.{std.proofs.Math.ListN.get_or-map, thorin_again.specs.OwnUnits.AllOf}
 use Rattle.{thorin_join.proofs.Rows.part-inside, thorin_package_input.proofs.Rows.range_is}
-use Rattle.thorin_join.proofs.Terms as Joined
 use Rattle.dwp_base.specs.declared.section.SectionKind.TheVariants as kinds
 use Rattle.dwp_index.specs.Contents as contents
 use Rattle.dwp_units.specs.declared.unit.UnitSection.TheVariants as places

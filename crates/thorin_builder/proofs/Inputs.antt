@@ -2,6 +2,7 @@
 -- other, by what `==` of names says of a name that is among others, and a package loses nothing of
 -- what it had. What an input adds that adds no unit, however often it is taken, is the same over
 -- more strings, and beside more units.
+use Rattle.thorin_join.proofs.Terms as Joined
 use Joined.{Adding, filter, first, Joins, kept_bytes, map-append, remapped, Source, units_in, ◌>>=◌}
 use Joined.{IndexEntry, new_units, none-some, ReadError, rewritten, same_name, with_part, with_unit}
 use Joined.{append-nil, Contents, Encoding, is_some, list_any, Meaning, name_for, NewUnit, parts_of}
@@ -39,7 +40,6 @@ use Rattle.{std.proofs.lemmas.Grind.length_at_push, thorin_errors.specs.Inputs.i
 use Rattle.{std.proofs.lemmas.Simd.map-map, thorin_input.specs.NewUnits.with_read}
 use Rattle.{std.proofs.lemmas.Slice.Eq.bytes_eq-Decides, thorin_executable.specs.Skeletons.Listed}
 use Rattle.{thorin_builder.specs.StateView.in_progress_of, thorin_input.specs.View.part}
-use Rattle.thorin_join.proofs.Terms as Joined
 use Rattle.{dwp_elf.specs.FileText.Object as File, indexmap.specs.IndexMap.insert_entry}
 use Rattle.{dwp_strings.specs.Strings.offset_of, dwp_units.specs.Units.Unit as Header}
 use Rattle.{std.specs.declared.io.Error.Error as IoError, thorin_strings.proofs.Remapping.kept_more}
