@@ -275,20 +275,6 @@ contents_append xs ys = rw (map-append, map-append, filter-append) refl
 
 module _ {manner : Manner} {offer : Offer} {declines : Reasons} where
   -- those before contents were taken
-  among_later : (xs ys zs : List (List ℕ)) {old middle : State}
-      → TookEach manner offer xs old middle
-      → (why : NotTaken Error Growth) → StopsAmong offer declines manner ys middle why
-      → StopsAmong offer declines manner (xs ++ (ys ++ zs)) old why
-  among_later xs ys zs took why s = record {
-    front = xs ++ s.front;
-    content = s.content;
-    rest = s.rest ++ zs;
-    list_is = rw (s.list_is, append_assoc, append_assoc) refl;
-    state = s.state;
-    took = each_append took s.took;
-    refused = s.refused;
-  }
-
   pub stops_among : (members : List declared.Member) (i : ℕ) (none : declared.Member)
       {old middle : State} → i < length members
       → TookEach manner offer (split_contents (map view.member (take i members))) old middle
@@ -306,8 +292,15 @@ module _ {manner : Manner} {offer : Offer} {declines : Reasons} where
       in record {
         why = u.why;
         is = u.is;
-        reason = rw parts (among_later (contents (take i members)) (contents own)
-            (contents later) took u.why u.reason);
+        reason = rw parts (record {
+          front = contents (take i members) ++ u.reason.front;
+          content = u.reason.content;
+          rest = u.reason.rest ++ contents later;
+          list_is = rw (u.reason.list_is, append_assoc, append_assoc) refl;
+          state = u.reason.state;
+          took = each_append took u.reason.took;
+          refused = u.reason.refused;
+        });
       }
 
 -- of just the inputs that are asked for

@@ -3,28 +3,28 @@ use Rattle.std.proofs.Common.{Bool, Err, inl, inr, None, OnOk, refl, sym, take, 
 use Rattle.std.proofs.Common.{arith, false, get_or, length, List, Option, Some, true}
 use Rattle.thorin_commands.specs.Cause.{Bad, IsNotTaken, IsUnfinished, Reasons, Unfinished}
 use Rattle.thorin_commands.specs.Warned.{AreLacks, IsNamedLine, TellsNamed, TellsTaken, TellsTaking}
-use Rattle.thorin_commands.specs.Warned.{TellsUnsplit, TellUnsplitBy, unsplit_line}
-use Rattle.thorin_commands.specs.Warned.{names, PacksTelling, TellsMacros, TellUnsplit}
+use Rattle.thorin_commands.specs.Warned.{TellsUnsplit, TellUnsplitBy}
+use Rattle.thorin_commands.specs.Warned.{names, TellsMacros, TellUnsplit}
 use Rattle.thorin_commands.specs.Warned.{named_line, TellsAdded}
-use Rattle.{std.specs.Io.KnownBytes.Appends, thorin_output.specs.declared.warnings.Warned.Warned}
+use Rattle.{std.specs.Io.KnownBytes.Appends}
 use Rattle.thorin_commands.specs.Cause.{Archive, Cause}
 use Rattle.thorin_errors.specs.declared.error.Error.{Error, TheVariants.NoOutputObjectCreated}
 use Rattle.std.proofs.lemmas.List.{append-nil, append_assoc, map-append, take_more}
 use Rattle.thorin_commands.specs.declared.packing.{Packing.Packing}
 use Rattle.thorin_commands.specs.Opened.{added_in, TookAll, TookNone, unit_count}
-use Rattle.thorin_commands.specs.Warned.{InOrder, InTurn, others, path_of, TellsLeft}
-use Rattle.thorin_commands.specs.Packing.{AreAsked, manner_of, out_of}
+use Rattle.thorin_commands.specs.Warned.{InOrder, InTurn, path_of, TellsLeft}
+use Rattle.thorin_commands.specs.Packing.{AreAsked, manner_of}
 use Rattle.dwp_table.specs.declared.object.DebugTypeSignature.{DebugTypeSignature}
 use Rattle.thorin_print.specs.{Answers.Outcome, Answers.Prints, Told.taken_line}
-use Rattle.thorin_commands.specs.Made.{IsMade, IsMadeFor, IsReady, TookTelling}
+use Rattle.thorin_commands.specs.Made.{IsMade, IsMadeFor, TookTelling}
 use Rattle.thorin_inputs.specs.declared.notes.Lack.{Lack, TheVariants.Types}
 use Rattle.std.proofs.Common.{[], ap, map, Ok, ℕ, ◌-◌, ◌∙◌, ◌∷◌, ◌≡◌}
 use Rattle.thorin_errors.specs.Errors.{NoOutputObjectCreated as NoneBegun}
 use Rattle.thorin_commands.specs.{Taken.Manner, Taken.Offer}
 use Rattle.thorin_join.specs.Builder.{finish_test, State}
 use Rattle.thorin_commands.proofs.Causes.{took_more}
-use Rattle.thorin_output.specs.Warnings.{IsPrinted, IsWarning}
-use Rattle.dwp_elf.specs.FileText.{file_text, Object as File}
+use Rattle.thorin_output.specs.Warnings.{IsPrinted}
+use Rattle.dwp_elf.specs.FileText.{Object as File}
 use Rattle.std.proofs.KnownBytes.{Appends-nil, Appends-trans}
 use Rattle.thorin.specs.declared.packing.Input.{Input}
 
@@ -127,12 +127,6 @@ module _ {verbose opens : Bool} {manner : Manner} {offer : Offer} {a : Option (L
 
 -- ---- inputs without split units
 
-pub unsplit_told : {may : Type 0} (path : Option (List ℕ)) (name why : List ℕ)
-    (a b : Option (List ℕ)) → may → path ≡ Some name → Appends a b (unsplit_line name why)
-    → IsPrinted a b (TellsUnsplit may path)
-unsplit_told path name why a b it e h =
-    record { text = unsplit_line name why; is = inr (it, name, why, e, refl); added = h }
-
 pub unsplit_none : (may : Type 0) (path : Option (List ℕ)) (a : Option (List ℕ))
     → IsPrinted a a (TellsUnsplit may path)
 unsplit_none may path a = none_printed a (inl refl)
@@ -233,35 +227,4 @@ made_for Tells {offer} packing {verbose} {warns} list {a} {b} {object} {differin
       told = printed_as (f (added_in it.packed.took) it.packed.state) it.told;
       differ = it.differ;
       names_are = it.names_are;
-    }
-
--- and the warnings behind the package
-pub packs_telling : (offer : Offer) (packing : Packing) (Puts : (name text : List ℕ) → Type 0)
-    (object : File) (name : List ℕ) (differing : List DebugTypeSignature) (lines : List ℕ)
-    (a b c : Option (List ℕ)) (warned : Warned) → IsReady offer packing a b object differing lines
-    → out_of packing ≡ Some name → Puts name (file_text object)
-    → warned.lines.now ≡ lines → warned.differing.now ≡ differing
-    → warned.warnings ≡ others (names packing.verbose packing.warnings) packing.warnings
-    → IsPrinted b c (IsWarning warned) → PacksTelling offer packing Puts a c
-packs_telling offer packing Puts object name differing lines a b c warned ready named put el ed ew
-    p = record {
-      packs = record { object = object; is = ready.made.is; name = name; named = named; put = put };
-      told = printed_then (λ x y t u. record {
-        inputs = x;
-        inputs_are = t;
-        macros = ready.macros;
-        macros_are = ready.macros_are;
-        differing = ready.named ++ u.lines;
-        differing_are = record {
-          named = ready.named;
-          named_are = ready.made.names_are;
-          differing = differing;
-          differ = ready.made.differ;
-          lines = u.lines;
-          lines_are = rw (ed, ew) at u.are;
-          text_is = refl;
-        };
-        text_is = ap (λ l. x ++ l) (u.text_is ∙ (ap (λ l. l ++ u.lines) (el ∙ ready.lines_are)
-            ∙ append_assoc ready.macros ready.named u.lines));
-      }) ready.made.told p;
     }

@@ -1,5 +1,5 @@
 use Rattle.thorin_commands.proofs.Warned.{taking_begins, taking_more, unsplit_by}
-use Rattle.std.proofs.Common.{[], arith, length-append, refl, rules, take, ◌++◌, ◌∷◌, ◌≡◌}
+use Rattle.std.proofs.Common.{[], arith, length-append, refl, rules, ◌++◌, ◌∷◌, ◌≡◌}
 use Rattle.std.proofs.lemmas.{Grind.common_steps, Result.err_from_is_err_and}
 use Rattle.std.proofs.KnownBytes.{Appends-trans}
 use Rattle.thorin.specs.declared.packing.Input.{Input, TheVariants.Object}

@@ -1,5 +1,6 @@
-use Rattle.{std.proofs.Common.inr, std.proofs.Common.rules, thorin_commands.proofs.Causes.begun}
-use Rattle.thorin_commands.proofs.{Causes.packs, Causes.why_writing, Warned.packs_telling}
+use Rattle.std.proofs.Common.{ap, append_assoc, inr, refl, rules, ◌++◌, ◌∙◌}
+use Rattle.thorin_commands.proofs.Causes.{begun, packs, why_writing}
+use Rattle.thorin_commands.proofs.Warned.{printed_then}
 use Rattle.thorin_commands.proofs.packing.pack.Goals as goal
 
 pub returns-in-Ok-write_then_warn-clause-packed : goal.returns-in-Ok-write_then_warn-clause-packed
@@ -10,10 +11,34 @@ returns-in-Ok-write_then_warn-clause-packed g c = λ e.
 
 pub returns-in-Ok-write_then_warn-clause-warned : goal.returns-in-Ok-write_then_warn-clause-warned
 returns-in-Ok-write_then_warn-clause-warned g c = λ e.
-    packs_telling _ _ _ _ c.as_str-name.result.now _ _ _ _ _ _ c.in-Ok.ensures.ready
-    (rw c.as_str-name.ensures.value c.in_ok-output.ensures.named)
-    c.in-Ok-write_then_warn.ensures.done c.as_str.ensures.value c.as_slice.ensures.value
-    c.warnings_left.ensures c.in-Ok-write_then_warn.ensures.warned
+    let ready = c.in-Ok.ensures.ready in record {
+      packs = record {
+        object = c.in-Ok.object;
+        is = ready.made.is;
+        name = c.as_str-name.result.now;
+        named = rw c.as_str-name.ensures.value c.in_ok-output.ensures.named;
+        put = c.in-Ok-write_then_warn.ensures.done;
+      };
+      told = printed_then (λ x y t u. record {
+        inputs = x;
+        inputs_are = t;
+        macros = ready.macros;
+        macros_are = ready.macros_are;
+        differing = ready.named ++ u.lines;
+        differing_are = record {
+          named = ready.named;
+          named_are = ready.made.names_are;
+          differing = c.in-Ok.differing.items;
+          differ = ready.made.differ;
+          lines = u.lines;
+          lines_are = rw (c.as_slice.ensures.value, c.warnings_left.ensures) at u.are;
+          text_is = refl;
+        };
+        text_is = ap (λ l. x ++ l) (u.text_is ∙ (ap (λ l. l ++ u.lines)
+            (c.as_str.ensures.value ∙ ready.lines_are)
+            ∙ append_assoc ready.macros ready.named u.lines));
+      }) ready.made.told c.in-Ok-write_then_warn.ensures.warned;
+    }
 
 pub returns-in-Ok-write_then_warn-clause-apart : goal.returns-in-Ok-write_then_warn-clause-apart
 returns-in-Ok-write_then_warn-clause-apart g c = λ forced.

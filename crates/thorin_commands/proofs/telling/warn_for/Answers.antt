@@ -1,8 +1,7 @@
 use Rattle.thorin_commands.proofs.telling.warn_for.Goals.{in-Types, in_default-3, in_default-3-2}
 use Rattle.{std.specs.Path.path_bytes, thorin_inputs.specs.declared.notes.Lack.TheVariants.Types}
-use Rattle.std.proofs.Common.{arith, inl, inr, rules, string_bytes, sym, ◌≡◌, ◌⊎◌}
-use Rattle.thorin_commands.proofs.Warned.{printed_ok, unsplit_told}
-use Rattle.thorin_commands.specs.Warned.{path_of, unsplit_line}
+use Rattle.std.proofs.Common.{arith, inl, inr, refl, rules, string_bytes, sym, ◌≡◌, ◌⊎◌}
+use Rattle.thorin_commands.{proofs.Warned.printed_ok, specs.Warned.unsplit_line}
 use Rattle.thorin_print.specs.Shown.{shown}
 use Rattle.thorin_commands.proofs.telling.warn_for.Goals as goal
 
@@ -18,6 +17,8 @@ returns-clause-line g c =
       | in_default-3 w ↦ inl (omega (arith, w.if-count-gt0.false))
       | in_default-3-2 w ↦ inl (omega (arith, w.if-count-gt0.false))
     ] in
-    printed_ok (string_bytes c.in_ok-line.line) _ _ c.print_text.result
-    (λ h. unsplit_told (path_of c.args.input) name why _ _ may (sym c.in-Some.ensures)
-    (rw line at h)) (rw c.as_str.ensures.value at c.print_text.ensures.printed)
+    printed_ok (string_bytes c.in_ok-line.line) _ _ c.print_text.result (λ h. record {
+      text = unsplit_line name why;
+      is = inr (may, name, why, sym c.in-Some.ensures, refl);
+      added = rw line at h;
+    }) (rw c.as_str.ensures.value at c.print_text.ensures.printed)
