@@ -2,18 +2,19 @@
 use Rattle.thorin_print.specs.declared.output.Failure.TheVariants as failures
 use Rattle.thorin_words.specs.declared.responses.ResponseError.TheVariants as errors
 use Rattle.std.proofs.Common.{codes, inl, inr, List, refl, ℕ, ◌≡◌, ◌⊎◌}
-use Rattle.std.specs.Prelude.{Err, IfErr, Ok, Option, Result, Some}
+use Rattle.std.specs.Prelude.{Err, Ok, Option, Result, Some}
 use Rattle.std.specs.Io.KnownBytes.{Appends}
 use Rattle.thorin_print.specs.{Answers.Grows, declared.output.Failure.Failure}
 use Rattle.thorin_print.specs.Failures.{error_line, failure_text, Reports}
 use Rattle.thorin_commands.proofs.Lines.{followed, printed}
 use Rattle.thorin_commands.specs.Cause.{HasLine, text_of}
-use Rattle.thorin_commands.specs.Failing.{FailsPacking, IsWhy}
+use Rattle.thorin_commands.specs.Failing.{IsWhy}
 use Rattle.thorin_commands.specs.declared.packing.Packing.{Packing}
 use Rattle.thorin_words.specs.Responses.{CannotBeTold}
 use Rattle.thorin_words.specs.declared.responses.ResponseError.{ResponseError}
 use Rattle.thorin_cli.specs.Doing.{DoesPacking, HasStatus, HasTold, State, System}
 use Rattle.thorin_cli.specs.Telling.{no_memory, response_text}
+use Rattle.std.proofs.lemmas.Result.{IfErr-weaker}
 
 -- a line that was printed stands behind what was there
 pub appended : (a b : Option (List ℕ)) (text : List ℕ) → Appends a b text → Grows a b
@@ -81,15 +82,6 @@ module _ {F O E : Type 0} (system : System F O E) (files : F) (out : O) (old new
   noted grows stays failure status (inr (is, inl untold)) = inr (is, inl (stays untold))
   noted grows stays failure status (inr (is, inr failed)) = inr (is, inr failed)
 
-  why_too : (system.untold old → system.untold new) → (packing : Packing) (start : State F O E)
-      (answer : Result ℕ Failure)
-      → IfErr answer (FailsPacking system.offer system.known system.begun system.contents packing
-      start.files files start.out out (system.untold old))
-      → IfErr answer (FailsPacking system.offer system.known system.begun system.contents packing
-      start.files files start.out out (system.untold new))
-  why_too stays packing start (Ok status) why = tt
-  why_too stays packing start (Err failure) why = more _ packing _ _ _ _ _ stays failure why
-
   -- what came of packing that made no package, whatever was printed behind that
   pub unpacked : (system.untold old → system.untold new) → (packing : Packing)
       (start : State F O E) (answer : Result ℕ Failure) → ¬ (answer ≡ Ok 0)
@@ -108,6 +100,7 @@ module _ {F O E : Type 0} (system : System F O E) (files : F) (out : O) (old new
           (grows is);
     };
     failed = does.failed;
-    why = why_too stays packing start answer does.why;
+    why = IfErr-weaker answer _ _ (λ failure why. more _ packing _ _ _ _ _ stays failure why)
+        does.why;
     apart = does.apart;
   }
