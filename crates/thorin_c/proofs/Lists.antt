@@ -127,8 +127,7 @@ module _ {A : Type 0} where
       → take room xs ++ take (room - length (take room xs)) ys ≡ take room (xs ++ ys)
   front_next zero xs ys = refl
   front_next (suc room) [] ys = simp unary_clauses refl
-  front_next (suc room) (x ∷ xs) ys =
-      simp unary_clauses (ap (λ l. x ∷ l) (front_next room xs ys))
+  front_next (suc room) (x ∷ xs) ys = simp unary_clauses (ap (λ l. x ∷ l) (front_next room xs ys))
 
   pub front_more : (room n m : ℕ) (old new all more : List A) → old ≡ take room all
       → n ≡ room - length old → m ≡ min n (length more) → new ≡ old ++ take m more

@@ -1,11 +1,10 @@
 -- What the program did of its words.
 use Rattle.std.proofs.Common.{Bool, inl, List, subst, sym, [], ℕ, ◌∷◌, ◌≡◌}
 use Rattle.std.specs.Prelude.{Ok, Option}
-use Rattle.clap.specs.Walk.{Text}
-use Rattle.thorin_words.specs.{declared.responses.ResponseError.ResponseError, Responses.Stands}
 use Rattle.thorin_arguments.specs.{Asked.Call, Asked.IsCallOf, Asked.IsStatusOf, Peers.is_peer}
 use Rattle.thorin_cli.specs.Doing.{DoesCall, Runs, State, System}
-use Rattle.thorin_cli.specs.declared.system.ProgramManner.{ProgramManner}
+use Rattle.thorin_words.specs.{declared.responses.ResponseError.ResponseError, Responses.Stands}
+use Rattle.{clap.specs.Walk.Text, thorin_cli.specs.declared.system.ProgramManner.ProgramManner}
 
 module _ {F O E : Type 0} (system : System F O E) (text : Text → Option Text → Type 0)
     (fails : Text → ResponseError → Type 0) (on_terminal : Bool) (program : Text)

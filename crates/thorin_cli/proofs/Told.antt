@@ -1,20 +1,17 @@
 -- What standard error got stays there when notes follow.
-use Rattle.thorin_print.specs.declared.output.Failure.TheVariants as failures
-use Rattle.thorin_words.specs.declared.responses.ResponseError.TheVariants as errors
 use Rattle.std.proofs.Common.{codes, inl, inr, List, refl, ℕ, ◌≡◌, ◌⊎◌}
-use Rattle.std.specs.Prelude.{Err, Ok, Option, Result, Some}
 use Rattle.std.specs.Io.KnownBytes.{Appends}
-use Rattle.thorin_print.specs.{Answers.Grows, declared.output.Failure.Failure}
-use Rattle.thorin_print.specs.Failures.{error_line, failure_text, Reports}
-use Rattle.thorin_commands.proofs.Lines.{followed, printed}
-use Rattle.thorin_commands.specs.Cause.{HasLine, text_of}
-use Rattle.thorin_commands.specs.Failing.{IsWhy}
-use Rattle.thorin_commands.specs.declared.packing.Packing.{Packing}
-use Rattle.thorin_words.specs.Responses.{CannotBeTold}
-use Rattle.thorin_words.specs.declared.responses.ResponseError.{ResponseError}
+use Rattle.std.specs.Prelude.{Err, Ok, Option, Result, Some}
 use Rattle.thorin_cli.specs.Doing.{DoesPacking, HasStatus, HasTold, State, System}
 use Rattle.thorin_cli.specs.Telling.{no_memory, response_text}
-use Rattle.std.proofs.lemmas.Result.{IfErr-weaker}
+use Rattle.thorin_commands.specs.{Cause.HasLine, Cause.text_of, declared.packing.Packing.Packing}
+use Rattle.thorin_commands.{proofs.Lines.followed, proofs.Lines.printed, specs.Failing.IsWhy}
+use Rattle.thorin_print.specs.Failures.{error_line, failure_text, Reports}
+use Rattle.thorin_print.specs.{Answers.Grows, declared.output.Failure.Failure}
+use Rattle.thorin_words.specs.declared.responses.ResponseError.{ResponseError}
+use Rattle.{std.proofs.lemmas.Result.IfErr-weaker, thorin_words.specs.Responses.CannotBeTold}
+use Rattle.thorin_print.specs.declared.output.Failure.TheVariants as failures
+use Rattle.thorin_words.specs.declared.responses.ResponseError.TheVariants as errors
 
 -- a line that was printed stands behind what was there
 pub appended : (a b : Option (List ℕ)) (text : List ℕ) → Appends a b text → Grows a b

@@ -1,37 +1,36 @@
 -- Inputs that stand for others, taken one after the other, and where a path is read; why something
 -- wasn't taken, and what was told of it; and why packing failed.
-use Rattle.std.proofs.Common.{drop, inl, inr, List, map, OnOk, refl, ◌++◌, ◌+◌, ◌-◌, ◌<◌, ◌⊎◌}
-use Rattle.thorin_commands.specs.Cause.{Archive, Plain, Reasons, Refuses, StopsAt, StopsIn}
-use Rattle.thorin_commands.specs.Cause.{Finishing, IsCauseOf, IsUntaken, Told, told_text}
-use Rattle.thorin_commands.specs.Cause.{IsMalformed, IsUnfinished, Taking, Unfinished}
-use Rattle.thorin_commands.specs.{Failing.IsWhy, Opened.TookAll, Taken.IsReadInto, Taken.IsTakenFor}
-use Rattle.std.proofs.Common.{Bool, false, get_or, IfErr, length, Option, Result, Some, take, true}
-use Rattle.thorin_commands.specs.Cause.{IsCauseFor, IsNotTaken, StopsAmong}
-use Rattle.thorin_commands.specs.Opened.{added_in, Fills, TookEach, TookInputs, TookNext, TookNone}
-use Rattle.thorin_commands.specs.{Naming.IsNameless, Naming.IsUncounted, Taken.Manner, Taken.Offer}
-use Rattle.thorin_commands.specs.Cause.{Alone, Among, Bad, Cause, Stops, Tells}
-use Rattle.thorin_commands.specs.Packing.{AreAsked, IsPackageFor, manner_of, through}
-use Rattle.thorin_commands.specs.Archives.{AreTakenFor, is_archive, split_contents, StandsFor}
-use Rattle.thorin_commands.specs.Opened.{accepted_in, AreAllAccepted, unit_count}
-use Rattle.thorin_errors.specs.declared.error.Error.{Error, TheVariants.NoOutputObjectCreated}
-use Rattle.thorin_join.specs.{Builder.start, Builder.State, Join.JoinAll, Represents.units_in}
-use Rattle.thorin.specs.{declared.packing.Input.Input, Run.DeclinesInput, Run.Ran, Run.Took}
+use Rattle.dwp_archive.specs.{declared.error.ArchiveError.ArchiveError, Members.members_of}
+use Rattle.std.proofs.Common.{Bool, drop, IfErr, List, OnOk, Option, refl, Result, Some, take, true}
+use Rattle.std.proofs.Common.{Err, false, get_or, inl, inr, map, sym, ◌++◌, ◌+◌, ◌-◌, ◌<◌, ◌∙◌, ◌∷◌}
+use Rattle.std.proofs.Common.{ap, length, Ok, [], ℕ, ◌≡◌, ◌≢◌, ◌⊎◌}
 use Rattle.std.proofs.lemmas.List.{append-nil, append_assoc, map-append, take-append-drop}
-use Rattle.thorin_commands.specs.declared.packing.{NoPackage.NoPackage, Packing.Packing}
-use Rattle.thorin_output.specs.{Files.IsOfWriting, Files.IsWhyUnwritten, Reads.Identity}
-use Rattle.dwp_archive.specs.{declared.error.ArchiveError.ArchiveError, Entries.Member}
-use Rattle.thorin_builder.specs.declared.reader.NotTaken.TheVariants.{Declined, Failed}
-use Rattle.thorin_errors.specs.{declared.error.InputError.InputError, Errors.error_of}
-use Rattle.thorin_commands.specs.Packing.{Fails, IsAmong, out_of, Packs}
-use Rattle.{dwp_archive.specs.Members.members_of, thorin.proofs.Running.join-append}
-use Rattle.thorin_builder.specs.{declared.reader.NotTaken.NotTaken, Taking.Outcome}
-use Rattle.thorin_builder.specs.Reading.{OnDeclined, outcome_of}
-use Rattle.thorin_print.specs.{Answers.FailsBy, declared.output.Failure.Failure}
-use Rattle.thorin_inputs.specs.{declared.growth.Growth.Growth, Prefixes.mapped}
-use Rattle.std.proofs.Common.{[], ap, Err, Ok, sym, ℕ, ◌∙◌, ◌∷◌, ◌≡◌, ◌≢◌}
-use Rattle.std.specs.declared.{io.Error.Error as IoError, path.Path.Path}
-use Rattle.std.proofs.lemmas.List.{Elements.filter-append, take_more}
 use Rattle.std.specs.{Borrow.Bor, List.slice_get, Path.path_bytes}
+use Rattle.thorin.specs.{declared.packing.Input.Input, Run.DeclinesInput, Run.Ran, Run.Took}
+use Rattle.thorin_builder.specs.Reading.{OnDeclined, outcome_of}
+use Rattle.thorin_builder.specs.declared.reader.NotTaken.TheVariants.{Declined, Failed}
+use Rattle.thorin_builder.specs.{declared.reader.NotTaken.NotTaken, Taking.Outcome}
+use Rattle.thorin_commands.specs.Archives.{AreTakenFor, is_archive, split_contents, StandsFor}
+use Rattle.thorin_commands.specs.Cause.{Alone, Among, Cause, IsCauseOf, IsUntaken, Plain, told_text}
+use Rattle.thorin_commands.specs.Cause.{Archive, Finishing, IsUnfinished, Reasons, Refuses, StopsAt}
+use Rattle.thorin_commands.specs.Cause.{Bad, Stops, StopsIn, Taking, Tells, Told}
+use Rattle.thorin_commands.specs.Cause.{IsCauseFor, IsMalformed, IsNotTaken, StopsAmong, Unfinished}
+use Rattle.thorin_commands.specs.Opened.{AreAllAccepted, TookEach, TookInputs, TookNext, unit_count}
+use Rattle.thorin_commands.specs.Opened.{accepted_in, added_in, Fills, TookAll, TookNone}
+use Rattle.thorin_commands.specs.Packing.{AreAsked, Fails, IsAmong, IsPackageFor, manner_of, out_of}
+use Rattle.thorin_commands.specs.Packing.{Packs, through}
+use Rattle.thorin_commands.specs.Taken.{IsReadInto, IsTakenFor, Manner, Offer}
+use Rattle.thorin_commands.specs.declared.packing.{NoPackage.NoPackage, Packing.Packing}
+use Rattle.thorin_commands.specs.{Failing.IsWhy, Naming.IsNameless, Naming.IsUncounted}
+use Rattle.thorin_errors.specs.declared.error.Error.{Error, TheVariants.NoOutputObjectCreated}
+use Rattle.thorin_errors.specs.{declared.error.InputError.InputError, Errors.error_of}
+use Rattle.thorin_inputs.specs.{declared.growth.Growth.Growth, Prefixes.mapped}
+use Rattle.thorin_join.specs.{Builder.start, Builder.State, Join.JoinAll, Represents.units_in}
+use Rattle.thorin_output.specs.{Files.IsOfWriting, Files.IsWhyUnwritten, Reads.Identity}
+use Rattle.thorin_print.specs.{Answers.FailsBy, declared.output.Failure.Failure}
+use Rattle.{dwp_archive.specs.Entries.Member, std.proofs.lemmas.List.take_more}
+use Rattle.{std.proofs.lemmas.List.Elements.filter-append, thorin.proofs.Running.join-append}
+use Rattle.std.specs.declared.{io.Error.Error as IoError, path.Path.Path}
 use Rattle.dwp_elf.specs.FileText.{file_text, Object as File}
 use Rattle.dwp_archive.specs.View as view
 use Rattle.dwp_archive.specs.declared.error.ArchiveError.TheVariants as archive_errors
@@ -173,8 +172,7 @@ module _ {W : Type 0} (contents : W → Option (List ℕ)) (failed : W → Type 
   pub refuses_by : {P Q : Cause → Type 0} → ((cause : Cause) → P cause → Q cause)
       → (refusal : NoPackage) → Refuses contents failed writer P refusal
       → Refuses contents failed writer Q refusal
-  refuses_by f refusals.Told t =
-      record { cause = t.cause; is = f t.cause t.is; line = t.line }
+  refuses_by f refusals.Told t = record { cause = t.cause; is = f t.cause t.is; line = t.line }
   refuses_by f refusals.Empty t = f (Unfinished NoOutputObjectCreated) t
   refuses_by f (refusals.Command failures.Line) t = t
   refuses_by f (refusals.Command failures.Memory) t = tt
@@ -265,8 +263,7 @@ module _ {opens : Bool} {manner : Manner} {offer : Offer} {declines : Reasons} w
   pub finishing : (partial : Bool) (list : List Input) (new : State)
       → Fills partial opens manner offer list start new → (cause : Cause) → IsUnfinished new cause
       → IsCauseOf partial opens manner offer declines list cause
-  finishing partial list new fills cause u =
-      Finishing fills.state fills.took (rw fills.rest at u)
+  finishing partial list new fills cause u = Finishing fills.state fills.took (rw fills.rest at u)
 
 -- the contents of members that have split units, and of more behind them
 contents_append : (xs ys : List declared.Member) → split_contents (map view.member (xs ++ ys))
@@ -308,8 +305,7 @@ pub cause_for : (offer : Offer) (declines : Reasons) (packing : Packing) (list :
     → AreAsked packing list → (cause : Cause)
     → IsCauseOf packing.partial packing.opens_archives (manner_of packing) offer declines list
     cause → IsCauseFor offer declines packing cause
-cause_for offer declines packing list are cause is =
-    record { list = list; are = are; is = is }
+cause_for offer declines packing list are cause is = record { list = list; are = are; is = is }
 
 -- the line that no input began a package
 pub told_empty : {W : Type 0} (contents : W → Option (List ℕ)) (writer : W) (offer : Offer)

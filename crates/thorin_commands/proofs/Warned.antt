@@ -1,32 +1,26 @@
 -- What was told where a package was made, and what was made of inputs.
-use Rattle.std.proofs.Common.{Bool, Err, inl, inr, None, OnOk, refl, sym, take, ◌++◌, ◌+◌, ◌<◌, ◌⊎◌}
-use Rattle.std.proofs.Common.{arith, false, get_or, length, List, Option, Some, true}
-use Rattle.thorin_commands.specs.Cause.{Bad, IsNotTaken, IsUnfinished, Reasons, Unfinished}
-use Rattle.thorin_commands.specs.Warned.{AreLacks, IsNamedLine, TellsNamed, TellsTaken, TellsTaking}
-use Rattle.thorin_commands.specs.Warned.{TellsUnsplit, TellUnsplitBy}
-use Rattle.thorin_commands.specs.Warned.{names, TellsMacros, TellUnsplit}
-use Rattle.thorin_commands.specs.Warned.{named_line, TellsAdded}
-use Rattle.{std.specs.Io.KnownBytes.Appends}
-use Rattle.thorin_commands.specs.Cause.{Archive, Cause}
-use Rattle.thorin_errors.specs.declared.error.Error.{Error, TheVariants.NoOutputObjectCreated}
-use Rattle.std.proofs.lemmas.List.{append-nil, append_assoc, map-append, take_more}
-use Rattle.thorin_commands.specs.declared.packing.{Packing.Packing}
-use Rattle.thorin_commands.specs.Opened.{added_in, TookAll, TookNone, unit_count}
-use Rattle.thorin_commands.specs.Warned.{InOrder, InTurn, path_of, TellsLeft}
-use Rattle.thorin_commands.specs.Packing.{AreAsked, manner_of}
 use Rattle.dwp_table.specs.declared.object.DebugTypeSignature.{DebugTypeSignature}
-use Rattle.thorin_print.specs.{Answers.Outcome, Answers.Prints, Told.taken_line}
-use Rattle.thorin_commands.specs.Made.{IsMade, IsMadeFor, TookTelling}
-use Rattle.thorin_inputs.specs.declared.notes.Lack.{Lack, TheVariants.Types}
-use Rattle.std.proofs.Common.{[], ap, map, Ok, ℕ, ◌-◌, ◌∙◌, ◌∷◌, ◌≡◌}
-use Rattle.thorin_errors.specs.Errors.{NoOutputObjectCreated as NoneBegun}
-use Rattle.thorin_commands.specs.{Taken.Manner, Taken.Offer}
-use Rattle.thorin_join.specs.Builder.{finish_test, State}
-use Rattle.thorin_commands.proofs.Causes.{took_more}
-use Rattle.thorin_output.specs.Warnings.{IsPrinted}
-use Rattle.dwp_elf.specs.FileText.{Object as File}
+use Rattle.std.proofs.Common.{Err, false, inl, inr, length, map, sym, ◌++◌, ◌+◌, ◌-◌, ◌<◌, ◌∙◌, ◌∷◌}
+use Rattle.std.proofs.Common.{ap, Ok, [], ℕ, ◌≡◌, ◌⊎◌}
+use Rattle.std.proofs.Common.{arith, Bool, get_or, List, None, OnOk, Option, refl, Some, take, true}
 use Rattle.std.proofs.KnownBytes.{Appends-nil, Appends-trans}
-use Rattle.thorin.specs.declared.packing.Input.{Input}
+use Rattle.std.proofs.lemmas.List.{append-nil, append_assoc, map-append, take_more}
+use Rattle.thorin_commands.specs.Cause.{Archive, Bad, IsNotTaken, IsUnfinished, Reasons, Unfinished}
+use Rattle.thorin_commands.specs.Made.{IsMade, IsMadeFor, TookTelling}
+use Rattle.thorin_commands.specs.Opened.{added_in, TookAll, TookNone, unit_count}
+use Rattle.thorin_commands.specs.Warned.{AreLacks, InTurn, path_of, TellsUnsplit, TellUnsplitBy}
+use Rattle.thorin_commands.specs.Warned.{InOrder, named_line, TellsMacros, TellsTaking, TellUnsplit}
+use Rattle.thorin_commands.specs.Warned.{IsNamedLine, TellsAdded, TellsLeft, TellsNamed, TellsTaken}
+use Rattle.thorin_commands.specs.{Cause.Cause, Packing.AreAsked, Packing.manner_of, Warned.names}
+use Rattle.thorin_commands.specs.{declared.packing.Packing.Packing, Taken.Manner, Taken.Offer}
+use Rattle.thorin_errors.specs.declared.error.Error.{Error, TheVariants.NoOutputObjectCreated}
+use Rattle.thorin_inputs.specs.declared.notes.Lack.{Lack, TheVariants.Types}
+use Rattle.thorin_join.specs.Builder.{finish_test, State}
+use Rattle.thorin_print.specs.{Answers.Outcome, Answers.Prints, Told.taken_line}
+use Rattle.{std.specs.Io.KnownBytes.Appends, thorin_output.specs.Warnings.IsPrinted}
+use Rattle.{thorin.specs.declared.packing.Input.Input, thorin_commands.proofs.Causes.took_more}
+use Rattle.thorin_errors.specs.Errors.{NoOutputObjectCreated as NoneBegun}
+use Rattle.dwp_elf.specs.FileText.{Object as File}
 
 -- ---- one text after the other
 
@@ -58,8 +52,7 @@ more_behind text line front rest e = ap (λ t. t ++ line) e ∙ append_assoc fro
 module _ {A B : Type 0} (P : A → B → List ℕ → Type 0) where
   pub turn_more : (xs : List A) (bs : List B) (x : A) (b : B) (text line : List ℕ)
       → InTurn P xs bs text → P x b line → InTurn P (xs ++ x ∷ []) (bs ++ b ∷ []) (text ++ line)
-  turn_more [] [] x b text line h p =
-      (line, [], p, refl, ap (λ t. t ++ line) h ∙ one_line line)
+  turn_more [] [] x b text line h p = (line, [], p, refl, ap (λ t. t ++ line) h ∙ one_line line)
   turn_more (y ∷ xs) (c ∷ bs) x b text line h p =
       (h.0, h.1 ++ line, h.2, turn_more xs bs x b h.1 line h.3 p, more_behind text line h.0 h.1 h.4)
   turn_more _ _ x b text line h p = absurd h

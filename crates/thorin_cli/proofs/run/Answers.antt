@@ -1,9 +1,7 @@
 use Rattle.std.proofs.Common.{ap, inr, map, refl, rules}
-use Rattle.std.specs.Prelude.{IsSome}
-use Rattle.thorin_print.specs.Watching.{LacksLine}
-use Rattle.thorin_terminal.specs.Watching.{failure_of}
-use Rattle.thorin_arguments.specs.Asked.{words_in}
-use Rattle.thorin_cli.proofs.{Ran.ran, Told.unread}
+use Rattle.{std.specs.Prelude.IsSome, thorin_cli.proofs.Ran.ran}
+use Rattle.{thorin_arguments.specs.Asked.words_in, thorin_terminal.specs.Watching.failure_of}
+use Rattle.{thorin_cli.proofs.Told.unread, thorin_print.specs.Watching.LacksLine}
 use Rattle.thorin_cli.proofs.run.Goals as goal
 
 pub returns-in-Ok : goal.returns-in-Ok

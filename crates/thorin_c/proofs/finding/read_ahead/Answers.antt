@@ -1,6 +1,5 @@
-use Rattle.thorin_c.{proofs.Lists.status_left, specs.Finding.found_as}
-use Rattle.std.proofs.lemmas.List.{take-set-le}
-use Rattle.std.proofs.Common.{arith, ◌∙◌}
+use Rattle.{std.proofs.Common.arith, thorin_c.specs.Finding.found_as, std.proofs.Common.◌∙◌}
+use Rattle.{std.proofs.lemmas.List.take-set-le, thorin_c.proofs.Lists.status_left}
 use Rattle.thorin_c.proofs.finding.read_ahead.Goals as goal
 
 pub loop-i-preserved : goal.loop-i-preserved

@@ -1,7 +1,6 @@
 use Rattle.thorin_c.proofs.Files.{located, unplaced}
-use Rattle.dwp_elf_read.specs.View.{bytes_of, elf}
-use Rattle.dwp_dwarf.proofs.Terms.{None, ◌∙◌}
-use Rattle.dwp_index.specs.Firsts.{found_in}
+use Rattle.{dwp_dwarf.proofs.Terms.None, dwp_elf_read.specs.View.elf, dwp_dwarf.proofs.Terms.◌∙◌}
+use Rattle.{dwp_elf_read.specs.View.bytes_of, dwp_index.specs.Firsts.found_in}
 use Rattle.thorin_c.proofs.opening.place.Goals as goal
 
 pub returns-in_default-clause-content : goal.returns-in_default-clause-content

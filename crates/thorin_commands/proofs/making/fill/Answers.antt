@@ -1,10 +1,9 @@
-use Rattle.thorin_commands.proofs.Warned.{taking_begins, taking_more, unsplit_by}
-use Rattle.std.proofs.Common.{[], arith, length-append, refl, rules, ◌++◌, ◌∷◌, ◌≡◌}
-use Rattle.std.proofs.lemmas.{Grind.common_steps, Result.err_from_is_err_and}
-use Rattle.std.proofs.KnownBytes.{Appends-trans}
+use Rattle.std.proofs.Common.{arith, length-append, refl, rules, [], ◌++◌, ◌∷◌, ◌≡◌}
+use Rattle.std.proofs.lemmas.{List.take_all, List.take_more, Result.err_from_is_err_and}
+use Rattle.std.proofs.{KnownBytes.Appends-trans, lemmas.Grind.common_steps}
 use Rattle.thorin.specs.declared.packing.Input.{Input, TheVariants.Object}
 use Rattle.thorin_commands.proofs.Causes.{refuses_by, stops_at}
-use Rattle.std.proofs.lemmas.List.{take_all, take_more}
+use Rattle.thorin_commands.proofs.Warned.{taking_begins, taking_more, unsplit_by}
 use Rattle.thorin_commands.proofs.making.fill.Goals as goal
 
 abbrev none : Input

@@ -1,10 +1,9 @@
-use Rattle.thorin_commands.proofs.Warned.{none_began, not_taken_no, printed_as}
-use Rattle.thorin_commands.proofs.Causes.{all_joined, by_outcome, err_by, finishing, refuses_by}
-use Rattle.thorin_commands.proofs.Causes.{taking}
-use Rattle.{std.proofs.lemmas.Result.IfOk-weaker, thorin_commands.specs.Packing.declines}
-use Rattle.thorin_join.specs.{Builder.differing_in, Builder.State, Represents.units_in}
-use Rattle.thorin_commands.specs.{Opened.left}
 use Rattle.std.proofs.Common.{ap, Bool, false, refl, true, ◌∙◌, ◌≡◌}
+use Rattle.thorin_commands.proofs.Causes.{all_joined, by_outcome, err_by, finishing, refuses_by}
+use Rattle.thorin_commands.proofs.Warned.{none_began, not_taken_no, printed_as}
+use Rattle.thorin_commands.{proofs.Causes.taking, specs.Opened.left}
+use Rattle.thorin_join.specs.{Builder.differing_in, Builder.State, Represents.units_in}
+use Rattle.{std.proofs.lemmas.Result.IfOk-weaker, thorin_commands.specs.Packing.declines}
 use Rattle.thorin_commands.proofs.making.packed_inputs.Goals as goal
 
 -- a package without the list of units that executables refer to has the same units, also those

@@ -1,7 +1,6 @@
+use Rattle.std.proofs.Common.{Ok, rules, [], ◌∷◌, ◌≡◌}
 use Rattle.thorin_commands.proofs.Causes.{alone, err_by, ran_one}
-use Rattle.std.proofs.Common.{[], Ok, rules, ◌∷◌, ◌≡◌}
-use Rattle.thorin_commands.specs.Packing.{declines}
-use Rattle.std.proofs.lemmas.Result.{on_ok_weaker}
+use Rattle.{std.proofs.lemmas.Result.on_ok_weaker, thorin_commands.specs.Packing.declines}
 use Rattle.thorin_commands.proofs.making.take.Goals as goal
 
 pub returns-in_default-clause-took : goal.returns-in_default-clause-took

@@ -1,8 +1,7 @@
+use Rattle.std.proofs.Common.{inl, inr, map, refl, rules, string_bytes, true, [], ◌≡◌}
 use Rattle.thorin_commands.proofs.Warned.{made_for, no_macros, printed_then}
-use Rattle.std.proofs.Common.{[], inl, inr, map, refl, rules, string_bytes, true, ◌≡◌}
-use Rattle.thorin_commands.specs.{Opened.added_in, Packing.asked, Packing.asks, Packing.reads}
-use Rattle.thorin_commands.specs.{Warned.TellsInputs}
-use Rattle.std.proofs.lemmas.Result.{IfOk-weaker}
+use Rattle.thorin_commands.specs.{Packing.asked, Packing.asks, Packing.reads, Warned.TellsInputs}
+use Rattle.{std.proofs.lemmas.Result.IfOk-weaker, thorin_commands.specs.Opened.added_in}
 use Rattle.thorin_commands.proofs.packing.packed.Goals as goal
 
 pub returns-in-Ok-clause-ready : goal.returns-in-Ok-clause-ready

@@ -1,9 +1,8 @@
-use Rattle.thorin_commands.proofs.{Causes.cause_for, Causes.err_by, Causes.first_of}
-use Rattle.thorin_commands.proofs.{Warned.made_for}
-use Rattle.std.proofs.Common.{[], arith, false, inr, map, None, Some, ◌++◌, ◌∷◌, ◌≡◌}
-use Rattle.thorin_commands.specs.Packing.{AreAsked, asked, asks, declines, paths_in, reads}
+use Rattle.std.proofs.Common.{arith, false, inr, map, None, Some, [], ◌++◌, ◌∷◌, ◌≡◌}
 use Rattle.std.proofs.lemmas.{Grind.common_steps, Result.IfOk-weaker}
-use Rattle.thorin_commands.specs.Warned.{TellsTaken}
+use Rattle.thorin_commands.proofs.Causes.{cause_for, err_by, first_of}
+use Rattle.thorin_commands.specs.Packing.{AreAsked, asked, asks, declines, paths_in, reads}
+use Rattle.thorin_commands.{proofs.Warned.made_for, specs.Warned.TellsTaken}
 use Rattle.thorin_commands.proofs.packing.packed_unsplit.Goals as goal
 
 pub returns : goal.returns

@@ -1,6 +1,5 @@
-use Rattle.std.proofs.Common.{refl}
-use Rattle.thorin_print.specs.declared.output.Failure.TheVariants.{Memory}
 use Rattle.thorin_cli.{proofs.Told.reported, specs.Programs.system}
+use Rattle.{std.proofs.Common.refl, thorin_print.specs.declared.output.Failure.TheVariants.Memory}
 use Rattle.thorin_cli.proofs.program.ProgramCommands.lack_memory.Goals as goal
 
 pub returns-clause-does : goal.returns-clause-does
