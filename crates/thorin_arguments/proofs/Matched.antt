@@ -3,16 +3,15 @@ use Rattle.clap.specs.declared.error.kind.ErrorKind.TheVariants as kinds
 use Rattle.std.proofs.Common.{ap, Bool, inl, inr, refl, sym, true, [], ℕ, ◌↔◌, ◌∙◌, ◌≡◌, ◌≢◌, ◌⊎◌}
 use Rattle.std.proofs.Common.{Err, false, is_some, IsTrue, List, None, Ok, Option, Some, subst}
 use Rattle.clap.specs.Simple.{App, HasMatchesOf, matches_of, subcommand_of, subcommand_rows_of}
-use Rattle.thorin_arguments.specs.Grammar.{AreMatched, AreMatchesOf, IsLine, IsText, read_words}
+use Rattle.thorin_arguments.specs.Grammar.{AreMatchesOf, IsLine, IsText, read_words}
 use Rattle.clap.proofs.{OnLiterals.clap_on_literals, WalkLemmas.both}
 use Rattle.clap.specs.{declared.error.Error.Error, declared.parser.matches.ArgMatches.ArgMatches}
-use Rattle.clap.specs.{declared.error.kind.ErrorKind.ErrorKind, Faults.is_simple_and_free, Walk.Row}
+use Rattle.clap.specs.{declared.error.kind.ErrorKind.ErrorKind, Faults.is_simple_and_free}
 use Rattle.clap.specs.{Faults.fault_of, Kinds.HasKind, Simple.is_simple, Walk.Text, Words.found_of}
 use Rattle.clap.specs.{Kinds.IsAmong, Walk.rows_of, Words.kind_of}
 use Rattle.thorin_arguments.specs.{Grammar.peer, Grammar.thorin, Peers.peer_of, Whole.is_of_llvm}
 use Rattle.thorin_arguments.specs.Reading.{are_wrong, AreReadAs, IsReadAs, IsTested, IsUnread}
-use Rattle.thorin_arguments.specs.Asked.{Asks, Call, Does, IsCallBy, IsCallOf, IsStatusOf}
-use Rattle.thorin_arguments.specs.Asked as calls
+use Rattle.thorin_arguments.specs.Asked.{Call, Does, IsCallBy, IsCallOf}
 
 free : (named : Option Text) (app : App) → IsLine named app → is_simple_and_free app ≡ true
 unfolding clap_on_literals peer thorin
@@ -99,40 +98,7 @@ by_stream b k h = (
 
 module _ {S : Type 0} (does : S → Call → ℕ → S → Type 0) (named : Option Text) (line : List Text)
     (old new : S) (status : ℕ) where
-  pub does_asked : (rows : List Row) (command : Option (Text × List Row))
-      → AreMatched named false line rows command
-      → Does does (Asks (is_some named) rows command) old status new
-      → Does does (IsCallBy named line) old status new
-  does_asked rows command h (call, a, s, d) = (call, inr (rows, command, h, a), s, d)
-
   -- by the program's name
   pub by_name : named ≡ peer_of line → Does does (IsCallBy named line) old status new
       → Does does (IsCallOf line) old status new
   by_name is d = subst (λ n. Does does (IsCallBy n line) old status new) is d
-
-  module _ (e : Error) (h : IsUnread named line e) (other : kind_of e ≢ kinds.OutOfMemory) where
-    pub does_refuse : ¬ IsText (kind_of e) → IsStatusOf calls.Refuses status
-        → does old calls.Refuses status new → Does does (IsCallBy named line) old status new
-    does_refuse n s d = (
-      calls.Refuses,
-      inl (elim h [
-        | inl k ↦ absurd (other k)
-        | inr (inl t) ↦ absurd (n t.0)
-        | inr (inr r) ↦ r.1
-      ]),
-      s,
-      d,
-    )
-
-    pub does_show : IsText (kind_of e) → IsStatusOf calls.Shows status
-        → does old calls.Shows status new → Does does (IsCallBy named line) old status new
-    does_show t s d = (
-      calls.Shows,
-      inl (elim h [
-        | inl k ↦ absurd (other k)
-        | inr (inl a) ↦ a.1
-        | inr (inr r) ↦ absurd (r.0 t)
-      ]),
-      s,
-      d,
-    )

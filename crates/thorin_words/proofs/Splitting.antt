@@ -1,8 +1,8 @@
 -- Reading words byte by byte: what was read of a word stands in front of what is left of it.
 use Rattle.std.proofs.Common.{append-nil, append_assoc, arith, Bool, drop, get_or, List, refl, Some}
-use Rattle.std.proofs.Common.{false, length, not, sym, true, ℕ, ◌&&◌, ◌++◌, ◌+◌, ◌<◌, ◌∷◌, ◌≡◌, ◌≤◌}
+use Rattle.std.proofs.Common.{false, length, not, true, [], ℕ, ◌&&◌, ◌++◌, ◌+◌, ◌<◌, ◌∷◌, ◌≡◌, ◌≤◌}
 use Rattle.std.proofs.lemmas.{Bool.false≢true, List.drop_all, List.drop_more}
-use Rattle.std.{specs.Prelude.if◌then◌else◌, proofs.Common.[]}
+use Rattle.std.specs.Prelude.{if◌then◌else◌}
 use Rattle.thorin_words.specs.Words.{behind, escaped, is_between, put, quoted, words_from, words_of}
 use Rattle.thorin_words.specs.declared.words.LexerState.TheVariants.{Between, Inside}
 use Rattle.thorin_words.specs.{declared.words.LexerState.LexerState, Words.keeps}
@@ -12,9 +12,6 @@ abbrev pub prefix : List ℕ → List (List ℕ) → List (List ℕ)
 prefix word [] = []
 prefix word (first ∷ rest) = (word ++ first) ∷ rest
 
-prefix-nothing : (words : List (List ℕ)) → prefix [] words ≡ words
-prefix-nothing words = grind arith
-
 put-prefix : (byte : ℕ) (word : List ℕ) (words : List (List ℕ)) → put byte (prefix word words) ≡
     prefix (byte ∷ word) words
 put-prefix byte word words = grind arith
@@ -23,7 +20,7 @@ put-prefix byte word words = grind arith
 words_from-escaped : (word rest : List ℕ)
     → words_from (Inside (Some 34)) (escaped word ++ rest) ≡ prefix word
     (words_from (Inside (Some 34)) rest)
-words_from-escaped [] rest = sym (prefix-nothing _)
+words_from-escaped [] rest = grind arith
 words_from-escaped (byte ∷ word) rest = rw (words_from-escaped word rest) (put-prefix byte word _)
 
 pub from_quoted : (words : List (List ℕ)) → words_from Between (quoted words) ≡ words

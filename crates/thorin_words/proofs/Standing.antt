@@ -1,13 +1,14 @@
 -- What words stand for, while they are read one after another.
 use Rattle.std.proofs.Common.{append-nil, append_assoc, arith, Global, IsUtf8, Option, string_bytes}
-use Rattle.std.proofs.Common.{drop, false, get_or, List, refl, Some, String, subst, take, Vec, ◌++◌}
-use Rattle.std.proofs.Common.{length, map, Ok, sym, [], ℕ, ◌+◌, ◌<◌, ◌∷◌, ◌≡◌, ◌≤◌}
+use Rattle.std.proofs.Common.{drop, Err, false, List, refl, Result, Some, String, subst, take, ◌++◌}
+use Rattle.std.proofs.Common.{get_or, length, map, Ok, sym, Vec, [], ℕ, ◌+◌, ◌<◌, ◌∷◌, ◌≡◌}
 use Rattle.std.proofs.lemmas.List.{drop_more, length-map, map-append, take-map}
+use Rattle.thorin_words.specs.Responses.{AreRead, IsPlain, Itself, Leaves, Nothing, Outcome, Stands}
 use Rattle.thorin_words.specs.Responses.{Costs, Inner, is_among, Later, most_deep, Within, words_in}
-use Rattle.thorin_words.specs.Responses.{IsPlain, Itself, Leaves, Nothing, Outcome, Refuses, Stands}
-use Rattle.thorin_words.specs.Responses.{after, Deep, End, File, Here, Named, Plain, Stops, Word}
+use Rattle.thorin_words.specs.Responses.{after, Deep, End, File, Here, Named, Plain, Refuses, Stops}
+use Rattle.thorin_words.specs.Words.{words_of}
 use Rattle.thorin_words.specs.declared.responses.{Allowance.Allowance, ResponseError.ResponseError}
-use Rattle.{std.proofs.Math.Seq.take-append_seam, thorin_words.specs.Words.words_of}
+use Rattle.{std.proofs.Math.Seq.take-append_seam, thorin_words.specs.Responses.Word}
 use Rattle.thorin_words.specs.declared.responses.ResponseError.TheVariants as errors
 
 -- ---- lists of words and of names
@@ -16,10 +17,6 @@ module _ (old new : Vec (String Global) Global) (added : String Global)
     (more : new.items ≡ old.items ++ added ∷ []) where
   pub named : words_in new ≡ words_in old ++ string_bytes added ∷ []
   named = rw (more, map-append) refl
-
-  pub pushed : (word : List ℕ) → string_bytes added ≡ word
-      → words_in new ≡ words_in old ++ word ∷ []
-  pushed word is = rw (named, is) refl
 
   pub alone : (word : List ℕ) → old.items ≡ [] → string_bytes added ≡ word
       → words_in new ≡ word ∷ []
@@ -32,22 +29,10 @@ pub restored : (old all : List (String Global)) (name : List ℕ) (n : ℕ) → 
 restored old all name n count more =
     rw (← take-map, more, count, ← length-map old string_bytes, take-append_seam) refl
 
--- as many names as there are texts of names
-pub flat_texts : (names : List (String Global)) → length names < 64
-    → length (map string_bytes names) < most_deep
-flat_texts names h = rw (length-map names string_bytes) h
-
-pub deep_texts : (names : List (String Global)) → 64 ≤ length names
-    → most_deep ≤ length (map string_bytes names)
-deep_texts names h = rw (length-map names string_bytes) h
-
 -- ---- a word
 
 after-after : (a b : List (List ℕ)) (out : Outcome) → after (a ++ b) out ≡ after a (after b out)
 after-after a b out = grind (arith, append_assoc)
-
-after-none : (out : Outcome) → after [] out ≡ out
-after-none out = grind arith
 
 -- words that cost just that much
 cost : {offer : List ℕ → Option (List ℕ) → Type 0} {words : List (List ℕ)} {n n' m m' : ℕ}
@@ -99,10 +84,16 @@ module _ (offer : List ℕ → Option (List ℕ) → Type 0) (fails : List ℕ �
       (is : word ≡ 64 ∷ name) (fresh : is_among names name ≡ false)
       (offered : offer name (Some text)) (fewer : opened.files + 1 ≡ before.files)
       (less : opened.bytes + length text ≡ before.bytes) (flat : length names < most_deep) where
-    pub filed : (old new : List (List ℕ)) (now : Allowance)
-        → Leaves offer fails (names ++ name ∷ []) (words_of text) [] old new opened now
-        → (rest : List (List ℕ)) → Leaves offer fails names (word ∷ rest) rest old new before now
-    filed old new now inner rest = record {
+    costs_inside : {count size others more : ℕ} {rest : List (List ℕ)}
+        → Costs offer (words_of text) count size → Costs offer rest others more
+        → Costs offer (word ∷ rest) (1 + (count + others)) (length text + (size + more))
+    costs_inside costs more = rw is (Named name text _ _ _ _ _ offered costs more)
+
+    pub filed : (old new : List (List ℕ)) (result : Result Allowance ResponseError)
+        → AreRead offer fails (names ++ name ∷ []) (words_of text) [] old new opened result
+        → (rest : List (List ℕ)) → AreRead offer fails names (word ∷ rest) rest old
+        new before result
+    filed old new (Ok now) inner rest = record {
       own = inner.own;
       files = 1 + inner.files;
       bytes = length text + inner.bytes;
@@ -112,30 +103,20 @@ module _ (offer : List ℕ → Option (List ℕ) → Type 0) (fails : List ℕ �
       stands = λ out stands. rw is (File names rest name text inner.own out fresh offered flat
           (rw (← append-nil inner.own) (inner.stands (Ok []) (End _))) stands);
       meets = λ e meets. Later word rest meets;
-      costs = λ count size costs. rw is (cost (omega arith) (omega arith)
-          (Named name text rest (inner.files + 0) (inner.bytes + 0) count size offered
-          (inner.costs 0 0 (Nothing [])) costs));
+      costs = λ count size costs. cost (omega arith) (omega arith)
+          (costs_inside (inner.costs 0 0 (Nothing [])) costs);
     }
-
-    costs_inside : (count size : ℕ) → Costs offer (words_of text) count size
-        → (rest : List (List ℕ)) → Costs offer (word ∷ rest) (1 + count) (length text + size)
-    costs_inside count size costs rest = rw is (cost (omega arith) (omega arith)
-        (Named name text rest count size 0 0 offered costs (Nothing rest)))
-
-    -- one whose words can't be told
-    pub inner : (e : ResponseError)
-        → Refuses offer fails (names ++ name ∷ []) opened.files opened.bytes (words_of text) e
-        → (rest : List (List ℕ))
-        → Refuses offer fails names before.files before.bytes (word ∷ rest) e
-    inner (errors.Inside other) k rest = rw is (Inner names rest name text _ fresh offered flat k)
-    inner (errors.TooDeep other) k rest = rw is (Inner names rest name text _ fresh offered flat k)
-    inner errors.Unreadable k rest = rw is (Within name text rest offered k)
-    inner errors.NotUtf8 k rest = rw is (Within name text rest offered k)
-    inner errors.TooMany (count, size, costs, many) rest =
-        (_, _, costs_inside count size costs rest, omega (arith, many, fewer))
-    inner errors.TooLong (count, size, costs, long) rest =
-        (_, _, costs_inside count size costs rest, omega (arith, long, less))
-    inner errors.Memory k rest = tt
+    filed old new (Err (errors.Inside other)) k rest =
+        rw is (Inner names rest name text _ fresh offered flat k)
+    filed old new (Err (errors.TooDeep other)) k rest =
+        rw is (Inner names rest name text _ fresh offered flat k)
+    filed old new (Err errors.Unreadable) k rest = rw is (Within name text rest offered k)
+    filed old new (Err errors.NotUtf8) k rest = rw is (Within name text rest offered k)
+    filed old new (Err errors.TooMany) (count, size, costs, many) rest =
+        (_, _, costs_inside costs (Nothing rest), omega (arith, many, fewer))
+    filed old new (Err errors.TooLong) (count, size, costs, long) rest =
+        (_, _, costs_inside costs (Nothing rest), omega (arith, long, less))
+    filed old new (Err errors.Memory) k rest = tt
 
 -- ---- words one after another
 
@@ -149,7 +130,7 @@ begin {old = old} = record {
   added = sym (append-nil old);
   fewer = omega arith;
   less = omega arith;
-  stands = λ out stands. rw (after-none out) stands;
+  stands = λ out stands. let same : after [] out ≡ out = grind arith in rw same stands;
   meets = λ e meets. meets;
   costs = λ count size costs. cost (omega arith) (omega arith) costs;
 }

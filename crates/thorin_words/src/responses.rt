@@ -166,9 +166,9 @@ fn add_word<F: ResponseFiles>(
         Some((name, text, inside)) => {
             let before = names.len();
             names.push(name)?;
-            let left = add_text(files, text.as_slice(), names, inside, all)?;
+            let result = add_text(files, text.as_slice(), names, inside, all);
             names.truncate(before);
-            Ok(left)
+            result
         }
     }
 }
@@ -203,7 +203,6 @@ fn add_text<F: ResponseFiles>(
 
 /// The file that a word names inside the files of these names: its name, its text, and what is left
 /// after it. None where the word stands for itself.
-#[tactic(auto, using(crate::proofs::Standing::flat_texts, crate::proofs::Standing::deep_texts))]
 fn open_word<F: ResponseFiles>(
     files: &F,
     alloc: Global,

@@ -72,7 +72,7 @@ fn is_mark(byte: u8) -> bool
 /// quotation mark, `'` or `"`, takes what stands up to the next one of its kind into the word, and
 /// a backslash the byte behind it, also between quotation marks. The text's end ends all. Errors:
 /// want of memory.
-#[tactic(auto, unfolding(crate::specs::Words::words_of))]
+#[tactic(auto, using(crate::proofs::Splitting::anew, crate::proofs::Splitting::at_end, crate::proofs::Splitting::further), unfolding(crate::specs::Words::words_of))]
 pub(crate) fn next_word(
     text: &[u8],
     start: usize,

@@ -1,7 +1,7 @@
 use Rattle.std.proofs.Common.{rules, arith, refl, ◌∙◌}
 use Rattle.thorin_words.specs.Responses.{words_in}
-use Rattle.thorin_words.proofs.Standing.{begin, onward, ended, stopped_at, filed, inner, refused}
-use Rattle.thorin_words.proofs.Standing.{itself, named, pushed, restored, spoilt, unread}
+use Rattle.thorin_words.proofs.Standing.{begin, onward, ended, stopped_at, filed, refused}
+use Rattle.thorin_words.proofs.Standing.{itself, named, restored, spoilt, unread}
 use Rattle.thorin_words.proofs.responses.+responses.Goals as goal
 
 pub add_text-loop-word-init : goal.add_text-loop-word-init
@@ -58,33 +58,20 @@ add_word-returns-in_err-left-in-None-clause-read g t c = λ rest.
 pub add_word-returns-in_ok-push-in-None-clause-read :
     goal.add_word-returns-in_ok-push-in-None-clause-read
 add_word-returns-in_ok-push-in-None-clause-read g t c =
-    itself _ _ _ _ _ _ _ _ (rw c.in-None.is at c.in_ok-open_word.ensures) (grind (arith, pushed))
+    itself _ _ _ _ _ _ _ _ (rw c.in-None.is at c.in_ok-open_word.ensures) (grind (arith, named))
     c.in_ok-left-in-None.ensures.files c.in_ok-left-in-None.ensures.bytes
 
-pub add_word-returns-in_err-left-in-Some-clause-read :
-    goal.add_word-returns-in_err-left-in-Some-clause-read
-add_word-returns-in_err-left-in-Some-clause-read g t c = λ rest.
-    let opens = rw (c.in-Some.is, c.as_slice.ensures.value) at c.in_ok-open_word.ensures in
-    let more = named c.args.names.now c.push-in-Some.new.self c.in-Some.name
-    c.in_ok-push-in-Some.ensures.items in
-    let stop = inner (g.F.ResponseFiles.offer c.args.files.now)
-    (g.F.ResponseFiles.fails c.args.files.now) (words_in c.args.names.now) c.args.word.now _ _
-    c.args.left c.in-Some.inside opens.0 opens.1 opens.2 opens.3 opens.4 opens.5
-    c.in_err-left-in-Some.field-0.0
-    (rw (more, c.as_slice-in-Some.ensures.value) at c.in_err-left-in-Some.ensures.read) rest in
-    search rules
-
-pub add_word-returns-in_ok-left-in-Some-clause-read :
-    goal.add_word-returns-in_ok-left-in-Some-clause-read
-add_word-returns-in_ok-left-in-Some-clause-read g t c =
+pub add_word-returns-in_ok-push-in-Some-clause-read :
+    goal.add_word-returns-in_ok-push-in-Some-clause-read
+add_word-returns-in_ok-push-in-Some-clause-read g t c =
     let opens = rw (c.in-Some.is, c.as_slice.ensures.value) at c.in_ok-open_word.ensures in
     let more = named c.args.names.now c.push-in-Some.new.self c.in-Some.name
     c.in_ok-push-in-Some.ensures.items in
     filed _ _ _ _ _ _ _ _ opens.0 opens.1 opens.2 opens.3 opens.4 opens.5 _ _ _
-    (rw (more, c.as_slice-in-Some.ensures.value) at c.in_ok-left-in-Some.ensures.read)
+    (rw (more, c.as_slice-in-Some.ensures.value) at c.add_text-result.ensures.read)
 
-pub add_word-returns-in_ok-left-in-Some-clause-names :
-    goal.add_word-returns-in_ok-left-in-Some-clause-names
-add_word-returns-in_ok-left-in-Some-clause-names g t c =
+pub add_word-returns-in_ok-push-in-Some-clause-names :
+    goal.add_word-returns-in_ok-push-in-Some-clause-names
+add_word-returns-in_ok-push-in-Some-clause-names g t c =
     let more = named c.args.names.now c.push-in-Some.new.self c.in-Some.name
     c.in_ok-push-in-Some.ensures.items in grind (arith, restored, more)
