@@ -271,12 +271,17 @@ module _ (order : Endianness) (place : UnitSection) where
       (units_alone order place unit bytes k h) in
       let moved = unit-moves order place own more at.0 s.0.0 s.0.1 s.1 in
       let same : moved.unit ≡ unit = ap (λ (x : Header × Input). x.0)
-      (same-ok _ _ (sym (rw whole_is at moved.read) ∙ at.3)) in
-      let whole = sym (ap (λ (i : Input). i.bytes) (rw same at moved.whole)) in
-      let shifted = rw same at moved.shifted in
-      let five = λ (is : place ≡ places.Types). unit-five i at.2 unit
-      (ap (λ p. unit_at p i) (sym is) ∙ at.3) in
-      (search (s.1, whole, shifted), five)
+      (same-ok _ _ (sym (rw whole_is at moved.read) ∙ at.3)) in (
+        record {
+          alone = s.0.0;
+          rest = s.0.1;
+          read = s.1;
+          whole = sym (ap (λ (i : Input). i.bytes) (rw same at moved.whole));
+          behind = at.0;
+          shifted = rw same at moved.shifted;
+        },
+        λ is. unit-five i at.2 unit (ap (λ p. unit_at p i) (sym is) ∙ at.3),
+      )
 
 -- where a unit goes to it is read alone
 pub goes-alone : (order : Endianness) (place : UnitSection) (name : DwarfObject) (unit : Header)
