@@ -18,18 +18,18 @@ use Rattle.thorin_check.specs.Checking.{TellsSlot, TellsSlots, TellsStringsOfAll
 use Rattle.thorin_check.specs.Faults.{ArePast, is_of, IsNamed, IsUnnamed, TellsStringsOf, TellsUnit}
 use Rattle.thorin_check.specs.Faults.{is_from, row_fault, TellsRowsOf}
 use Rattle.thorin_check.specs.Gathered.{IsGathered, IsGatheredIn, IsOfUnit, TellsListed, TellsSeen}
-use Rattle.thorin_check.specs.Rendering.{fault_text, FaultValue}
 use Rattle.thorin_check.specs.Strings.{HasOffsets, IsBehind, IsRangeOfOne, number_of, ShareNone}
 use Rattle.thorin_check.specs.Telling.{counted_on, ForEach, IsFault, Progress, Tells, TellsOr, Told}
 use Rattle.thorin_check.specs.declared.{strings.StringRange.StringRange, units.Seen.Seen}
-use Rattle.thorin_check.specs.{Apart.AreApart, Telling.InTurn, Telling.Is}
+use Rattle.thorin_check.specs.{Apart.AreApart, Rendering.FaultValue, Telling.InTurn, Telling.Is}
 use Rattle.thorin_check.specs.{Gathered.GoesOn, Gathered.Listed, Texts.IsTextOf, Texts.TellsText}
 use Rattle.thorin_find.specs.Listing.{place_by, place_of_line}
+use Rattle.thorin_print.proofs.Printed.{grown, none_grown}
 use Rattle.thorin_print.specs.Answers.{Grows, Outcome, Prints}
 use Rattle.thorin_print.specs.declared.{form.Form.Form, output.Failure.Failure}
-use Rattle.{dwp_base.proofs.Bools.both, std.specs.Ordering.nat_cmp, std.specs.Result.IsErrAnd}
-use Rattle.{std.proofs.lemmas.Bool.cases_lt, thorin_print.proofs.Printed.grown, std.proofs.Common.ℕ}
+use Rattle.{dwp_base.proofs.Bools.both, std.proofs.lemmas.Bool.cases_lt, std.specs.Ordering.nat_cmp}
 use Rattle.{std.proofs.lemmas.Grind.flat_map-append, thorin_check.proofs.Packages.has_strings}
+use Rattle.{std.specs.Result.IsErrAnd, thorin_check.specs.Rendering.fault_text, std.proofs.Common.ℕ}
 
 -- what the exit of a `?` answers
 pub exit_is : {T E : Type 0} {e : E} {r : Result T E} → IsErrAnd r (λ y. y ≡ e) → r ≡ Err e
@@ -53,6 +53,9 @@ counted_from n (fault ∷ faults) fits = grind (arith, counted_from (min (n + 1)
 -- none, where nothing was done
 pub none_told : (P : List FaultValue → Type 0) → P [] → (a : Progress) → Told P a a
 none_told P none a = search (rules, Appends-nil, append-nil)
+
+-- what is behind faults that were told, where nothing or no more is done
+pub ruleset exits = (none_told, Appends-trans, none_grown)
 
 -- faults of one kind, and behind them those of another
 pub told_then : {P Q R : List FaultValue → Type 0} {a b c : Progress}
@@ -162,12 +165,12 @@ text_told P object text a b result is h = grind (arith)
 -- ---- rows that no slot names
 
 -- what was told of one more row: a slot names it, or no slot does
-pub row_more : (kind : List ℕ) (is_types : Bool) (slots : List UnitEntry) (row : ℕ)
-    (new : List ℕ) (faults more : List FaultValue) → All (IsUnnamed slots is_types (row + 1)) new
-    → Contains new row ⊎ IsNamed slots is_types row → TellsRowsOf kind is_types row slots faults
+pub row_more : (kind : List ℕ) (is_types : Bool) (slots : List UnitEntry) (row : ℕ) (new : List ℕ)
+    → All (IsUnnamed slots is_types (row + 1)) new → Contains new row ⊎ IsNamed slots is_types row
+    → (faults more : List FaultValue) → TellsRowsOf kind is_types row slots faults
     → Is (map (row_fault kind) new) more
     → TellsRowsOf kind is_types (row + 1) slots (faults ++ more)
-row_more kind is_types slots row new faults more unnamed this t told = record {
+row_more kind is_types slots row new unnamed this faults more t told = record {
   rows = t.rows ++ new;
   are = rw (t.are, told) (sym (map-append (row_fault kind) t.rows new));
   unnamed = All-append (IsUnnamed slots is_types (row + 1)) t.rows new (λ i d lt.
@@ -371,11 +374,7 @@ module _ (pack : Package) where
       → IsGatheredIn pack new.strings.unread.items (found pack entry.object))
       → TellsText entry.object text a b (Ok tt)
       → GoesOn pack old new × Told (TellsSeen pack new.strings.unread.items entry) a b
-  text_seen old new entry (Ok None) a b is on gathered h =
-      (on, told_as h (λ faults e. (rw e is, λ none. gathered refl)))
-  text_seen old new entry (Ok (Some text)) a b is on gathered h =
-      (on, told_as h (λ faults e. (rw e is, λ none. absurd (let some = rw e at none in cc))))
-  text_seen old new entry (Err cause) a b is on gathered h = absurd (let e = h.0 in cc)
+  text_seen old new entry text a b is on gathered h = grind (arith)
 
   module _ (old new : Listed)
       (kept : (range : StringRange) → IsGathered pack old range → IsGathered pack new range) where

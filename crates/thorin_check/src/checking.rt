@@ -78,7 +78,7 @@ pub(crate) struct IndexedPackage<'m, 'a> {
 
 /// Checks the units, the sections that units need and the rows, and that each split unit which the
 /// executables name is in the package.
-#[tactic(auto, using(crate::proofs::Told::none_told))]
+#[tactic(auto, using(crate::proofs::Told::exits))]
 fn check_all<F: FileReader, O: Write>(
     files: &F,
     indexed: IndexedPackage<'_, '_>,
@@ -103,7 +103,7 @@ fn check_all<F: FileReader, O: Write>(
 }
 
 /// Prints what waits and how many units and faults there are. Answers the status.
-#[tactic(auto, using(thorin_print::proofs::Printed::none_grown))]
+#[tactic(auto, using(thorin_print::proofs::Printed::none_grown, thorin_print::proofs::Printed::flushed, std::proofs::lemmas::Bool::Decides::nat_tests))]
 fn finish<O: Write>(units: usize, faults: &mut Faults, out: &mut O) -> Result<u8, Failure>
     ensures { Finishes faults.old.form units faults.old.count (O.contents out.old)
         (string_bytes faults.old.waiting) (O.contents out.new) result }

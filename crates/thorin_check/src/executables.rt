@@ -1,4 +1,5 @@
 //! The units that executables name, in `thorin check`.
+#![tactic(auto, using(crate::proofs::Told::exits, crate::proofs::Told::text_told))]
 
 ghost use Rattle.thorin_check.specs.Faults.{longest_path, missing_faults, missing_text, TellsNamed};
 ghost use Rattle.std.specs.Prelude.{false, IfOk, length, OnOk, string_bytes, true, ◌+◌, ◌<◌, ◌≡◌};
@@ -38,7 +39,6 @@ pub struct Reading {
 }
 
 /// Each split unit that an executable names is in the package, and it names one.
-#[tactic(auto, using(thorin_print::proofs::Printed::none_grown))]
 pub(crate) fn check_executable<F: FileReader, O: Write>(
     files: &F,
     pack: &PackageFile<'_>,
@@ -123,7 +123,6 @@ fn has_room(room: &mut usize, is_free: bool, path: &str) -> bool
 
 /// A unit that an executable names is in the package; what a slot names and can't be read was told
 /// with its unit.
-#[tactic(auto, using(crate::proofs::Told::none_told, crate::proofs::Told::text_told))]
 fn check_skeleton<O: Write>(
     pack: &PackageFile<'_>,
     executable: &str,
@@ -172,7 +171,6 @@ fn tell_of<O: Write>(
 }
 
 /// Tells why an executable can't be read to its end.
-#[tactic(auto, using(thorin_print::proofs::Printed::none_grown))]
 fn tell_error<O: Write>(
     executable: &str,
     error: &Error,

@@ -202,7 +202,7 @@ impl UnreadStrings {
 /// Checks the strings of a unit of each range: these units are sorted by their string offsets, and
 /// one that has those of the one before is passed over. Where they weren't sorted, which can't be,
 /// this tells of want of memory.
-#[tactic(auto, using(crate::proofs::Told::none_told, thorin_print::proofs::Printed::none_grown))]
+#[tactic(auto, using(crate::proofs::Told::exits, crate::proofs::Told::first_none))]
 pub(crate) fn check_strings<O: Write>(
     pack: &PackageFile<'_>,
     ends: Ends,
@@ -232,7 +232,7 @@ pub(crate) fn check_strings<O: Write>(
 }
 
 /// Checks each string of a unit.
-#[tactic(auto, using(crate::proofs::Told::none_told))]
+#[tactic(auto, using(crate::proofs::Told::exits))]
 fn check_strings_of<O: Write>(
     pack: &PackageFile<'_>,
     ends: Ends,

@@ -1,4 +1,5 @@
 //! The sections of abbreviations and of strings, the indexes and their rows, in `thorin check`.
+#![tactic(auto, using(crate::proofs::Told::exits), unfolding(crate::specs::Indexes::versions_text, crate::specs::Faults::row_text))]
 
 ghost use Rattle.std.specs.Prelude.{false, option_copied, true, ◌<◌, ◌≡◌};
 ghost use Rattle.thorin_check.specs.Indexes.{mixed_versions, section_faults, versions_faults};
@@ -19,7 +20,6 @@ use thorin_print::Failure;
 
 /// The sections of abbreviations and of strings aren't lacking, both indexes have one version and a
 /// column for each section that has bytes, and a slot names each row of both.
-#[tactic(auto, using(crate::proofs::Told::none_told))]
 pub(crate) fn check_tables<O: Write>(
     indexed: IndexedPackage<'_, '_>,
     faults: &mut Faults,
@@ -49,7 +49,6 @@ pub(crate) fn check_tables<O: Write>(
 }
 
 /// Tells what is wrong with a section, where something is.
-#[tactic(auto, using(crate::proofs::Told::none_told))]
 fn check_section<O: Write>(
     kind: SectionKind,
     is_wrong: bool,
@@ -69,7 +68,6 @@ fn check_section<O: Write>(
 }
 
 /// Both indexes have one version.
-#[tactic(auto, using(crate::proofs::Told::none_told), unfolding(crate::specs::Indexes::versions_text))]
 fn check_versions<O: Write>(
     pack: &PackageFile<'_>,
     faults: &mut Faults,
@@ -167,7 +165,6 @@ fn is_named(is_types: bool, row: u64, entries: &[UnitEntry], from: &mut usize) -
 }
 
 /// Tells that no slot names a row of an index.
-#[tactic(auto, unfolding(crate::specs::Faults::row_text))]
 fn tell_row<O: Write>(kind: &str, row: u64, faults: &mut Faults, out: &mut O) -> Result<(), Failure>
     ensures { Tells (IsFault (row_fault kind.now row)) (so_far (O.contents out.old) faults.old)
         (so_far (O.contents out.new) faults.new) result }

@@ -2,12 +2,6 @@ use Rattle.thorin_check.proofs.Told.{exit_is, stopped_behind, told_all, told_nex
 use Rattle.thorin_check.proofs.{Checked.of_printing, Checked.reading_one, Told.in_turn}
 use Rattle.thorin_check.proofs.checking.check_all.Goals as goal
 
-pub returns-in_err-check_units : goal.returns-in_err-check_units
-returns-in_err-check_units g c =
-    let stops = c.in_err-check_units.ensures in
-    let cause = of_printing (g.F.FileReader.offer c.args.files.now) _ _ stops.0 in
-    rw (exit_is c.from_residual.ensures.1) (cause, stops.1)
-
 pub returns-in_err-check_tables : goal.returns-in_err-check_tables
 returns-in_err-check_tables g c =
     let stops = c.in_err-check_tables.ensures in

@@ -5,9 +5,6 @@ use Rattle.thorin_check.proofs.Told.{exit_is, none_told, told_as, told_then}
 use Rattle.{std.specs.List.All, thorin_print.proofs.Printed.none_grown}
 use Rattle.thorin_check.proofs.strings.check_strings.Goals as goal
 
-pub loop-i-init : goal.loop-i-init
-loop-i-init g c = none_told _ (first_none _ _) _
-
 pub loop-i-preserved : goal.loop-i-preserved
 loop-i-preserved g c =
     let are : All (IsOfUnit c.args.pack.now) c.as_slice-listed.result.now =
@@ -30,6 +27,3 @@ pub returns : goal.returns
 returns g c =
     let same = rw (← c.as_slice-listed.ensures.value) at c.sort_by_key.ensures.permutation in
     told_as c.loop-i.invariant (first_all _ _ _ same c.loop-i.i _ c.loop-i-test.false)
-
-pub returns-then-not-comes_behind : goal.returns-then-not-comes_behind
-returns-then-not-comes_behind g c = stopped_behind _ c.loop-i.invariant (tt, none_grown _)

@@ -17,25 +17,23 @@ loop-row-init g c = record {
 
 pub loop-row-preserved-then-is_named : goal.loop-row-preserved-then-is_named
 loop-row-preserved-then-is_named g c = record {
-  told = told_then (λ ls ms. row_more c.args.kind.now c.args.is_types c.args.entries.now
-      c.loop-row.row [] ls ms (All-nil _) (inr (c.is_named.ensures.named c.if-is_named.true)))
-      c.loop-row.invariant.told (none_told _ refl _);
-  past = record {
-    past = λ k d lt is. let h = c.is_named.ensures.past.past k d lt is in omega arith;
-  };
+  told = told_then (row_more c.args.kind.now c.args.is_types c.args.entries.now c.loop-row.row []
+      (All-nil _) (inr (c.is_named.ensures.named c.if-is_named.true))) c.loop-row.invariant.told
+      (none_told _ refl _);
+  past = grind arith;
 }
 
 pub loop-row-preserved : goal.loop-row-preserved
 loop-row-preserved g c = record {
-  told = told_then (λ ls ms. row_more c.args.kind.now c.args.is_types c.args.entries.now
-      c.loop-row.row (c.loop-row.row ∷ []) ls ms
-      (All-cons (IsUnnamed c.args.entries.now c.args.is_types (c.loop-row.row + 1)) c.loop-row.row
-      [] (omega arith, omega arith, c.is_named.ensures.unnamed c.if-is_named.false) (All-nil _))
-      (inl (Contains-push [] c.loop-row.row)))
-      c.loop-row.invariant.told c.in_ok-tell_row.ensures;
-  past = record {
-    past = λ k d lt is. let h = c.is_named.ensures.past.past k d lt is in omega arith;
-  };
+  told = told_then (row_more c.args.kind.now c.args.is_types c.args.entries.now c.loop-row.row
+      (c.loop-row.row ∷ []) (All-cons (IsUnnamed c.args.entries.now c.args.is_types
+      (c.loop-row.row + 1)) c.loop-row.row [] (
+        omega arith,
+        omega arith,
+        c.is_named.ensures.unnamed c.if-is_named.false,
+      ) (All-nil _))
+      (inl (Contains-push [] c.loop-row.row))) c.loop-row.invariant.told c.in_ok-tell_row.ensures;
+  past = grind arith;
 }
 
 pub returns-in_err-tell_row : goal.returns-in_err-tell_row
