@@ -4,21 +4,21 @@ use Rattle.dwp_bytes.specs.StringOffsets.{entry_in, string_in}
 use Rattle.dwp_index.specs.Package.{found, FoundUnit, Package, package_of}
 use Rattle.dwp_index.specs.declared.{error.PackageError.PackageError, units.UnitEntry.UnitEntry}
 use Rattle.std.proofs.Common.{Bool, Err, false, inl, length, suc, sym, zero, [], ◌+◌, ◌≢◌, ◌≤◌, ◌⊎◌}
-use Rattle.std.proofs.Common.{ap, Bor, codes, inr, Option, refl, Result, Some, subst, ◌∙◌, ◌∷◌, ◌≡◌}
+use Rattle.std.proofs.Common.{ap, Bor, codes, inr, Option, refl, Result, Some, subst, ◌∷◌, ◌≡◌}
 use Rattle.std.proofs.Common.{append-nil, append_assoc, arith, get_or, List, Ok, OnOk, ℕ, ◌++◌, ◌<◌}
 use Rattle.std.proofs.lemmas.List.Elements.{All-cons, All-contains, All-nil}
 use Rattle.std.proofs.lemmas.List.FromFn.{get_or-map-range_with_len, length-map-range_with_len}
 use Rattle.std.proofs.lemmas.List.Sorted.{All-permutation, Contains-permutation, length_permutation}
 use Rattle.std.proofs.lemmas.List.{length-map, nil_from_length, Sorted.IsPermutation-sym}
-use Rattle.std.proofs.{Common.None, Common.true, KnownBytes.Appends-trans, lemmas.Option.same_Some}
-use Rattle.thorin_check.proofs.Packages.{lies_in, own_once, range_ends, unit_ends}
+use Rattle.std.proofs.{Common.None, Common.true, KnownBytes.Appends-trans}
+use Rattle.thorin_check.proofs.Packages.{lies_in, of_range, own_once}
 use Rattle.thorin_check.proofs.Told.{counted_from, stopped_behind, then_or, told_as}
 use Rattle.thorin_check.specs.Checking.{Checks, ChecksIndexed, FailsOne, status_of, TellsExecutable}
 use Rattle.thorin_check.specs.Checking.{ChecksBytes, Finishes, IsOfChecking, IsOfReading, TellsSlot}
 use Rattle.thorin_check.specs.Checking.{TellsPackage, TellsStringsOfAll}
 use Rattle.thorin_check.specs.Faults.{IsBroken, room_of, row_fault, strings_of, TellsOwn, TellsUnit}
 use Rattle.thorin_check.specs.Faults.{is_bare, IsUnread, longest_path, TellsStrings, TellsStringsOf}
-use Rattle.thorin_check.specs.Faults.{long_bytes, TellsFound, TellsInRow, TellsNamed, TellsNumbered}
+use Rattle.thorin_check.specs.Faults.{long_bytes, TellsFound, TellsNamed, TellsNumbered}
 use Rattle.thorin_check.specs.Faults.{long_size, missing_faults, TellsEnd, TellsListed, TellsRowsOf}
 use Rattle.thorin_check.specs.Indexes.{column_faults, lacks_column, section_faults, versions_faults}
 use Rattle.thorin_check.specs.Sound.{Executables, HasUnitsOf, IsSound, IsSoundUnit, NameOnce, slots}
@@ -59,26 +59,18 @@ none_for_each P (x ∷ xs) h =
 -- ---- a unit
 
 module _ (pack : Package) (entry : UnitEntry) where
-  none_unread : (cause : PackageError) → IsUnread entry.object cause [] → ⊥
-  none_unread cause h = grind (arith)
-
-  looked_up : (looked : Result (Option FoundUnit) PackageError) → TellsLooked pack entry looked []
-      → (unit : FoundUnit) × (looked ≡ Ok (Some unit)) × TellsFound pack entry unit []
-  looked_up (Err cause) h = absurd (none_unread cause h)
-  looked_up (Ok None) h = absurd cc
-  looked_up (Ok (Some unit)) h = (unit, refl, h)
-
   by_own : (own : Option (Option DwarfObject)) → TellsOwn entry.object own []
       → own ≡ Some (Some entry.object)
   by_own own h = grind (arith)
 
-  whole_row : (unit : FoundUnit) (bare : Bool) → TellsInRow pack entry.object unit bare []
-      → (bare ≡ false) × (own_of entry.object unit ≡ Some (Some entry.object))
-  whole_row unit bare h = grind (arith, by_own (own_of entry.object unit))
-
   in_its_row : (unit : FoundUnit) → TellsFound pack entry unit [] → (unit.number ≡ entry.row)
       × (is_bare pack unit ≡ false) × (own_of entry.object unit ≡ Some (Some entry.object))
-  in_its_row unit h = grind (arith, whole_row unit (is_bare pack unit))
+  in_its_row unit h = grind (arith, by_own (own_of entry.object unit))
+
+  looked_up : (looked : Result (Option FoundUnit) PackageError) → TellsLooked pack entry looked []
+      → (unit : FoundUnit) × (looked ≡ Ok (Some unit)) × (unit.number ≡ entry.row)
+      × (is_bare pack unit ≡ false) × (own_of entry.object unit ≡ Some (Some entry.object))
+  looked_up looked h = grind (arith, in_its_row)
 
 -- ---- strings
 
@@ -115,8 +107,10 @@ module _ (pack : Package) (objects : List DwarfObject)
       one.object (none_for_each (λ object. TellsStringsOf object (found pack object)) objects none)
       one.is_one in
       let all = all_read_of one.unit one.object (rw one.is_found at told) in
-      unit_ends pack object unit is range has
-      (range_ends pack one.object one.unit one.is_found range one.is_range all)
+      λ i. rw (
+        ← of_range pack object unit is _ refl range has i,
+        of_range pack one.object one.unit one.is_found _ refl range one.is_range i,
+      ) (all i)
 
 -- ---- a sound unit
 
@@ -126,15 +120,14 @@ pub sound_unit : (pack : Package) (objects : List DwarfObject)
 unfolding TellsUnit
 sound_unit pack objects none entry h =
     let looked = looked_up pack entry (found pack entry.object) h.0 in
-    let row = in_its_row pack entry looked.0 looked.2 in
     let has = rw looked.1 at (h.1 refl) in
     record {
       unit = looked.0;
       is_found = looked.1;
-      in_row = row.0;
+      in_row = looked.2;
       inside = lies_in pack entry.object looked.0 looked.1;
-      has_abbreviations = row.1;
-      own = row.2;
+      has_abbreviations = looked.3;
+      own = looked.4;
       strings = strings_end pack objects none entry.object looked.0 looked.1 has;
     }
 
@@ -145,9 +138,8 @@ named_once pack all is_types a b here there is so row =
     let one = All-contains (IsSoundUnit pack) (slots pack) a all here in
     let other = All-contains (IsSoundUnit pack) (slots pack) b all there in
     let same = own_once pack is_types a.object b.object one.unit other.unit is so one.is_found
-    other.is_found (one.in_row ∙ row ∙ sym other.in_row) in
-    same_Some a.object b.object (same_Some (Some a.object) (Some b.object)
-    (sym one.own ∙ same ∙ other.own))
+    other.is_found (cc) in
+    cc
 
 -- ---- executables
 
@@ -258,10 +250,6 @@ no_fault_told offer executables pack entries by_row t =
 pub no_fault : (faults : List FaultValue) (status : ℕ) → status ≡ status_of (fault_count faults)
     → status ≡ 0 → faults ≡ []
 no_fault faults status e is = nil_from_length faults (grind (arith, nat_tests))
-
-pub some_fault : (faults : List FaultValue) (status : ℕ) → status ≡ status_of (fault_count faults)
-    → status ≡ 1 → faults ≢ []
-some_fault faults status e is none = let told = rw none at e in omega arith
 
 -- ---- units that an executable names
 
@@ -413,7 +401,7 @@ module _ (offer : Offer) (executables : Executables) where
         sound = λ good. no_fault_told offer executables pack entries by_row
             (subst (TellsPackage offer executables pack entries)
             (no_fault t.faults status status_is good) t.are);
-        faulty = some_fault t.faults status status_is;
+        faulty = λ is none. let told = rw none at status_is in omega arith;
       }
   checked pack entries a b c (Err failure) by_row formed none begun t f =
       stopped_behind c t (of_printing offer executables.paths failure f.0, f.1)

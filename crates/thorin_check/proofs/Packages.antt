@@ -2,7 +2,7 @@
 -- are read alike; the unit that a look-up finds is that of a row, whose ranges lie inside their
 -- sections; the identifiers that units' own bytes give; which strings end, as the last zero byte of
 -- all tells, and the strings of units, by the string offsets that they share.
-use Rattle.dwp_base.proofs.{Bools.by-bool, EveryKind.each, EveryKind.HoldsAll, Steps.same-ok}
+use Rattle.dwp_base.proofs.{Bools.by-bool, EveryKind.each, EveryKind.HoldsAll}
 use Rattle.dwp_base.specs.declared.section.SectionKind.TheVariants.{Abbrev, Str, StrOffsets}
 use Rattle.dwp_base.specs.declared.{endian.Endianness.Endianness, section.Contribution.Contribution}
 use Rattle.dwp_bytes.specs.StringOffsets.{entry_count, entry_in, string_at, string_in}
@@ -25,7 +25,7 @@ use Rattle.std.proofs.lemmas.{Bool.cases_lt, List.drop-take, List.get_or_default
 use Rattle.std.specs.List.{All, AllAdjacentBelow, AllPairs, Contains, list_any}
 use Rattle.thorin_check.specs.Apart.{AreApartIn, HasRange, HasRanges, IsApart, tables_by}
 use Rattle.thorin_check.specs.Gathered.{Adds, Gathers, IsGatheredIn, Lists}
-use Rattle.thorin_check.specs.Gathered.{AllEndIn, Gathered, IsGathered, IsOfUnit, Listed, string_by}
+use Rattle.thorin_check.specs.Gathered.{Gathered, IsGathered, IsOfUnit, Listed, string_by}
 use Rattle.thorin_check.specs.Overlaps.{has_units, overlap, range_by_index, slot_range}
 use Rattle.thorin_check.specs.Remembered.{bytes_at, is_in_types, numbers_of, place_in, section_by}
 use Rattle.thorin_check.specs.Strings.{HasStringsIn, HasStringsOf, IsRangeOfOne, range_by, range_of}
@@ -85,16 +85,8 @@ module _ (pack : Package) (slots : List UnitEntry) (kind : SectionKind) (ranges 
   -- of two ranges among these one is apart from the other
   placed_apart : (p q : Placed) → Contains ranges p → Contains ranges q → IsApart p q ⊎ IsApart q p
   placed_apart p q one other =
-      let is : get_or ranges one.0 p ≡ p = one.2 in
-      let so : get_or ranges other.0 p ≡ q =
-      get_or_default ranges other.0 p q other.1 ∙ other.2 in
-      let or : (one.0 < other.0) ⊎ ((one.0 ≡ other.0) ⊎ (other.0 < one.0)) = grind arith in
-      elim or [
-        | inl less ↦ inl (rw (is, so) at (apart one.0 other.0 p less other.1))
-        | inr (inl this) ↦ (let alike : p ≡ q = rw (← this, is) at so in
-            inl (rw alike (inl (refl, refl, refl))))
-        | inr (inr more) ↦ inr (rw (is, so) at (apart other.0 one.0 p more one.1))
-      ]
+      let so = get_or_default ranges other.0 p q other.1 in
+      grind (arith, so, apart one.0 other.0 p, apart other.0 one.0 p)
 
   slots_by : (a b : UnitEntry) → Contains slots a → Contains slots b → (r s : Option Contribution)
       → slot_range pack a kind ≡ r → slot_range pack b kind ≡ s → (overlap r s ≡ false)
@@ -126,8 +118,7 @@ pub first_all : (pack : Package) (slots : List UnitEntry) (kind : SectionKind) (
     (ranges : List Placed) → length slots ≤ i → HasFirst pack slots kind i ranges
     → HasRanges pack slots kind ranges
 first_all pack slots kind i ranges le has slot is range here =
-    let lt = is.1 in
-    let there = has is.0 slot (omega arith) range (rw is.2 here) in rw is.2 at there
+    rw is.2 at (has is.0 slot (omega arith) range (rw is.2 here))
 
 -- ---- the ranges of a unit
 
@@ -169,11 +160,6 @@ bytes_are bytes (Some c) inside =
     let fits : lies_inside bytes c ≡ true = grind (arith, nat_tests) in
     let back : c.offset.0 + c.size - c.offset.0 ≡ c.size = omega arith in
     rw (fits, back) (drop-take c.offset.0 c.size bytes)
-
-no_string : (order : Endianness) (encoding : Encoding) (strings : List ℕ) (i : ℕ)
-    → result_err (string_in order encoding strings [] i) ≡ None
-unfolding string_in entry_in
-no_string order encoding strings i = grind (arith, nat_tests)
 
 -- ---- the unit that is found
 
@@ -220,7 +206,7 @@ module _ (pack : Package) (object : DwarfObject) (unit : FoundUnit)
       rw (row_of_found.order, ← own, row_of_found.contents, are, abbreviations) refl
 
   -- a unit's strings are those of its string offsets
-  of_range : (c : Option Contribution) → range_in unit.row StrOffsets ≡ c
+  pub of_range : (c : Option Contribution) → range_in unit.row StrOffsets ≡ c
       → (range : StringRange) → option_map (range_by unit.encoding) c ≡ Some range → (i : ℕ)
       → string_by pack range i ≡ string_of unit i
   unfolding row_bytes string_in entry_in
@@ -229,19 +215,11 @@ module _ (pack : Package) (object : DwarfObject) (unit : FoundUnit)
       let same = same_Some (range_by unit.encoding c) range e in
       rw (← same, row_of_found.contents, row_of_found.order, there) refl
 
-  pub range_ends : (range : StringRange) → range_of unit ≡ Some range → AllEnd unit
-      → AllEndIn pack range
-  range_ends range e all i = rw (of_range _ refl range e i) (all i)
-
-  pub unit_ends : (range : StringRange) → range_of unit ≡ Some range → AllEndIn pack range
-      → AllEnd unit
-  unit_ends range e all i = rw (← of_range _ refl range e i) (all i)
-
   pub none_ends : range_of unit ≡ None → AllEnd unit
-  unfolding row_bytes
+  unfolding row_bytes string_in entry_in
   none_ends none i =
       let there : range_in unit.row StrOffsets ≡ None = grind (arith) in
-      rw there (no_string unit.order unit.encoding (content unit.contents Str) i)
+      rw there (grind (arith, nat_tests))
 
   -- it has the byte order and the sections of its package
   pub of_found : (ends : Ends) → HasEnds ends pack.order (content pack.contents Str)
@@ -268,18 +246,9 @@ own_once pack is_types a b one other is so here there same =
     let row = row_of_found pack a one here in
     let again = row_of_found pack b other there in
     let both = alike pack (range_in other.row kinds.Types) is_types a b is so in
-    let ranges : one.row ≡ other.row = same-ok one.row other.row (same_Some (Ok one.row)
-    (Ok other.row) (sym (rw (both.0, same) at row.row) ∙ again.row)) in
-    rw (
-      row.contents,
-      row.order,
-      row.bytes,
-      again.contents,
-      again.order,
-      again.bytes,
-      ranges,
-      both.1,
-    ) refl
+    let here = rw (both.0, same) at row.row in
+    let ranges : one.row ≡ other.row = cc in
+    cc
 
 -- ---- where strings end
 
@@ -362,7 +331,7 @@ module _ (pack : Package) (objects : List DwarfObject) (listed : Listed)
       → HasStringsOf pack objects unit
   gathered_in object unit is None none g = inl (none_ends pack object unit is none)
   gathered_in object unit is (Some range) has g = elim (g range has) [
-    | inl all ↦ inl (unit_ends pack object unit is range has all)
+    | inl all ↦ inl (λ i. rw (← of_range pack object unit is _ refl range has i) (all i))
     | inr there ↦ inr (range, has, others range there)
   ]
 

@@ -1,5 +1,5 @@
-use Rattle.thorin_check.proofs.Packages.{last_added, listed_added, range_ends, same_offsets}
-use Rattle.thorin_check.proofs.Packages.{gathered, of_found}
+use Rattle.thorin_check.proofs.Packages.{gathered, last_added, listed_added, of_found, of_range}
+use Rattle.thorin_check.proofs.Packages.{same_offsets}
 use Rattle.std.proofs.Common.{arith, inl, refl, sym, ◌∙◌}
 use Rattle.thorin_check.proofs.strings.UnreadStrings.add.Goals as goal
 
@@ -14,7 +14,8 @@ returns-then-all_end c = λ pack g is.
     (of_found pack c.args.object c.args.unit.now is c.args.self.now.ends g.ends) in
     gathered pack c.args.self.now c.args.unit.now c.args.object g is _ c.in-Some.ensures _ refl
     refl g.are (λ other there. there)
-    (inl (range_ends pack c.args.object c.args.unit.now is _ (sym c.in-Some.ensures) all))
+    (inl (λ i. rw (of_range pack c.args.object c.args.unit.now is _ refl _ (sym c.in-Some.ensures)
+    i) (all i)))
 
 pub returns : goal.returns
 returns c = λ pack g is.
