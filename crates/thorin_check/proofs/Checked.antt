@@ -1,6 +1,7 @@
 -- Where no fault was told, the package is sound. And what was told of the units that an executable
 -- names, and what was checked.
 use Rattle.dwp_bytes.specs.StringOffsets.{entry_in, string_in}
+use Rattle.dwp_bytes.specs.declared.error.ReadError.{ReadError}
 use Rattle.dwp_index.specs.Package.{found, FoundUnit, Package, package_of}
 use Rattle.dwp_index.specs.declared.{error.PackageError.PackageError, units.UnitEntry.UnitEntry}
 use Rattle.std.proofs.Common.{Bool, Err, false, inl, length, suc, sym, zero, [], ◌+◌, ◌≢◌, ◌≤◌, ◌⊎◌}
@@ -82,20 +83,15 @@ module _ (unit : FoundUnit) where
   one_read : (object : DwarfObject) → TellsStrings object unit [] → (i : ℕ)
       → i < string_count unit → result_err (string_of unit i) ≡ None
   one_read object h i lt =
-      let size : length (strings_of unit) ≡ string_count unit =
-      length-map-range_with_len (λ k. (k, string_of unit k)) 0 (string_count unit) in
-      let within : i < length (strings_of unit) = rw size lt in
-      let each = none_for_each (TellsNumbered object) (strings_of unit) h in
-      let is : get_or (strings_of unit) i (i, string_of unit i) ≡ (i, string_of unit i) =
-      get_or-map-range_with_len (λ k. (k, string_of unit k)) 0 (string_count unit) i i
-      (i, string_of unit i) lt (omega arith) in
-      let told = subst (λ s. TellsNumbered object s []) is (each i (i, string_of unit i) within) in
+      let each : ℕ → ℕ × Result (Option (List ℕ)) ReadError = λ k. (k, string_of unit k) in
+      let size = length-map-range_with_len each 0 (string_count unit) in
+      let is = get_or-map-range_with_len each 0 (string_count unit) i i (each i) lt (omega arith) in
+      let told = rw is at (none_for_each (TellsNumbered object) (strings_of unit) h i (each i)
+      (rw size lt)) in
       grind (arith, told)
 
   all_read_of : (object : DwarfObject) → TellsStrings object unit [] → AllEnd unit
-  all_read_of object h i =
-      let or : (i < string_count unit) ⊎ (string_count unit ≤ i) = grind arith in
-      elim or [ inl lt ↦ one_read object h i lt | inr le ↦ past_all i le ]
+  all_read_of object h i = grind (arith, past_all i, one_read object h i)
 
 module _ (pack : Package) (objects : List DwarfObject)
     (none : TellsStringsOfAll pack objects []) where
@@ -244,12 +240,6 @@ no_fault_told offer executables pack entries by_row t =
       named = λ i d lt. has_units offer executables.reading pack _
           (none_for_each _ executables.paths others.1 i d lt);
     }
-
--- ---- the status
-
-pub no_fault : (faults : List FaultValue) (status : ℕ) → status ≡ status_of (fault_count faults)
-    → status ≡ 0 → faults ≡ []
-no_fault faults status e is = nil_from_length faults (grind (arith, nat_tests))
 
 -- ---- units that an executable names
 
@@ -400,7 +390,7 @@ module _ (offer : Offer) (executables : Executables) where
         status_is = status_is;
         sound = λ good. no_fault_told offer executables pack entries by_row
             (subst (TellsPackage offer executables pack entries)
-            (no_fault t.faults status status_is good) t.are);
+            (nil_from_length t.faults (grind (arith, nat_tests))) t.are);
         faulty = λ is none. let told = rw none at status_is in omega arith;
       }
   checked pack entries a b c (Err failure) by_row formed none begun t f =
