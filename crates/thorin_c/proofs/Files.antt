@@ -1,30 +1,28 @@
 -- Looking a row up, or a unit, is looking a row up by the index of its kind. The places of sections
 -- that are read for each kind, and a package by them. Files that are decompressed, and the errors
 -- of those that aren't.
+use Rattle.dwp_base.proofs.KindsRead.{answers-each, read-all, ReadBelow}
+use Rattle.dwp_base.specs.{declared.section.SectionKind.SectionKind, Reading.Answers, Reading.◌>>=◌}
+use Rattle.dwp_base.{proofs.Steps.each-read, specs.Sections.all_kinds, specs.Sections.rank_of}
+use Rattle.dwp_decompress.specs.Result.{decompressed_of, plain_length_of}
+use Rattle.dwp_decompress.specs.declared.error.DecompressError.{DecompressError}
 use Rattle.dwp_decompress.{proofs.Sections.length_fails, specs.declared.asked.Asked.TheVariants.All}
+use Rattle.dwp_elf_read.specs.{declared.error.ReadError.ReadError, Elf.elf_of, Elf.SectionMeaning}
+use Rattle.dwp_index.specs.Contents.{content, content_among, contents_of}
+use Rattle.dwp_index.specs.Package.{found_by, index_for, row_by, row_counted, row_found, unit_found}
+use Rattle.dwp_index.specs.Package.{found_counted, Package, unit_at_row, unit_in}
+use Rattle.dwp_table.specs.{Objects.identifier_of, Probing.found_row, Probing.look_count}
+use Rattle.std.proofs.Common.{ap, inl, inr, length, Ok, Option, refl, Some, sym, ◌<◌, ◌∙◌, ◌≢◌, ◌≤◌}
+use Rattle.std.proofs.Common.{arith, drop, Err, IfOk, List, pos, Result, slice_get, take, ℕ, ℤ, ◌⊎◌}
+use Rattle.std.proofs.{Common.None, Common.rules, lemmas.Option.get_or_from_slice_get, Common.◌≡◌}
+use Rattle.thorin_c.specs.ByIndex.{inside, row_listed, row_numbered, with_header}
+use Rattle.thorin_c.specs.Finding.{as_status, of_object, present}
+use Rattle.thorin_c.specs.Opening.{bytes_at, IsPlaceIn, nowhere, place_in, sections_at}
+use Rattle.thorin_c.specs.Plain.{Decompresses, IsError, NeedsRoom, status_of, TellsError}
+use Rattle.thorin_c.specs.declared.types.{ThorinPackage.ThorinPackage, ThorinRange.ThorinRange}
+use Rattle.{dwp_base.proofs.EveryKind.value-of, dwp_units.proofs.Readings.by-result}
 use Rattle.{dwp_base.specs.ByKind.value_of, dwp_table.specs.declared.object.DwarfObject.DwarfObject}
 use Rattle.{dwp_index.specs.Index.Index, dwp_index.specs.Index.row_in, std.proofs.lemmas.Int.ints}
-use Rattle.std.proofs.Common.{ap, arith, drop, Err, find, IfOk, [], ◌<◌, ◌∙◌, ◌≡◌, ◌≢◌, ◌≤◌, ◌⊎◌}
-use Rattle.std.proofs.Common.{IfSome, inl, inr, length, List, None, Ok, Option, option_map, pos}
-use Rattle.{dwp_units.proofs.Readings.by-result, std.proofs.lemmas.Option.get_or_from_slice_get}
-use Rattle.dwp_base.{proofs.EveryKind.value-of, specs.declared.section.SectionKind.SectionKind}
-use Rattle.dwp_index.specs.Contents.{bytes_of, content, content_among, contents_of, is_of_kind}
-use Rattle.thorin_c.specs.declared.types.{ThorinPackage.ThorinPackage, ThorinRange.ThorinRange}
-use Rattle.dwp_base.{proofs.Steps.each-read, specs.Sections.all_kinds, specs.Sections.rank_of}
-use Rattle.dwp_index.specs.Package.{row_counted, row_found, unit_at_row, unit_found, unit_in}
-use Rattle.dwp_elf_read.specs.declared.{error.ReadError.ReadError, section.Section.Section}
-use Rattle.dwp_table.specs.{Objects.identifier_of, Probing.found_row, Probing.look_count}
-use Rattle.thorin_c.specs.Plain.{Decompresses, IsError, NeedsRoom, status_of, TellsError}
-use Rattle.dwp_index.specs.Package.{found_by, found_counted, index_for, Package, row_by}
-use Rattle.thorin_c.specs.Opening.{bytes_at, IsPlaceIn, nowhere, place_in, sections_at}
-use Rattle.std.proofs.Common.{refl, Result, rules, slice_get, Some, sym, take, ℕ, ℤ}
-use Rattle.thorin_c.specs.ByIndex.{inside, row_listed, row_numbered, with_header}
-use Rattle.dwp_decompress.specs.declared.error.DecompressError.{DecompressError}
-use Rattle.dwp_elf_read.specs.{Elf.elf_of, Elf.SectionMeaning, View.section}
-use Rattle.dwp_decompress.specs.Result.{decompressed_of, plain_length_of}
-use Rattle.dwp_base.proofs.KindsRead.{answers-each, read-all, ReadBelow}
-use Rattle.thorin_c.specs.Finding.{as_status, of_object, present}
-use Rattle.dwp_base.specs.Reading.{Answers, ◌>>=◌}
 use Rattle.dwp_decompress.specs.declared.error.DecompressError.TheVariants as errors
 
 module _ (pack : Package) (object : DwarfObject) where
@@ -63,30 +61,6 @@ abbrev pub IsPlaceOf : List SectionMeaning → List ℕ → SectionKind → Resu
     → Type 0
 IsPlaceOf sections bytes kind place =
     Answers (bytes_at bytes) place (content_among sections kind) × IfOk place (IsPlaceIn bytes)
-
--- the content of a kind is that of the section of the number that was met first
-pub located : (sections : List SectionMeaning) (kind : SectionKind) (met : Option (ℕ × Section))
-    (number : ℕ) (first : Section) (at : Option Section) → met ≡ Some (number, first)
-    → option_map (λ found. section found.1) met ≡ find (is_of_kind kind) sections
-    → IfSome met (λ found. slice_get sections found.0 ≡ Some (section found.1))
-    → option_map section at ≡ slice_get sections number
-    → content_among sections kind ≡ bytes_of kind (option_map section at)
-unfolding content_among
-located sections kind met number first at is firsts there of_number =
-    let among = rw is at firsts in
-    let there_is : slice_get sections number ≡ Some (section first) = rw is at there in
-    rw (← among, of_number, there_is) refl
-
--- where none was met there are no bytes
-pub unplaced : (sections : List SectionMeaning) (bytes : List ℕ) (kind : SectionKind)
-    (met : Option (ℕ × Section)) → met ≡ None
-    → option_map (λ found. section found.1) met ≡ find (is_of_kind kind) sections
-    → content_among sections kind ≡ Ok (bytes_at bytes nowhere)
-unfolding content_among
-unplaced sections bytes kind met is firsts =
-    let among = rw is at firsts in
-    let none : bytes_at bytes nowhere ≡ [] = grind arith in
-    rw (← among, none) refl
 
 -- what holds of what was read for each kind
 module _ (sections : List SectionMeaning) (bytes : List ℕ) (places : List ThorinRange)
@@ -151,19 +125,17 @@ pub tells_none : (P : Type 0) (status : ℤ)
 tells_none P status other told = absurd (grind (arith, ints))
 
 -- an error that is told is neither want of memory nor a file that can't be written
-apart : (status : ℤ) → TellsError status → (status ≡ pos 13) ⊎ (status ≡ pos 17) → ⊥
-apart status told other = grind (arith, ints)
-
 pub told : (bytes : List ℕ) (error : DecompressError) (status : ℤ)
     → (error ≢ errors.Memory → error ≢ errors.Unrepresentable
     → decompressed_of All bytes ≡ Err error)
     → status ≡ status_of error → TellsError status → IsError bytes status
-told bytes error status gives s h = record {
-  error = error;
-  is = gives (λ k. apart status h (inl (s ∙ ap status_of k)))
-      (λ k. apart status h (inr (s ∙ ap status_of k)));
-  status_is = s;
-}
+told bytes error status gives s h =
+    let apart : (status ≡ pos 13) ⊎ (status ≡ pos 17) → ⊥ = λ other. grind (arith, ints) in
+    record {
+      error = error;
+      is = gives (λ k. apart (inl (s ∙ ap status_of k))) (λ k. apart (inr (s ∙ ap status_of k)));
+      status_is = s;
+    }
 
 -- the same of an error that is told before any stream is read
 pub told_early : (bytes : List ℕ) (error : DecompressError) (status : ℤ)

@@ -1,28 +1,27 @@
 -- Lists that are written over others from their beginning on, or whose elements are replaced one
 -- after the other by what comes of them; lists of the units that an executable names; and inputs
 -- taken one after the other.
-use Rattle.std.proofs.lemmas.List.{drop-map, drop_more, length-map, map-append, set_past, take_more}
-use Rattle.thorin_c.specs.Packing.{Accepts, bytes_of, Differ, IsDifferingStatus, IsFailure, Refuses}
-use Rattle.std.proofs.Common.{append-nil, append_assoc, arith, get_or, min, pos, take_all, zero, ℤ}
-use Rattle.thorin_c.specs.declared.types.{ThorinReport.ThorinReport, ThorinSkeleton.ThorinSkeleton}
-use Rattle.thorin_c.specs.declared.{packing.RefusedInput.RefusedInput, types.ThorinUnit.ThorinUnit}
-use Rattle.thorin_c.specs.{declared.units.Room.Room, Listing.written_over, Packing.TellsUnfinished}
-use Rattle.thorin_join.specs.Builder.{differing_in, finish_test, start, State, taken, targets_test}
-use Rattle.thorin.{proofs.Running.join-append, proofs.Running.taken-then, specs.Groups.taken_each}
-use Rattle.std.proofs.lemmas.List.{drop_all, get_or-map, map-set, map_more, set-get_or, take_min}
-use Rattle.thorin_c.specs.Packing.{RunsOutAfter, RunsOutAt, StopsAt, TellsOfError, TellsRefused}
-use Rattle.thorin_c.specs.{Errors.Tells, Finding.looked, Finding.told, Skeletons.skeleton_named}
-use Rattle.std.proofs.Common.{ap, inl, length, length-take-le, map, refl, Result, set, take, ℕ}
-use Rattle.std.proofs.Common.{drop, drop-set-lt, inr, length-append, List, Ok, rules, suc, sym}
-use Rattle.{dwp_base.proofs.Steps.bind-ok, thorin_c.specs.declared.units.FirstUnits.FirstUnits}
-use Rattle.thorin_c.specs.declared.types.{ThorinBytes.ThorinBytes, ThorinLookup.ThorinLookup}
-use Rattle.std.proofs.Common.{Option, [], ◌++◌, ◌+◌, ◌-◌, ◌<◌, ◌∙◌, ◌∷◌, ◌≡◌, ◌≢◌, ◌≤◌, ◌⊎◌}
-use Rattle.thorin_c.specs.Skeletons.{IsFirst, ListsUnits, paths_of, room_of, TellsOfEnd}
-use Rattle.thorin_errors.specs.Errors.{error_of, ErrorValue, NoOutputObjectCreated}
 use Rattle.dwp_table.specs.declared.object.DebugTypeSignature.{DebugTypeSignature}
-use Rattle.{dwp_index.specs.Package.Package, std.proofs.lemmas.List.take_more_set}
-use Rattle.thorin_join.specs.{Join.Joins, Represents.units_in}
+use Rattle.std.proofs.Common.{ap, rules, [], ℕ, ℤ}
+use Rattle.std.proofs.Common.{append-nil, append_assoc, drop-set-lt, get_or, length, Option, Result}
+use Rattle.std.proofs.Common.{arith, Ok, pos, set, suc, sym, ◌+◌, ◌-◌, ◌<◌, ◌∙◌, ◌∷◌, ◌≡◌, ◌≤◌, ◌⊎◌}
+use Rattle.std.proofs.Common.{drop, inl, inr, length-append, List, map, min, refl, take, zero, ◌++◌}
+use Rattle.std.proofs.lemmas.List.{drop-map, get_or-map, length-map, map-append, map_more, take_min}
+use Rattle.std.proofs.lemmas.List.{drop_more, map-set, set-get_or, take_more_set}
+use Rattle.thorin.{proofs.Running.join-append, proofs.Running.taken-then, specs.Groups.taken_each}
+use Rattle.thorin_c.specs.Packing.{Accepts, bytes_of, IsDifferingStatus, TellsOfError, TellsRefused}
+use Rattle.thorin_c.specs.Packing.{Differ, IsFailure, Refuses}
+use Rattle.thorin_c.specs.Skeletons.{IsFirst, ListsUnits, paths_of, skeleton_named, TellsOfEnd}
+use Rattle.thorin_c.specs.declared.types.{ThorinBytes.ThorinBytes, ThorinReport.ThorinReport}
+use Rattle.thorin_c.specs.declared.types.{ThorinLookup.ThorinLookup, ThorinSkeleton.ThorinSkeleton}
+use Rattle.thorin_c.specs.declared.units.{FirstUnits.FirstUnits, Room.Room}
+use Rattle.thorin_c.specs.declared.{packing.RefusedInput.RefusedInput, types.ThorinUnit.ThorinUnit}
+use Rattle.thorin_c.specs.{Finding.looked, Finding.told, Listing.written_over, Skeletons.room_of}
+use Rattle.thorin_errors.specs.Errors.{error_of, ErrorValue, NoOutputObjectCreated}
 use Rattle.thorin_executable.specs.Skeletons.{Listed, Named}
+use Rattle.thorin_join.specs.Builder.{differing_in, finish_test, start, State, taken, targets_test}
+use Rattle.{dwp_base.proofs.Steps.bind-ok, thorin_join.specs.Join.Joins}
+use Rattle.{dwp_index.specs.Package.Package, thorin_join.specs.Represents.units_in}
 use native.Mathlib.Numerals.{unary_clauses}
 use Rattle.thorin_errors.specs.declared.error.Error.TheVariants as errors
 
@@ -43,56 +42,28 @@ module _ {A : Type 0} where
   over_is (y ∷ old) (x ∷ list) = simp unary_clauses (ap (λ l. x ∷ l) (over_is old list))
 
 module _ {A B : Type 0} where
-  -- one more is written
-  pub put-next : (f : A → B) (old now : List B) (done : List A) (x : A) (y : B) (i : ℕ)
-      → now ≡ written_over old (map f done) → i ≡ length (map f done) → y ≡ f x
-      → set now i y ≡ written_over old (map f (done ++ x ∷ []))
-  put-next f old now done x y i h is j =
-      rw (h, is, j, map-append f done (x ∷ [])) (sym (one_more old (map f done) (f x)))
-
-  -- and where there is no room for it, none
-  pub pass-next : (f : A → B) (old now : List B) (done : List A) (x : A)
-      → now ≡ written_over old (map f done) → length now ≤ length (map f done)
-      → now ≡ written_over old (map f (done ++ x ∷ []))
-  pass-next f old now done x h past =
-      sym (set_past now (length (map f done)) (f x) past)
-      ∙ put-next f old now done x (f x) (length (map f done)) h refl refl
-
-  -- the same over the first of some items
-  module _ (f : A → B) (old now : List B) (items : List A) (d : A) (i : ℕ)
-      (h : now ≡ written_over old (map f (take i items))) (k : i < length items) where
-    pub put-at : (y : B) → y ≡ f (get_or items i d)
-        → set now i y ≡ written_over old (map f (take (i + 1) items))
-    put-at y is =
-        let count : i ≡ length (map f (take i items)) =
-        sym (length-map (take i items) f ∙ length-take-le i items (omega arith)) in
-        rw (take_more items i d k)
-        (put-next f old now (take i items) (get_or items i d) y i h count is)
-
-    pub pass-at : length now ≤ i → now ≡ written_over old (map f (take (i + 1) items))
-    pass-at past = sym (set_past now i _ past) ∙ put-at (f (get_or items i d)) refl
+  -- one more is written, where there is room for it
+  pub put-next : (f : A → B) (old now : List B) (done : List A) (x : A) (i : ℕ)
+      → now ≡ written_over old (map f done) → i ≡ length (map f done)
+      → set now i (f x) ≡ written_over old (map f (done ++ x ∷ []))
+  put-next f old now done x i h is =
+      rw (h, is, map-append f done (x ∷ [])) (sym (one_more old (map f done) (f x)))
 
 -- the first elements, which are replaced, and what comes of the others
 abbrev pub outcome : {A : Type 0} → (A → A) → ℕ → List A → List A
 outcome f i now = take i now ++ map f (drop i now)
 
 module _ {A : Type 0} (f : A → A) where
-  -- one more is replaced
-  pub replaced-next : (now all : List A) (i : ℕ) (d y : A) → i < length now → y ≡ f (get_or now i d)
-      → outcome f i now ≡ all → outcome f (i + 1) (set now i y) ≡ all
-  replaced-next now all i d y h is done =
+  -- one more is replaced, behind a change that leaves the first as they were, and of which the same
+  -- comes
+  pub replaced-next : (old now all : List A) (i : ℕ) (d y : A) → i < length now
+      → take i now ≡ take i old → map f now ≡ map f old → y ≡ f (get_or now i d)
+      → outcome f i old ≡ all → outcome f (i + 1) (set now i y) ≡ all
+  replaced-next old now all i d y h front same is done =
+      let kept : outcome f i now ≡ all =
+      rw (front, ← drop-map f i now, same, drop-map f i old) done in
       rw (take_more_set now i y h, drop-set-lt (i + 1) now i y (omega arith), is, append_assoc)
-      (rw (drop_more now i d h) at done)
-
-  -- all are
-  pub replaced-all : (now all : List A) (i : ℕ) → length now ≤ i → outcome f i now ≡ all → now ≡ all
-  replaced-all now all i h done = rw (take_all i now h, drop_all i now h, append-nil) at done
-
-  -- a change that leaves the first as they were, and of which the same comes
-  pub kept-ahead : (old now all : List A) (i : ℕ) → take i now ≡ take i old → map f now ≡ map f old
-      → outcome f i old ≡ all → outcome f i now ≡ all
-  kept-ahead old now all i front same done =
-      rw (front, ← drop-map f i now, same, drop-map f i old) done
+      (rw (drop_more now i d h) at kept)
 
 -- a status that was left before makes no difference
 pub status_left : (find : Result Package ℤ → ℕ → ℕ → Result ThorinUnit ℤ) (pack : Package)
@@ -166,23 +137,9 @@ pub none_read : (room : Room) (all : Listed) (first : FirstUnits) → IsFirst ro
     → GoesOn room all all first
 none_read room all first h = record { done = []; is = refl; are_read = h }
 
-module _ (room : Room) (all left : Listed) (old : FirstUnits) (h : GoesOn room all left old) where
-  pub goes_on : (after : Listed) (new : FirstUnits) (unit : Named)
-      → left ≡ (unit ∷ after.0, after.1)
-      → ((units : List Named) → IsFirst room units old → IsFirst room (units ++ unit ∷ []) new)
-      → GoesOn room all after new
-  goes_on after new unit is adds = record {
-    done = h.done ++ unit ∷ [];
-    is = h.is ∙ rw is (ap (λ l. (l, after.1)) (sym (append_assoc h.done (unit ∷ []) after.0)));
-    are_read = adds h.done h.are_read;
-  }
-
-  pub ends : (end : Option ErrorValue) → left ≡ ([], end) → (all.1 ≡ end) × IsFirst room all.0 old
-  ends end e = rw (h.is, e, append-nil h.done) (refl, h.are_read)
-
-pub shorter : (left after : Listed) (unit : Named) → left ≡ (unit ∷ after.0, after.1)
-    → length after.0 < length left.0
-shorter left after unit is = rw is (omega arith)
+pub ends : (room : Room) (all left : Listed) (old : FirstUnits) → GoesOn room all left old
+    → (end : Option ErrorValue) → left ≡ ([], end) → (all.1 ≡ end) × IsFirst room all.0 old
+ends room all left old h end e = rw (h.is, e, append-nil h.done) (refl, h.are_read)
 
 -- ---- what is told
 
@@ -225,64 +182,25 @@ accepts-next inputs i d old middle new h before now joins =
     }
 
 -- what is told of a refused input
-pub refuses : (inputs : List ThorinBytes) (old : State) (refusal : RefusedInput)
-    (report : ThorinReport) → old ≡ start
-    → StopsAt inputs old refusal.number refusal.error → TellsRefused refusal.number refusal.error
-    report → Refuses inputs report
-refuses inputs old refusal report is at told = record {
+pub refuses : (inputs : List ThorinBytes) (refusal : RefusedInput) (report : ThorinReport)
+    → IsFailure inputs refusal
+    → (refusal.number < length inputs) × TellsRefused refusal.number refusal.error report
+    → Refuses inputs report
+refuses inputs refusal report (inl at) (lt, told) = record {
   error = error_of refusal.error;
-  within = rw told.input at.within;
+  within = rw told.input lt;
   state = at.state;
-  before = rw (← is, told.input) at.before;
+  before = rw told.input at.before;
   refused = rw told.input (at.refused told.not_memory);
   told = told.told;
 }
-
--- and of one at which memory ran out
-pub runs_out_at : (inputs : List ThorinBytes) (old : State) (refusal : RefusedInput)
-    (number : ℕ) → old ≡ start
-    → StopsAt inputs old refusal.number refusal.error → number ≡ refusal.number
-    → RunsOutAt inputs number
-runs_out_at inputs old refusal number is at here = rw here
-    (record { within = at.within; state = at.state; before = rw (← is) at.before })
+refuses inputs refusal report (inr is) (lt, told) = absurd (omega (arith, lt, is.0))
 
 -- an input was refused, or memory ran out at it: the package was not finished
 pub at_an_input : (X : Type 0) (status : ℤ) (number count : ℕ) → number < count
     → (status ≡ pos 12 → (count ≤ number) × X)
     → (status ≡ pos 11) ⊎ ((status ≡ pos 12) ⊎ (status ≡ pos 13)) → IsDifferingStatus status
 at_an_input X status number count lt past told = grind (arith, past)
-
--- what is told of inputs that weren't packed
-module _ (inputs : List ThorinBytes) (refusal : RefusedInput) where
-  pub packing_refused : (report : ThorinReport) → IsFailure inputs refusal
-      → refusal.number < length inputs → TellsRefused refusal.number refusal.error report
-      → Refuses inputs report
-  packing_refused report (inl at) lt told = refuses inputs start refusal report refl at told
-  packing_refused report (inr is) lt told = absurd (omega (arith, lt, is.0))
-
-  pub packing_unfinished : (report : ThorinReport) → IsFailure inputs refusal
-      → length inputs ≤ refusal.number → refusal.error ≢ errors.Memory
-      → Tells (error_of refusal.error) report → TellsUnfinished inputs report
-  packing_unfinished report (inl at) le not_memory told = absurd (omega (arith, le, at.within))
-  packing_unfinished report (inr is) le not_memory told = record {
-    error = error_of refusal.error;
-    state = is.1.state;
-    accepted = is.1.accepted;
-    refused = is.1.refused not_memory;
-    told = told;
-  }
-
-  pub packing_out : (number : ℕ) → IsFailure inputs refusal → refusal.error ≡ errors.Memory
-      → number ≡ refusal.number → RunsOutAt inputs number ⊎ RunsOutAfter inputs number
-  packing_out number (inl at) out here = inl (runs_out_at inputs start refusal number refl at here)
-  packing_out number (inr is) out here =
-      let all = here ∙ is.0 in
-      inr (record {
-        some = rw all (is.1.memory out);
-        all = all;
-        state = is.1.state;
-        accepted = is.1.accepted;
-      })
 
 -- no input makes no package
 pub none_fails : (inputs : List ThorinBytes) → length inputs ≡ 0

@@ -87,7 +87,7 @@ pub extern "C" fn thorin_pack(
 /// those of the unit that is kept: 0, as many as there is room for in `types`, in the order of
 /// passing over, and how many there are in `report.differing`. 11 and 13 as `thorin_pack`, and then
 /// `types` is left as it is, as are the other fields of `report` always.
-#[tactic(auto, using(crate::proofs::Lists::refuses, crate::proofs::Lists::differs, crate::proofs::Lists::runs_out_at))]
+#[tactic(auto, using(crate::proofs::Lists::differs))]
 #[unsafe(no_mangle)]
 pub extern "C" fn thorin_differing_types(
     alloc: Global,

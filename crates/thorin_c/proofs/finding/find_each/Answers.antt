@@ -1,19 +1,21 @@
-use Rattle.thorin_c.proofs.Lists.{kept-ahead, replaced-all, replaced-next}
-use Rattle.thorin_c.specs.Finding.{found_as, looked}
-use Rattle.std.proofs.Common.{arith, map, refl}
+use Rattle.thorin_c.{proofs.Lists.replaced-next, specs.Finding.found_as, specs.Finding.looked}
+use Rattle.std.proofs.Common.{append-nil, arith, map, refl, take_all}
+use Rattle.std.proofs.lemmas.List.{drop_all}
 use Rattle.thorin_c.proofs.finding.find_each.Goals as goal
 
 pub loop-i-preserved : goal.loop-i-preserved
 loop-i-preserved c =
     let f = looked (found_as c.args.wanted) c.in-Ok.file in
-    let all = map f c.args.lookups.now in
-    replaced-next f c.read_ahead.new.lookups all c.loop-i.i _ c.complete.new.lookup (omega arith)
-    c.complete.ensures (kept-ahead f c.loop-i.lookups c.read_ahead.new.lookups all c.loop-i.i
-    c.read_ahead.ensures.front c.read_ahead.ensures.same c.loop-i.invariant)
+    replaced-next f c.loop-i.lookups c.read_ahead.new.lookups (map f c.args.lookups.now)
+    c.loop-i.i _ c.complete.new.lookup (omega arith) c.read_ahead.ensures.front
+    c.read_ahead.ensures.same c.complete.ensures c.loop-i.invariant
 
 pub returns : goal.returns
 returns c = rw c.in-Ok.ensures (
   refl,
-  replaced-all (looked (found_as c.args.wanted) c.in-Ok.file) c.loop-i.lookups _ c.loop-i.i
-      (omega arith) c.loop-i.invariant,
+  rw (
+    take_all c.loop-i.i c.loop-i.lookups (omega arith),
+    drop_all c.loop-i.i c.loop-i.lookups (omega arith),
+    append-nil,
+  ) at c.loop-i.invariant,
 )
