@@ -60,18 +60,10 @@ none_for_each P (x ∷ xs) h =
 -- ---- a unit
 
 module _ (pack : Package) (entry : UnitEntry) where
-  by_own : (own : Option (Option DwarfObject)) → TellsOwn entry.object own []
-      → own ≡ Some (Some entry.object)
-  by_own own h = grind (arith)
-
-  in_its_row : (unit : FoundUnit) → TellsFound pack entry unit [] → (unit.number ≡ entry.row)
-      × (is_bare pack unit ≡ false) × (own_of entry.object unit ≡ Some (Some entry.object))
-  in_its_row unit h = grind (arith, by_own (own_of entry.object unit))
-
   looked_up : (looked : Result (Option FoundUnit) PackageError) → TellsLooked pack entry looked []
       → (unit : FoundUnit) × (looked ≡ Ok (Some unit)) × (unit.number ≡ entry.row)
       × (is_bare pack unit ≡ false) × (own_of entry.object unit ≡ Some (Some entry.object))
-  looked_up looked h = grind (arith, in_its_row)
+  looked_up looked h = grind (arith)
 
 -- ---- strings
 
@@ -164,11 +156,7 @@ module _ (offer : Offer) (reading : Reading) (pack : Package) where
   of_named : (executable : List ℕ) (room : ℕ) (units : Listed)
       → TellsNamed pack executable room units []
       → (units.1 ≡ None) × (units.0 ≢ []) × All (λ named. found pack named.0 ≢ Ok None) units.0
-  of_named executable room ([], None) h = absurd cc
-  of_named executable room ([], Some error) t =
-      let none = (listed executable room ([], Some error) t).0 in absurd cc
-  of_named executable room (first ∷ rest, end) t =
-      let all = listed executable room (first ∷ rest, end) t in (all.0, λ none. cc, all.1)
+  of_named executable room units t = grind (arith, listed executable room units)
 
   has_units : (executable : List ℕ) → TellsExecutable offer reading pack executable []
       → HasUnitsOf offer reading pack executable
@@ -364,8 +352,7 @@ module _ (offer : Offer) where
 -- something or nothing was printed
 pub printed_some : (text : List ℕ) (a b : Option (List ℕ)) (result : Outcome)
     → Prints text a b result → Grows a b
-printed_some text a b (Ok done) p = (text, p)
-printed_some text a b (Err failure) p = p.1
+printed_some text a b result p = grind (arith)
 
 module _ (offer : Offer) (executables : Executables) where
   pub checked : (pack : Package) (entries : List UnitEntry) (a b : Progress)

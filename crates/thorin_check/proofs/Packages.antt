@@ -289,10 +289,6 @@ same_offsets before range equal = grind (arith, nat_tests)
 module _ (pack : Package) (old : UnreadStrings) (unit : FoundUnit) (object : DwarfObject)
     (g : Gathers pack old) (is : found pack object ≡ Ok (Some unit)) (range : StringRange)
     (has : Some range ≡ range_of unit) where
-  -- it has those of the unit before
-  pub last_added : old.last ≡ Some range → Adds pack old old unit
-  last_added last = grind (arith, g.last)
-
   -- it is gathered, and those before still are
   pub gathered : (new : UnreadStrings) → new.ends ≡ old.ends → new.last ≡ Some range
       → All (IsOfUnit pack) new.unread.items → ((other : StringRange)

@@ -1,12 +1,12 @@
-use Rattle.thorin_check.proofs.Packages.{gathered, last_added, listed_added, of_found, of_range}
-use Rattle.thorin_check.proofs.Packages.{same_offsets}
+use Rattle.thorin_check.proofs.Packages.{gathered, listed_added, of_found, of_range, same_offsets}
 use Rattle.std.proofs.Common.{arith, inl, refl, sym, ◌∙◌}
 use Rattle.thorin_check.proofs.strings.UnreadStrings.add.Goals as goal
 
 pub returns-then-eq : goal.returns-then-eq
 returns-then-eq c = λ pack g is.
-    last_added pack c.args.self.now c.args.unit.now c.args.object g is _ c.in-Some.ensures
-    (same_offsets _ _ (sym c.eq.ensures ∙ c.if-eq.true))
+    let last = same_offsets _ _ (sym c.eq.ensures ∙ c.if-eq.true) in
+    gathered pack c.args.self.now c.args.unit.now c.args.object g is _ c.in-Some.ensures _ refl last
+    g.are (λ other there. there) (g.last _ last)
 
 pub returns-then-all_end : goal.returns-then-all_end
 returns-then-all_end c = λ pack g is.
