@@ -1,8 +1,7 @@
-use Rattle.thorin_check.proofs.Told.{first_again, first_all, first_more, first_none, stopped_behind}
-use Rattle.std.proofs.{Common.sym, Common.◌∙◌, lemmas.List.Sorted.All-permutation}
-use Rattle.thorin_check.{proofs.Packages.same_offsets, specs.Gathered.IsOfUnit}
-use Rattle.thorin_check.proofs.Told.{exit_is, none_told, told_as, told_then}
-use Rattle.{std.specs.List.All, thorin_print.proofs.Printed.none_grown}
+use Rattle.std.{proofs.Common.sym, specs.List.All, proofs.Common.◌∙◌}
+use Rattle.thorin_check.proofs.Told.{first_again, first_all, first_more, stopped_behind, told_then}
+use Rattle.thorin_check.proofs.{Packages.same_offsets, Told.exit_is, Told.told_as}
+use Rattle.{std.proofs.lemmas.List.Sorted.All-permutation, thorin_check.specs.Gathered.IsOfUnit}
 use Rattle.thorin_check.proofs.strings.check_strings.Goals as goal
 
 pub loop-i-preserved : goal.loop-i-preserved
