@@ -1,41 +1,39 @@
 -- Where no fault was told, the package is sound. And what was told of the units that an executable
 -- names, and what was checked.
 use Rattle.dwp_bytes.specs.StringOffsets.{entry_in, string_in}
-use Rattle.dwp_bytes.specs.declared.error.ReadError.{ReadError}
 use Rattle.dwp_index.specs.Package.{found, FoundUnit, Package, package_of}
 use Rattle.dwp_index.specs.declared.{error.PackageError.PackageError, units.UnitEntry.UnitEntry}
-use Rattle.std.proofs.Common.{Bool, Err, false, inl, length, suc, sym, zero, [], ◌+◌, ◌≢◌, ◌≤◌, ◌⊎◌}
-use Rattle.std.proofs.Common.{ap, Bor, codes, inr, Option, refl, Result, Some, subst, ◌∷◌, ◌≡◌}
-use Rattle.std.proofs.Common.{append-nil, append_assoc, arith, get_or, List, Ok, OnOk, ℕ, ◌++◌, ◌<◌}
+use Rattle.dwp_table.specs.{Columns.contribution_kinds, declared.object.DwarfObject.DwarfObject}
+use Rattle.std.proofs.Common.{append-nil, Err, get_or, inr, None, refl, Some, suc, ℕ, ◌<◌, ◌∷◌, ◌≢◌}
+use Rattle.std.proofs.Common.{append_assoc, arith, Bool, Bor, List, OnOk, subst, true, zero, ◌++◌}
+use Rattle.std.proofs.Common.{codes, false, inl, length, Ok, Option, Result, sym, [], ◌+◌, ◌≡◌, ◌≤◌}
 use Rattle.std.proofs.lemmas.List.Elements.{All-cons, All-contains, All-nil}
 use Rattle.std.proofs.lemmas.List.FromFn.{get_or-map-range_with_len, length-map-range_with_len}
 use Rattle.std.proofs.lemmas.List.Sorted.{All-permutation, Contains-permutation, length_permutation}
 use Rattle.std.proofs.lemmas.List.{length-map, nil_from_length, Sorted.IsPermutation-sym}
-use Rattle.std.proofs.{Common.None, Common.true, KnownBytes.Appends-trans}
+use Rattle.std.{proofs.Common.ap, proofs.KnownBytes.Appends-trans, specs.List.All}
 use Rattle.thorin_check.proofs.Packages.{lies_in, of_range, own_once}
-use Rattle.thorin_check.proofs.Told.{counted_from, stopped_behind, then_or, told_as}
-use Rattle.thorin_check.specs.Checking.{Checks, ChecksIndexed, FailsOne, status_of, TellsExecutable}
-use Rattle.thorin_check.specs.Checking.{ChecksBytes, Finishes, IsOfChecking, IsOfReading, TellsSlot}
-use Rattle.thorin_check.specs.Checking.{TellsPackage, TellsStringsOfAll}
-use Rattle.thorin_check.specs.Faults.{IsBroken, room_of, row_fault, strings_of, TellsOwn, TellsUnit}
-use Rattle.thorin_check.specs.Faults.{is_bare, IsUnread, longest_path, TellsStrings, TellsStringsOf}
-use Rattle.thorin_check.specs.Faults.{long_bytes, TellsFound, TellsNamed, TellsNumbered}
-use Rattle.thorin_check.specs.Faults.{long_size, missing_faults, TellsEnd, TellsListed, TellsRowsOf}
-use Rattle.thorin_check.specs.Indexes.{column_faults, lacks_column, section_faults, versions_faults}
-use Rattle.thorin_check.specs.Sound.{Executables, HasUnitsOf, IsSound, IsSoundUnit, NameOnce, slots}
+use Rattle.thorin_check.proofs.Told.{counted_from, stopped_behind, told_as}
+use Rattle.thorin_check.specs.Checking.{ChecksBytes, ChecksIndexed, FailsOne, Finishes, IsOfReading}
+use Rattle.thorin_check.specs.Checking.{IsOfChecking, TellsExecutable, TellsSlot, TellsStringsOfAll}
+use Rattle.thorin_check.specs.Faults.{IsBroken, missing_faults, row_fault, TellsEnd, TellsStringsOf}
+use Rattle.thorin_check.specs.Faults.{is_bare, longest_path, room_of, row_end}
+use Rattle.thorin_check.specs.Faults.{long_bytes, strings_of, TellsLooked, TellsNamed, TellsStrings}
+use Rattle.thorin_check.specs.Faults.{long_size, TellsListed, TellsNumbered, TellsRowsOf, TellsUnit}
+use Rattle.thorin_check.specs.Indexes.{column_faults, lacks_column, mixed_versions, versions_faults}
+use Rattle.thorin_check.specs.Sound.{AreNamed, Executables, HasUnitsOf, IsSound, IsSoundUnit, slots}
 use Rattle.thorin_check.specs.Telling.{fault_count, ForEach, InTurn, Progress, Tells, TellsOr, Told}
-use Rattle.thorin_check.specs.{Ends.AllEnd, Faults.row_end, Faults.TellsLooked, Sound.AreNamed}
-use Rattle.thorin_check.specs.{Indexes.mixed_versions, Own.own_of, Rendering.FaultValue, Telling.Is}
-use Rattle.thorin_check.specs.{declared.executables.Reading.Reading, Strings.HasStringsOf}
-use Rattle.thorin_errors.specs.{Answers.MemoryAside, declared.error.Error.Error}
-use Rattle.thorin_errors.specs.{declared.error.Error.TheVariants.Memory, Errors.error_of}
+use Rattle.thorin_check.specs.{Checking.Checks, Checking.TellsPackage, Indexes.section_faults}
+use Rattle.thorin_check.specs.{Ends.AllEnd, Own.own_of, Rendering.FaultValue, Strings.HasStringsOf}
+use Rattle.thorin_check.specs.{declared.executables.Reading.Reading, Sound.NameOnce, Telling.Is}
+use Rattle.thorin_errors.specs.{Answers.MemoryAside, declared.error.Error.Error, Errors.error_of}
 use Rattle.thorin_executable.specs.Skeletons.{Listed, Named, skeletons_by}
-use Rattle.thorin_find.specs.{Files.Offer, Finding.string_count, Finding.string_of}
+use Rattle.thorin_find.specs.{Finding.string_count, Finding.string_of, Listing.AreByRow}
 use Rattle.thorin_print.specs.Answers.{Grows, IsOfPrinting, Outcome, Prints}
-use Rattle.{dwp_base.specs.declared.section.SectionKind.SectionKind, std.specs.Result.result_err}
-use Rattle.{dwp_index.specs.Index.Index, dwp_table.specs.declared.object.DwarfObject.DwarfObject}
-use Rattle.{dwp_table.specs.Columns.contribution_kinds, std.specs.List.All, std.specs.List.flat_map}
-use Rattle.{thorin_find.specs.Listing.AreByRow, thorin_print.specs.declared.output.Failure.Failure}
+use Rattle.{dwp_base.specs.declared.section.SectionKind.SectionKind, thorin_find.specs.Files.Offer}
+use Rattle.{dwp_bytes.specs.declared.error.ReadError.ReadError, std.specs.Result.result_err}
+use Rattle.{dwp_index.specs.Index.Index, thorin_print.specs.declared.output.Failure.Failure}
+use Rattle.{std.specs.List.flat_map, thorin_errors.specs.declared.error.Error.TheVariants.Memory}
 use Rattle.std.{proofs.lemmas.Bool.Decides.nat_tests, specs.declared.io.Error.Error as IoError}
 use Rattle.dwp_base.specs.declared.section.SectionKind.TheVariants as kinds
 
@@ -153,16 +151,10 @@ module _ (offer : Offer) (reading : Reading) (pack : Package) where
         rw (t.split, none, append-nil) (none_missing pack executable t.first both.0),
       )
 
-  of_named : (executable : List ℕ) (room : ℕ) (units : Listed)
-      → TellsNamed pack executable room units []
-      → (units.1 ≡ None) × (units.0 ≢ []) × All (λ named. found pack named.0 ≢ Ok None) units.0
-  of_named executable room units t = grind (arith, listed executable room units)
-
   has_units : (executable : List ℕ) → TellsExecutable offer reading pack executable []
       → HasUnitsOf offer reading pack executable
   has_units executable t =
-      let named = of_named executable (room_of t.bytes) (skeletons_by reading.nameless t.bytes)
-      t.tells in grind (arith, named)
+      grind (arith, listed executable (room_of t.bytes) (skeletons_by reading.nameless t.bytes))
 
 -- ---- a package
 
@@ -262,15 +254,6 @@ module _ (pack : Package) (executable : List ℕ) where
       → TellsEnd executable room [] left faults → TellsListed pack executable room left faults
   none_looked room left faults end =
       record { first = []; left = left.0; split = refl; ended = faults; end = end; all = refl }
-
-  -- what is left was told, or telling it stopped
-  pub left_told : (whole : ℕ) (all : Listed) (is_first : Bool) (room : ℕ) (left : Listed)
-      (a b c : Progress) (result : Outcome) → Told (GoesOn whole all is_first room left) a b
-      → Tells (TellsLeft is_first room left) b c result
-      → Tells (TellsNamed pack executable whole all) a c result
-  left_told whole all is_first room left a b c result =
-      then_or (GoesOn whole all is_first room left) (TellsLeft is_first room left) IsOfPrinting a b
-      c (TellsNamed pack executable whole all) (λ ls ms h t. h ms t) result
 
   -- the error that is next was told
   pub broken_left : (is_first : Bool) (room : ℕ) (left : Listed) (error : Error) (a b : Progress)

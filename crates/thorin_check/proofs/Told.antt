@@ -78,11 +78,6 @@ pub told_as : {P Q : List FaultValue → Type 0} {a b : Progress} → Told P a b
     → ((faults : List FaultValue) → P faults → Q faults) → Told Q a b
 told_as t goes = grind (arith)
 
--- the same, where telling them may have stopped
-pub tells_as : {P Q : List FaultValue → Type 0} (a b : Progress) (result : Outcome)
-    → ((faults : List FaultValue) → P faults → Q faults) → Tells P a b result → Tells Q a b result
-tells_as a b result goes t = grind (arith)
-
 -- what comes next stopped
 pub stopped_behind : {P : List FaultValue → Type 0} {Why : Type 0} {a b : Progress}
     (c : Option (List ℕ)) → Told P a b → Why × Grows b.written c → Why × Grows a.written c
