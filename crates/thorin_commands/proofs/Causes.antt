@@ -270,35 +270,33 @@ contents_append : (xs ys : List declared.Member) → split_contents (map view.me
     ≡ split_contents (map view.member xs) ++ split_contents (map view.member ys)
 contents_append xs ys = rw (map-append, map-append, filter-append) refl
 
-module _ {manner : Manner} {offer : Offer} {declines : Reasons} where
-  -- those before contents were taken
-  pub stops_among : (members : List declared.Member) (i : ℕ) (none : declared.Member)
-      {old middle : State} → i < length members
-      → TookEach manner offer (split_contents (map view.member (take i members))) old middle
-      → (cause : Cause) → IsUntaken (StopsAmong offer declines manner
-      (split_contents (view.member (get_or members i none) ∷ [])) middle) cause
-      → IsUntaken (StopsAmong offer declines manner
-      (split_contents (map view.member members)) old) cause
-  stops_among members i none h took cause u =
-      let contents = λ (xs : List declared.Member). split_contents (map view.member xs) in
-      let own = get_or members i none ∷ [] in
-      let later = drop (i + 1) members in
-      let parts = ap contents (split_at members i none h)
-      ∙ (contents_append (take i members) (own ++ later)
-      ∙ ap (λ rest. contents (take i members) ++ rest) (contents_append own later))
-      in record {
-        why = u.why;
-        is = u.is;
-        reason = rw parts (record {
-          front = contents (take i members) ++ u.reason.front;
-          content = u.reason.content;
-          rest = u.reason.rest ++ contents later;
-          list_is = rw (u.reason.list_is, append_assoc, append_assoc) refl;
-          state = u.reason.state;
-          took = each_append took u.reason.took;
-          refused = u.reason.refused;
-        });
-      }
+-- of an archive's members those before one that isn't taken were
+pub stops_among : {manner : Manner} {offer : Offer} {declines : Reasons} {file : List ℕ}
+    (members : List declared.Member) (i : ℕ) (none : declared.Member) {old middle : State}
+    → i < length members
+    → TookEach manner offer (split_contents (map view.member (take i members))) old middle
+    → members_of file ≡ Ok (map view.member members) → (cause : Cause)
+    → IsUntaken (StopsAmong offer declines manner
+    (split_contents (view.member (get_or members i none) ∷ [])) middle) cause
+    → StopsIn offer declines manner file old cause
+stops_among members i none h took are cause u =
+    let stops = u.reason in
+    let contents = λ (xs : List declared.Member). split_contents (map view.member xs) in
+    let own = get_or members i none ∷ [] in
+    let later = drop (i + 1) members in
+    let parts = ap contents (split_at members i none h)
+    ∙ (contents_append (take i members) (own ++ later)
+    ∙ ap (λ rest. contents (take i members) ++ rest) (contents_append own later))
+    in
+    rw u.is (Among (map view.member members) u.why are (rw parts (record {
+      front = contents (take i members) ++ stops.front;
+      content = stops.content;
+      rest = stops.rest ++ contents later;
+      list_is = rw (stops.list_is, append_assoc, append_assoc) refl;
+      state = stops.state;
+      took = each_append took stops.took;
+      refused = stops.refused;
+    })))
 
 -- of just the inputs that are asked for
 pub cause_for : (offer : Offer) (declines : Reasons) (packing : Packing) (list : List Input)
@@ -316,16 +314,11 @@ pub told_empty : {W : Type 0} (contents : W → Option (List ℕ)) (writer : W) 
 told_empty contents writer offer declines packing is line =
     record { cause = Unfinished NoOutputObjectCreated; is = is; line = line }
 
-module _ {manner : Manner} {offer : Offer} {declines : Reasons} {file : List ℕ} {old : State} where
-  -- an archive of which a member isn't taken, or whose members can't be told
-  pub among : {members : List Member} → members_of file ≡ Ok members → (cause : Cause)
-      → IsUntaken (StopsAmong offer declines manner (split_contents members) old) cause
-      → StopsIn offer declines manner file old cause
-  among {members} are cause u = rw u.is (Among members u.why are u.reason)
-
-  pub bad : {error : ArchiveError} → (error ≢ archive_errors.Memory → members_of file ≡ Err error)
-      → (cause : Cause) → IsMalformed error cause → StopsIn offer declines manner file old cause
-  bad {error} h cause m = rw m.is (Bad error (h m.no_memory))
+-- an archive whose members can't be told
+pub bad : {manner : Manner} {offer : Offer} {declines : Reasons} {file : List ℕ} {old : State}
+    {error : ArchiveError} → (error ≢ archive_errors.Memory → members_of file ≡ Err error)
+    → (cause : Cause) → IsMalformed error cause → StopsIn offer declines manner file old cause
+bad {error = error} h cause m = rw m.is (Bad error (h m.no_memory))
 
 -- the units of a file couldn't be counted, where nothing is split
 pub uncounted : (X U : Type 0) (failure : Failure) → IsUncounted failure → U → Stops X U failure

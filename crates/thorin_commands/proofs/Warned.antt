@@ -9,7 +9,7 @@ use Rattle.thorin_commands.specs.Cause.{Archive, Bad, IsNotTaken, IsUnfinished, 
 use Rattle.thorin_commands.specs.Made.{IsMade, IsMadeFor, TookTelling}
 use Rattle.thorin_commands.specs.Opened.{added_in, TookAll, TookNone, unit_count}
 use Rattle.thorin_commands.specs.Warned.{AreLacks, InTurn, path_of, TellsUnsplit, TellUnsplitBy}
-use Rattle.thorin_commands.specs.Warned.{InOrder, named_line, TellsMacros, TellsTaking, TellUnsplit}
+use Rattle.thorin_commands.specs.Warned.{InOrder, named_line, TellsMacros, TellUnsplit}
 use Rattle.thorin_commands.specs.Warned.{IsNamedLine, TellsAdded, TellsLeft, TellsNamed, TellsTaken}
 use Rattle.thorin_commands.specs.{Cause.Cause, Packing.AreAsked, Packing.manner_of, Warned.names}
 use Rattle.thorin_commands.specs.{declared.packing.Packing.Packing, Taken.Manner, Taken.Offer}
@@ -28,9 +28,9 @@ pub none_printed : {P : List ℕ → Type 0} (a : Option (List ℕ)) → P [] �
 none_printed a p = record { text = []; is = p; added = Appends-nil a }
 
 pub printed_then : {P Q R : List ℕ → Type 0} {a b c : Option (List ℕ)}
-    → ((x y : List ℕ) → P x → Q y → R (x ++ y)) → IsPrinted a b P → IsPrinted b c Q
+    → IsPrinted a b P → IsPrinted b c Q → ((x y : List ℕ) → P x → Q y → R (x ++ y))
     → IsPrinted a c R
-printed_then {a = a} {b = b} {c = c} joins p q = record {
+printed_then {a = a} {b = b} {c = c} p q joins = record {
   text = p.text ++ q.text;
   is = joins p.text q.text p.is q.is;
   added = Appends-trans a b c p.text q.text p.added q.added;
@@ -110,12 +110,11 @@ module _ {verbose opens : Bool} {manner : Manner} {offer : Offer} {a : Option (L
       let more = took_more so.took one in
       rw (same, is) (record {
         took = more.0;
-        told = rw more.1 (printed_then {R = TellsTaking verbose (xs ++ input ∷ [])
-            (added_in so.took ++ own ∷ []) (lacks ++ lack ∷ [])} (λ x y t l. record {
-              lines = turn_more (λ input own. TellsAdded verbose (path_of input) own) xs
-                  (added_in so.took) input own x y t.lines l;
-              lacking = lacks_more (added_in so.took) lacks own lack t.lacking none;
-            }) so.told line);
+        told = rw more.1 (printed_then so.told line (λ x y t l. record {
+          lines = turn_more (λ input own. TellsAdded verbose (path_of input) own) xs
+              (added_in so.took) input own x y t.lines l;
+          lacking = lacks_more (added_in so.took) lacks own lack t.lacking none;
+        }));
       })
 
 -- ---- inputs without split units
@@ -131,10 +130,8 @@ pub unsplit_next : (none : Type 0) (list : List Input) (lacks : List Lack) (i : 
     → IsPrinted a c (TellUnsplitBy true none (take (i + 1) list) (take (i + 1) lacks))
 unsplit_next none list lacks i d e a b c lt same p q =
     rw (take_more list i d lt, take_more lacks i e (omega (arith, lt, same)))
-    (printed_then {R = TellUnsplitBy true none (take i list ++ get_or list i d ∷ [])
-    (take i lacks ++ get_or lacks i e ∷ [])} (λ x y h line. turn_more
-    (λ input lack. TellsUnsplit (none ⊎ (lack ≡ Types)) (path_of input)) (take i list)
-    (take i lacks) (get_or list i d) (get_or lacks i e) x y h line) p q)
+    (printed_then p q (turn_more (λ input lack. TellsUnsplit (none ⊎ (lack ≡ Types))
+    (path_of input)) (take i list) (take i lacks) (get_or list i d) (get_or lacks i e)))
 
 pub unsplit_unasked : (warns : Bool) (none : Type 0) (list : List Input) (lacks : List Lack)
     (a : Option (List ℕ)) → warns ≡ false → IsPrinted a a (TellUnsplitBy warns none list lacks)
@@ -203,7 +200,7 @@ none_began u =
     elim ((rw same at u.refuses) (λ m. absurd cc)) [ inl h ↦ h | inr h ↦ absurd cc ]
 
 -- of just the inputs that were asked for
-pub made_for : (Tells : List Input → (added : List ℕ) → State → (text : List ℕ) → Type 0)
+pub made_for : {Tells : List Input → (added : List ℕ) → State → (text : List ℕ) → Type 0}
     {offer : Offer} (packing : Packing) {verbose warns named : Bool} (list : List Input)
     {a b : Option (List ℕ)} {object : File} {differing : List DebugTypeSignature}
     {lines : List ℕ} → named ≡ names packing.verbose packing.warnings → AreAsked packing list
@@ -211,7 +208,7 @@ pub made_for : (Tells : List Input → (added : List ℕ) → State → (text : 
     → TellsTaken verbose warns packing.partial list added state text → Tells list added state text)
     → IsMade verbose warns packing.partial named packing.opens_archives (manner_of packing) offer
     list a b object differing lines → IsMadeFor Tells offer packing a b object differing lines
-made_for Tells {offer} packing {verbose} {warns} list {a} {b} {object} {differing} {lines} n are f
+made_for {Tells} {offer} packing {verbose} {warns} list {a} {b} {object} {differing} {lines} n are f
     made =
     let it : IsMade verbose warns packing.partial (names packing.verbose packing.warnings)
     packing.opens_archives (manner_of packing) offer list a b object differing lines =

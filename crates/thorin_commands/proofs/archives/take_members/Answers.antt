@@ -1,4 +1,4 @@
-use Rattle.thorin_commands.proofs.Causes.{among, each_append, each_none, refuses_by, stops_among}
+use Rattle.thorin_commands.proofs.Causes.{each_append, each_none, refuses_by, stops_among}
 use Rattle.{std.proofs.lemmas.Result.err_from_is_err_and, thorin_commands.proofs.Causes.bad}
 use Rattle.std.proofs.lemmas.List.{Elements.filter-append, map-append, take_all, take_more}
 use Rattle.dwp_archive.specs.{declared.member.NameForm.TheVariants.Short, View.member}
@@ -49,11 +49,9 @@ returns-in_err-take_split-clause-told g c =
     let p = err_from_is_err_and c.from_residual.result c.from_residual.ensures.1 in
     let are = rw (← c.as_slice-list.ensures.value) at c.in-Ok.ensures in
     rw (p.1, p.2) (refuses_by g.E.LineOutput.contents g.E.LineOutput.failed c.take_split.new.err
-    (among are) c.in_err-take_split.field-0.0
-    (refuses_by g.E.LineOutput.contents g.E.LineOutput.failed c.take_split.new.err
     (stops_among c.as_slice-list.result.now c.loop-member.member-index none
-    c.loop-member-test.true c.loop-member.invariant.took) c.in_err-take_split.field-0.0
-    c.in_err-take_split.ensures.told))
+    c.loop-member-test.true c.loop-member.invariant.took are)
+    c.in_err-take_split.field-0.0 c.in_err-take_split.ensures.told)
 
 pub returns-in-Err-clause-told : goal.returns-in-Err-clause-told
 returns-in-Err-clause-told g c = refuses_by g.E.LineOutput.contents g.E.LineOutput.failed

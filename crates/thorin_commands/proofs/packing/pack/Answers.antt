@@ -19,25 +19,26 @@ returns-in-Ok-write_then_warn-clause-warned g c = λ e.
         named = rw c.as_str-name.ensures.value c.in_ok-output.ensures.named;
         put = c.in-Ok-write_then_warn.ensures.done;
       };
-      told = printed_then (λ x y t u. record {
-        inputs = x;
-        inputs_are = t;
-        macros = ready.macros;
-        macros_are = ready.macros_are;
-        differing = ready.named ++ u.lines;
-        differing_are = record {
-          named = ready.named;
-          named_are = ready.made.names_are;
-          differing = c.in-Ok.differing.items;
-          differ = ready.made.differ;
-          lines = u.lines;
-          lines_are = rw (c.as_slice.ensures.value, c.warnings_left.ensures) at u.are;
-          text_is = refl;
-        };
-        text_is = ap (λ l. x ++ l) (u.text_is ∙ (ap (λ l. l ++ u.lines)
-            (c.as_str.ensures.value ∙ ready.lines_are)
-            ∙ append_assoc ready.macros ready.named u.lines));
-      }) ready.made.told c.in-Ok-write_then_warn.ensures.warned;
+      told = printed_then ready.made.told c.in-Ok-write_then_warn.ensures.warned
+          (λ x y t u. record {
+            inputs = x;
+            inputs_are = t;
+            macros = ready.macros;
+            macros_are = ready.macros_are;
+            differing = ready.named ++ u.lines;
+            differing_are = record {
+              named = ready.named;
+              named_are = ready.made.names_are;
+              differing = c.in-Ok.differing.items;
+              differ = ready.made.differ;
+              lines = u.lines;
+              lines_are = rw (c.as_slice.ensures.value, c.warnings_left.ensures) at u.are;
+              text_is = refl;
+            };
+            text_is = ap (λ l. x ++ l) (u.text_is ∙ (ap (λ l. l ++ u.lines)
+                (c.as_str.ensures.value ∙ ready.lines_are)
+                ∙ append_assoc ready.macros ready.named u.lines));
+          });
     }
 
 pub returns-in-Ok-write_then_warn-clause-apart : goal.returns-in-Ok-write_then_warn-clause-apart

@@ -1,7 +1,7 @@
 use Rattle.std.proofs.Common.{inl, inr, map, refl, rules, string_bytes, true, [], ◌≡◌}
 use Rattle.thorin_commands.proofs.Warned.{made_for, no_macros, printed_then}
-use Rattle.thorin_commands.specs.{Packing.asked, Packing.asks, Packing.reads, Warned.TellsInputs}
-use Rattle.{std.proofs.lemmas.Result.IfOk-weaker, thorin_commands.specs.Opened.added_in}
+use Rattle.thorin_commands.specs.{Packing.asked, Packing.asks}
+use Rattle.{std.proofs.lemmas.Result.IfOk-weaker}
 use Rattle.thorin_commands.proofs.packing.packed.Goals as goal
 
 pub returns-in-Ok-clause-ready : goal.returns-in-Ok-clause-ready
@@ -11,8 +11,7 @@ returns-in-Ok-clause-ready g c =
     rw c.as_slice.ensures.value c.in_ok-list.ensures in
     record {
       named = string_bytes c.in-Ok.named;
-      made = made_for (TellsInputs (reads packing (g.F.FileSystem.offer c.args.files.now)) packing)
-          packing c.as_slice.result.now c.tells_differences.ensures (inl are)
+      made = made_for packing c.as_slice.result.now c.tells_differences.ensures (inl are)
           (λ added state text t. inl (are, t)) (rw
           (c.in_ok-inputs.ensures.files, c.in_ok-inputs.ensures.packing) at c.in-Ok.ensures.made);
       macros = string_bytes c.macro_warnings-lines.result;
@@ -47,18 +46,16 @@ returns-in-Err-Empty-clause-ready g c =
       named = string_bytes made.2;
       made = record {
         is = it.is;
-        told = printed_then {R = TellsInputs (reads packing
-            (g.F.FileSystem.offer c.args.files.now)) packing it.is.list
-            (added_in it.is.packed.took) it.is.packed.state} (λ x y t u. inr (record {
-              lets = lets;
-              inputs = c.as_slice.result.now;
-              are = are;
-              before = x;
-              before_are = t;
-              behind = y;
-              behind_are = u;
-              text_is = refl;
-            })) tried it.told;
+        told = printed_then tried it.told (λ x y t u. inr (record {
+          lets = lets;
+          inputs = c.as_slice.result.now;
+          are = are;
+          before = x;
+          before_are = t;
+          behind = y;
+          behind_are = u;
+          text_is = refl;
+        }));
         differ = it.differ;
         names_are = it.names_are;
       };

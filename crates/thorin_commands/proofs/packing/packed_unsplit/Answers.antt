@@ -1,8 +1,8 @@
-use Rattle.std.proofs.Common.{arith, false, inr, map, None, Some, [], ◌++◌, ◌∷◌, ◌≡◌}
+use Rattle.std.proofs.Common.{arith, inr, map, None, Some, [], ◌++◌, ◌∷◌, ◌≡◌}
 use Rattle.std.proofs.lemmas.{Grind.common_steps, Result.IfOk-weaker}
 use Rattle.thorin_commands.proofs.Causes.{cause_for, err_by, first_of}
 use Rattle.thorin_commands.specs.Packing.{AreAsked, asked, asks, declines, paths_in, reads}
-use Rattle.thorin_commands.{proofs.Warned.made_for, specs.Warned.TellsTaken}
+use Rattle.thorin_commands.{proofs.Warned.made_for}
 use Rattle.thorin_commands.proofs.packing.packed_unsplit.Goals as goal
 
 pub returns : goal.returns
@@ -15,9 +15,8 @@ returns g c =
     ++ Some (c.in-Some.executable.now.now, None) ∷ [] = grind (arith, common_steps) in
     let are : AreAsked packing c.as_slice.result.now = inr (c.requires.allowed, rw first asked) in
     record {
-      made = IfOk-weaker c.packed_inputs.result _ _ (λ made it. made_for
-          (TellsTaken false false packing.partial) packing c.as_slice.result.now
-          c.tells_differences.ensures are (λ added state text t. t) it)
+      made = IfOk-weaker c.packed_inputs.result _ _ (λ made it. made_for packing
+          c.as_slice.result.now c.tells_differences.ensures are (λ added state text t. t) it)
           c.packed_inputs.ensures.made;
       told = err_by g.E.LineOutput.contents g.E.LineOutput.failed c.packed_inputs.new.err
           (cause_for (reads packing offer) (declines packing offer) packing c.as_slice.result.now
