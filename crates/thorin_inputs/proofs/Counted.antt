@@ -1,27 +1,26 @@
 -- What is counted of inputs: sizes of sections that are added up; places of strings, one after
 -- another, and what their strings have together; the sections that strings are named by, met one
 -- after another; and files, looked up among those that were read.
-use Rattle.std.proofs.Common.{Bool, cond, Err, leb, min, None, Some, ◌&&◌, ◌-◌, ◌<◌, ◌^◌, ◌||◌, ◌≤◌}
-use Rattle.std.proofs.Common.{drop, length-drop, length-take, nat_lt, Option, option_map, slice_get}
-use Rattle.std.proofs.lemmas.{Bool.Decides.nat_tests, Bool.eqb-true, Bool.ltb-false, List.drop_all}
-use Rattle.thorin_inputs.specs.InnerStrings.{begins_inside, first_content, has_word, plain_content}
-use Rattle.std.proofs.Common.{arith, false, length, List, refl, Result, subst, sum_by, true, zero}
-use Rattle.thorin_inputs.specs.InnerStrings.{most_inner, names, sizes_at, string_size, word_count}
-use Rattle.{std.specs.Map.lookup, thorin_inputs.specs.declared.overlaps.InnerStrings.InnerStrings}
-use Rattle.std.specs.{List.list_any, List.position_or_len, List.range_with_len, Ordering.nat_cmp}
-use Rattle.thorin_inputs.specs.{Overlaps.each_size, RepetitionFields.file_cmp, Repetitions.File}
-use Rattle.dwp_base.specs.{declared.section.SectionKind.TheVariants.StrOffsets, Numbers.number}
-use Rattle.thorin_inputs.specs.{Repetitions.is_file, UsedSections.AreBetween, UsedSections.met}
-use Rattle.{dwp_base.specs.declared.endian.Endianness.Endianness, std.specs.Option.option_or}
-use Rattle.dwp_base.{proofs.Finds.find_at, specs.declared.section.SectionKind.SectionKind}
-use Rattle.std.proofs.Common.{[], ap, eqb, ltb, Ok, suc, sym, ℕ, ◌*◌, ◌+◌, ◌∙◌, ◌∷◌, ◌≡◌}
+use Rattle.dwp_base.specs.declared.section.SectionKind.{SectionKind, TheVariants.StrOffsets}
+use Rattle.dwp_base.{proofs.Bools.by-bool, specs.declared.endian.Endianness.Endianness}
 use Rattle.dwp_bytes.specs.{declared.error.ReadError.ReadError, StringOffsets.string_at}
-use Rattle.{dwp_base.proofs.Bools.by-bool, dwp_decompress.proofs.Sections.drop_step}
-use Rattle.thorin_inputs.specs.InnerPlaces.{Counts, is_counted, IsSummed, IsWithin}
-use Rattle.std.proofs.lemmas.List.Sums.{sum_by-cons, sum_by-le-sum_by}
 use Rattle.dwp_elf_read.specs.Elf.{Elf, holds, SectionMeaning}
+use Rattle.std.proofs.Common.{Bool, cond, drop, Err, List, None, option_map, refl, Some, true, zero}
+use Rattle.std.proofs.Common.{ap, Ok, subst, [], ℕ, ◌<◌, ◌^◌, ◌||◌, ◌∙◌, ◌∷◌, ◌≡◌, ◌≤◌}
+use Rattle.std.proofs.Common.{arith, length, length-drop, nat_lt, Option, Result, slice_get, sum_by}
+use Rattle.std.proofs.Common.{eqb, false, leb, length-take, ltb, min, suc, sym, ◌&&◌, ◌*◌, ◌+◌, ◌-◌}
+use Rattle.std.proofs.lemmas.Bool.{Decides.nat_tests, eqb-true, ltb-false}
+use Rattle.std.proofs.lemmas.List.{drop_all, Sums.sum_by-cons, Sums.sum_by-le-sum_by}
 use Rattle.std.specs.BTreeSet.{BTreeSet, contains, Updates}
-use Rattle.std.specs.BTreeMap.{BTreeMap, is_at, Updates as MapUpdates}
+use Rattle.std.specs.{List.list_any, List.position_or_len, List.range_with_len, Option.option_or}
+use Rattle.thorin_inputs.specs.InnerPlaces.{Counts, is_counted, IsSummed, IsWithin}
+use Rattle.thorin_inputs.specs.InnerStrings.{begins_inside, has_word, most_inner, names, word_count}
+use Rattle.thorin_inputs.specs.InnerStrings.{first_content, plain_content, sizes_at, string_size}
+use Rattle.thorin_inputs.specs.UsedSections.{AreBetween, met}
+use Rattle.thorin_inputs.specs.{RepetitionFields.file_cmp, Repetitions.File, Repetitions.is_file}
+use Rattle.thorin_inputs.specs.{declared.overlaps.InnerStrings.InnerStrings, Overlaps.each_size}
+use Rattle.{dwp_base.proofs.Finds.find_at, dwp_decompress.proofs.Sections.drop_step}
+use Rattle.{dwp_base.specs.Numbers.number, std.specs.BTreeMap.is_at, std.specs.Ordering.nat_cmp}
 
 abbrev left : List SectionMeaning → ℕ → ℕ
 left sections i = sum_by each_size (drop i sections)
@@ -35,8 +34,12 @@ each_step sections i size here more section at h m =
     ∙ sum_by-cons each_size section (drop (i + 1) sections) in
     omega (arith, all, h, m)
 
-pub each_end : (sections : List SectionMeaning) (i : ℕ) → length sections ≤ i → left sections i ≡ 0
-each_end sections i h = ap (sum_by each_size) (drop_all i sections h)
+pub each_end : (sections : List SectionMeaning) (i size all : ℕ)
+    → min (size + left sections i) (2 ^ 64 - 1) ≡ all → size ≤ 2 ^ 64 - 1 → length sections ≤ i
+    → size ≡ all
+each_end sections i size all is fits h =
+    let none : left sections i ≡ 0 = ap (sum_by each_size) (drop_all i sections h) in
+    omega (arith, none, is)
 
 -- ---- sizes
 
@@ -65,14 +68,6 @@ pub sizes_none : (strings : List ℕ) (p : ℕ → Bool) → ((at : ℕ) → p a
     → 0 ≡ sizes_at strings p
 sizes_none strings p h =
     sym (ap (sizes_at strings) (λ i at. h at i) ∙ nothing (string_size strings) 0 (length strings))
-
--- more places have more bytes
-sizes_grow : (strings : List ℕ) (p q : ℕ → Bool) → ((at : ℕ) → p at ≡ true → q at ≡ true)
-    → sizes_at strings p ≤ sizes_at strings q
-sizes_grow strings p q h =
-    let size = string_size strings in
-    sum_by-le-sum_by (counts size p) (counts size q) (range_with_len 0 (length strings))
-    (λ at. grind (arith, h at))
 
 -- ---- places
 
@@ -152,7 +147,10 @@ module _ {it : InnerStrings} {strings : List ℕ} {size : ℕ} {rest all : ℕ �
 
       pub too_large : is_past ≡ true → true ≡ nat_lt (most_inner size) (sizes_at strings all)
       too_large past =
-          let grown = sizes_grow strings (is_counted new) all among in
+          let size_of = string_size strings in
+          let grown : sizes_at strings (is_counted new) ≤ sizes_at strings all =
+          sum_by-le-sum_by (counts size_of (is_counted new)) (counts size_of all)
+          (range_with_len 0 (length strings)) (λ at. grind (arith, among at)) in
           let summed = rw (more.strings ∙ left.same) at more.summed in
           grind (arith, nat_tests, grown, summed, past, more.past, left.file)
 
@@ -293,12 +291,3 @@ file_tests =
     let test : (x y : File) → is_at (file_cmp x) y ≡ is_file x y = λ x y.
     grind (arith, nat_tests) in
     λ i x y. test x y i
-
--- one more
-pub noted_at : (old new : BTreeMap File ℕ) (key : File) (input : ℕ)
-    → MapUpdates file_cmp old new key (Some input) → (file : File)
-    → lookup (is_file file) new.entries
-    ≡ cond (is_file key file) (Some input) (lookup (is_file file) old.entries)
-noted_at old new key input updates =
-    subst (λ (is : File → File → Bool). (file : File) → lookup (is file) new.entries
-    ≡ cond (is key file) (Some input) (lookup (is file) old.entries)) file_tests updates.0

@@ -1,6 +1,6 @@
 use Rattle.{std.specs.Map.lookup, thorin_inputs.specs.Repetitions.File}
-use Rattle.thorin_inputs.proofs.Counted.{file_tests, noted_at}
-use Rattle.std.proofs.Common.{ap, Bool, ◌∙◌}
+use Rattle.thorin_inputs.proofs.Counted.{file_tests}
+use Rattle.std.proofs.Common.{ap, Bool, cond, Some, subst, ◌∙◌, ◌≡◌}
 use Rattle.thorin_inputs.proofs.growth.Repetitions.note.Goals as goal
 
 pub returns-clause-before : goal.returns-clause-before
@@ -11,6 +11,7 @@ returns-clause-before c =
 
 pub returns-clause-noted : goal.returns-clause-noted
 returns-clause-noted c =
-    rw (c.in-Some.is, ← c.self.view_is)
-    (noted_at c.self.inside.files c.insert.new.self _ c.self.inside.input
-    c.in_ok-insert.ensures.updates)
+    let key : File = (c.in-Some.device, c.in-Some.number, c.args.size) in
+    rw (c.in-Some.is, ← c.self.view_is) (subst (λ (is : File → File → Bool). (file : File)
+    → lookup (is file) c.insert.new.self.entries ≡ cond (is key file) (Some c.self.inside.input)
+    (lookup (is file) c.self.inside.files.entries)) file_tests c.in_ok-insert.ensures.updates.0)
