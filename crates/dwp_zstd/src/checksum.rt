@@ -49,7 +49,7 @@ fn behind_stripe(four: Accumulators, bytes: &[u8]) -> Accumulators
     }
 }
 
-#[tactic(auto, unfolding(crate::specs::Checksum::behind_stripes), using(crate::proofs::Loops::rounds))]
+#[tactic(auto, unfolding(crate::specs::Checksum::behind_stripes), using(dwp_base::proofs::Rounds::rounds))]
 fn behind_stripes(four: Accumulators, bytes: &[u8]) -> Accumulators
     ensures { result ≡ behind_stripes (length bytes.now / 32) four bytes.now }
 {
@@ -99,7 +99,7 @@ fn of_stripes(bytes: &[u8]) -> u64
     merged(h, four.fourth)
 }
 
-#[tactic(auto, unfolding(crate::specs::Checksum::with_lanes, crate::specs::Checksum::with_lane, crate::specs::Checksum::plus, crate::specs::Checksum::times, crate::specs::Checksum::turn, crate::specs::Checksum::prime1, crate::specs::Checksum::prime4), using(crate::proofs::Loops::rounds))]
+#[tactic(auto, unfolding(crate::specs::Checksum::with_lanes, crate::specs::Checksum::with_lane, crate::specs::Checksum::plus, crate::specs::Checksum::times, crate::specs::Checksum::turn, crate::specs::Checksum::prime1, crate::specs::Checksum::prime4), using(dwp_base::proofs::Rounds::rounds))]
 fn with_lanes(h: u64, bytes: &[u8]) -> u64
     ensures { result ≡ with_lanes (length bytes.now / 8) h bytes.now }
 {
