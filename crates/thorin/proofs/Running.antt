@@ -491,3 +491,6 @@ module _ (again : (state : State) (file : File) → IsSoundBegun state.begun
             (join.joined, keys_of-map_values Some join.added) at (joined-apart join.all)) order.2;
         package_of = subst (λ units. IsPackageOf units file) join.is together.package_of;
       }
+
+-- the laws that are one of these lemmas as it stands
+pub ruleset laws = (each-taken, groups-defined, groups-joined, ran-next, run-accepts)

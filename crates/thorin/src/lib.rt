@@ -2,7 +2,7 @@
 //! DebugFissionDWP): whole packages from lists of inputs, the builder, and the reader of packages.
 //! It re-exports what else a caller names: sessions, errors, the names of units, the arena, and the
 //! parts that the builder is made of (the table of strings, the index writer, relocations).
-#![tactic(auto)]
+#![tactic(auto, using(crate::proofs::Running::laws))]
 
 pub mod again;
 mod groups;
