@@ -2,30 +2,29 @@
 -- refused for two encodings alone, or for a number of a long section. Rows of many units have a
 -- long section: a unit has at least six bytes, those of its length and of its version.
 use Rattle.thorin_join.proofs.Terms as Joined
-use Joined.{ap, arith, bind-was, Bool, codes, content_of, Contribution, drop, Each, Encoding}
-use Joined.{Endianness, Err, ErrorValue, filter, Format, IndexEntry, inl, InProgress, inr}
-use Joined.{is_compilation, is_some, IsSound, length, length-append, length-drop}
-use Joined.{LieInside, List, nat_tests, None, not, Ok, Option, refl, Result, SectionKind, Some}
-use Joined.{subst, true, ℕ, [], ◌*◌, ◌+◌, ◌-◌, ◌<◌, ◌>>=◌, ◌^◌, ◌∷◌, ◌≡◌, ◌≤◌, ◌⊎◌}
-use Rattle.thorin_again.specs.{InFormat.HasEncodingOfOne, InFormat.IsInFormat, PlainInputs.AreTaken}
+use Joined.{Endianness, ErrorValue, IndexEntry, InProgress, length-append, length-drop, SectionKind}
+use Joined.{ap, drop, Err, inl, inr, not, Ok, Some, [], ◌*◌, ◌+◌, ◌-◌, ◌<◌, ◌^◌, ◌∷◌, ◌≡◌, ◌≤◌, ◌⊎◌}
+use Joined.{arith, Bool, codes, content_of, Each, filter, length, List, None, Option, Result, ◌>>=◌}
+use Joined.{bind-was, Contribution, Encoding, Format, is_compilation, IsSound, LieInside, nat_tests}
+use Joined.{refl, ℕ}
+use Rattle.dwp_bytes.specs.Input.{Input, number_at, section, split_at}
 use Rattle.std.proofs.lemmas.{Bool.cases_lt, List.Sums.count_by-le-length, List.Sums.length-filter}
 use Rattle.std.proofs.{ByRecursion.all_kept_by, Common.length-take-le, Common.ok_or, Common.⊎_elim}
-use Rattle.{std.proofs.lemmas.List.Filters.length-filter_both, thorin_again.proofs.Lists.begun-now}
-use Rattle.thorin_errors.specs.Errors.{MixedInputEncodings, NoOutputObjectCreated, NumberTooLarge}
-use Rattle.thorin_join.specs.{Builder.targets_test, StandApart.contents_begun, StandApart.EachRow}
-use Rattle.{dwp_elf.specs.Growing.Contents, dwp_units.specs.declared.unit.UnitSection.UnitSection}
-use Rattle.{dwp_bytes.specs.Encoding.index_version_of, thorin_index.specs.EntryTests.tests_under}
-use Rattle.thorin_index.specs.EntryTests.{format_test, index_tests, number_test, same_encoding}
-use Rattle.thorin_join.specs.Builder.{compilations, finish_test, indexes_test, names_in, start}
-use Rattle.{thorin.proofs.Running.taken-joins, thorin_join.proofs.Joined.sound-inside}
-use Rattle.thorin_index.specs.EntryTests.{contributions_test, count_test, each, encoding_test}
-use Rattle.dwp_units.specs.Units.{header_at, initial_length_at, Unit as Header, unit_at}
+use Rattle.thorin.proofs.Running.{taken-joins}
 use Rattle.thorin.specs.Unfinished.{AreMixed, HasLongSection, IsIndexNumber, LacksInput}
+use Rattle.thorin_again.specs.{InFormat.HasEncodingOfOne, InFormat.IsInFormat, PlainInputs.AreTaken}
+use Rattle.thorin_errors.specs.Errors.{MixedInputEncodings, NoOutputObjectCreated, NumberTooLarge}
 use Rattle.thorin_index.specs.Entries.{contribution_to, offset_or_0, size_or_0}
-use Rattle.thorin_join.specs.{Builder.State, Laid.is_at, Laid.IsLaid, Laid.Lie}
-use Rattle.thorin_join.proofs.{Joined.takes, Units.each-all}
-use Rattle.dwp_bytes.specs.Input.{Input, number_at, section, split_at}
-use Rattle.dwp_table.specs.Columns.{column_of, contribution_kinds}
+use Rattle.thorin_index.specs.EntryTests.{contributions_test, format_test, index_tests, number_test}
+use Rattle.thorin_index.specs.EntryTests.{count_test, each, encoding_test, tests_under}
+use Rattle.thorin_join.proofs.{Joined.sound-inside, Joined.takes, Units.each-all}
+use Rattle.thorin_join.specs.Builder.{compilations, finish_test, indexes_test, State, targets_test}
+use Rattle.thorin_join.specs.StandApart.{contents_begun, EachRow}
+use Rattle.thorin_join.specs.{Builder.names_in, Builder.start, Laid.is_at, Laid.IsLaid, Laid.Lie}
+use Rattle.{dwp_bytes.specs.Encoding.index_version_of, dwp_table.specs.Columns.contribution_kinds}
+use Rattle.{dwp_elf.specs.Growing.Contents, dwp_units.specs.declared.unit.UnitSection.UnitSection}
+use Rattle.{std.proofs.lemmas.List.Filters.length-filter_both, thorin_again.proofs.Lists.begun-now}
+use Rattle.dwp_units.specs.Units.{header_at, initial_length_at, Unit as Header, unit_at}
 use Rattle.dwp_base.specs.declared.section.SectionKind.TheVariants as kinds
 use Rattle.dwp_units.specs.declared.unit.UnitSection.TheVariants as places
 use Rattle.thorin.proofs.again.taken_inputs_are_finished.Goals as goal
@@ -91,10 +90,10 @@ module _ {X : Type 0} (P : X → Type 0) (test : X → Result (Unit {0}) ErrorVa
   each-failed error [] all h = absurd cc
   each-failed error (x ∷ xs) all h = grind (arith, each-failed error xs)
 
-  each-passed : (Q : X → Type 0) → ((x : X) → P x → test x ≡ Ok tt → Q x) → (xs : List X)
-      → Each P xs → each test xs ≡ Ok tt → Each Q xs
-  each-passed Q says [] all h = tt
-  each-passed Q says (x ∷ xs) all h = grind (arith, says x, each-passed Q says xs)
+  each-passed : (xs : List X) → Each P xs → each test xs ≡ Ok tt
+      → Each (λ x. P x × (test x ≡ Ok tt)) xs
+  each-passed [] all h = tt
+  each-passed (x ∷ xs) all h = grind (arith, each-passed xs)
 
 -- a test of a contribution of some row failed
 contribution-failed : (P : IndexEntry → Type 0)
@@ -107,16 +106,6 @@ contribution-failed P test error rows all h =
     let k = each-failed (λ kind. Unit {0}) (λ kind. test kind (contribution_to kind r.0)) error
     contribution_kinds (each-all (λ kind. Unit {0}) (λ kind. tt) contribution_kinds) r.2 in
     (r.0, r.1, k.0, k.2)
-
--- ---- the tests of one row
-
--- an index of this version has a column for each section that the row has a contribution to
-abbrev HasColumns : ℕ → IndexEntry → Type 0
-HasColumns version row = (kind : SectionKind) → is_some (contribution_to kind row) ≡ true
-    → is_some (column_of version kind) ≡ true
-
-same-self : (encoding : Encoding) → same_encoding encoding encoding ≡ true
-same-self encoding = grind (arith, nat_tests)
 
 -- ---- the tests of an index
 
@@ -155,14 +144,9 @@ module _ (inputs : List (List ℕ)) (state : State) (error : ErrorValue) where
       → each (contributions_test (format_test (index_version_of encoding.version))) rows ≡ Err error
       → ⊥
   format-passed encoding rows format passed h =
-      let version = index_version_of encoding.version in
-      let columns = each-passed IsInFormat (encoding_test encoding) (HasColumns version)
-      (λ row in_format tested kind some. let same : row.encoding.version ≡ encoding.version =
-      grind (arith, nat_tests, tested) in
-      subst (λ v. is_some (column_of (index_version_of v) kind) ≡ true) same (in_format kind some))
-      rows format passed in
-      let f = contribution-failed (HasColumns version) (format_test version) error rows columns h in
-      grind (arith, f.1 f.2, f.3)
+      let f = contribution-failed _ (format_test (index_version_of encoding.version)) error rows
+      (each-passed IsInFormat (encoding_test encoding) rows format passed) h in
+      grind (arith, nat_tests, f.1.0 f.2, f.1.1, f.3)
 
   mixed : (row : IndexEntry) (rows : List IndexEntry)
       → EachRow (HasEncodingOfOne inputs) (row ∷ rows)
@@ -171,7 +155,7 @@ module _ (inputs : List (List ℕ)) (state : State) (error : ErrorValue) where
       let r = each-failed (HasEncodingOfOne inputs) (encoding_test row.encoding) error (row ∷ rows)
       encodings h in
       let other : (error ≡ MixedInputEncodings) × (row.encoding ≡ r.0.encoding → ⊥) =
-      grind (arith, r.2, same-self r.0.encoding) in (
+      grind (arith, nat_tests, r.2) in (
         record {
           one = encodings.0.0;
           one_among = encodings.0.1;
