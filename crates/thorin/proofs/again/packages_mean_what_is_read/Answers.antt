@@ -55,25 +55,21 @@ module _ (k : SectionKind) (bytes : List ℕ) where
   Expects ss None = content_among ss k ≡ Ok bytes
   Expects ss (Some used) = used.bytes ≡ bytes
 
-  one-more : (s : SectionMeaning) (ss : List SectionMeaning) (before next : List Used)
-      (o : Option Used) → find (has_kind k) before ≡ o → with_used before s (used_kind s) ≡ Ok next
-      → Expects (s ∷ ss) o → Expects ss (find (has_kind k) next)
-  unfolding content_among used_bytes
-  one-more s ss before next (Some used) f w c =
-      grind (rules, with-more s before next (used_kind s), find-append (has_kind k) before)
-  one-more s ss before next None f w c =
-      let more = with-more s before next (used_kind s) w in
-      let other = λ (u : Used). apart s u.kind k in
-      grind (rules, more, find-append (has_kind k) before, used-of s k, other, same-self k)
-
-  all-used : (ss : List SectionMeaning) (before after : List Used)
-      → used_from before ss ≡ Ok after → Expects ss (find (has_kind k) before)
+  all-used : (ss : List SectionMeaning) (before after : List Used) (o : Option Used)
+      → find (has_kind k) before ≡ o → used_from before ss ≡ Ok after → Expects ss o
       → first k after ≡ bytes
-  unfolding used_from content_among
-  all-used [] before after h c = grind rules
-  all-used (s ∷ ss) before after h c =
+  unfolding used_from content_among used_bytes
+  all-used [] before after o f h c = grind rules
+  all-used (s ∷ ss) before after (Some used) f h c =
       let t = bind-was (with_used before s (used_kind s)) _ after h in
-      all-used ss t.0 after t.2 (one-more s ss before t.0 (find (has_kind k) before) refl t.1 c)
+      let more = with-more s before t.0 (used_kind s) t.1 in
+      grind (rules, all-used ss t.0 after _ refl t.2, more, find-append (has_kind k) before)
+  all-used (s ∷ ss) before after None f h c =
+      let t = bind-was (with_used before s (used_kind s)) _ after h in
+      let more = with-more s before t.0 (used_kind s) t.1 in
+      let next = all-used ss t.0 after _ refl t.2 in
+      let other = λ (u : Used). apart s u.kind k in
+      grind (rules, next, more, find-append (has_kind k) before, used-of s k, other, same-self k)
 
 -- ---- the package
 
@@ -112,7 +108,7 @@ read-as bytes pack file object encoding indexes h o k l =
     let t = bind-was (used_from [] p1.0.sections) _ object (rw same at k) in
     let is = same-ok _ object t.2 in
     let each : (kind : SectionKind) → first kind t.0 ≡ content p2.0 kind = λ kind.
-    all-used kind (content p2.0 kind) p1.0.sections [] t.0 t.1 (read-kind
+    all-used kind (content p2.0 kind) p1.0.sections [] t.0 None refl t.1 (read-kind
     (content_among p1.0.sections) p2.0 []
     (error-was errors.Elf (contents_of p1.0.sections) p2.0 p2.1) kind) in
     let s1 = bind-was (index_in order CuIndex (first CuIndex t.0)) _ indexes (rw (← is) at l) in
