@@ -8,16 +8,18 @@ use Joined.{Bool, drop, eqb, length, List, refl, remapped, Some, Str, subst, tak
 use Joined.{Contents, nat_tests, no_header, none-some, same_Some, slice_range, string_at, string_in}
 use Joined.{Contribution, drop-append-le, fitting_offset, joined_parts, length-append, number_front}
 use Joined.{ap, inl, inr, Ok, suc, sym, [], ℕ, ◌*◌, ◌+◌, ◌<◌, ◌>>=◌, ◌∙◌, ◌∷◌, ◌≡◌, ◌≤◌, ◌⊎◌}
-use Joined.{arith, false, first, is-same, Option, Parts, parts_of, Source, take-length, with_source}
+use Joined.{append-nil, arith, false, first, is-same, nil_from_length, Option, Parts, parts_of}
+use Joined.{Source, with_source}
 use Joined.{bind-was, by-bool, data_of, Encoding, entry_in, has_part, is_package, IsTable, named_at}
 use Joined.{content_of, contribution_put, Endianness, IndexEntry, InProgress, kept_more, StrOffsets}
-use Rattle.std.proofs.Common.{add-mul, eqb-true, leb-false, lt-ltb, true≢false, zero-mul, ⊎_elim}
+use Rattle.std.proofs.Common.{add-mul, eqb-true, leb-false, lt-ltb, true≢false, ⊎_elim}
 use Rattle.std.proofs.{lemmas.Bool.eqb-false, lemmas.Nat.row_fits, Math.Seq.drop-append-add}
 use Rattle.thorin_again.proofs.Kept.{once-more, order-added, row_with, RowHas, rows-share, with-any}
 use Rattle.thorin_again.proofs.{Kept.content-added, Kept.parted, Kept.with-each, Sections.tile-end}
 use Rattle.thorin_again.specs.Plain.{GiveStrings, HasOneOf, HasTiledOffsets, IsOfSome, IsWholeRange}
 use Rattle.thorin_again.specs.{OwnRefusals.UnlessStringOffset, Plain.IsAmong, Plain.Tile}
-use Rattle.thorin_join.proofs.Parts.{each-part, has-more, has-other, joined_parts-more, Rewritten}
+use Rattle.thorin_join.proofs.Parts.{each-brings, each-part, has-more, has-other, joined_parts-more}
+use Rattle.thorin_join.proofs.Parts.{Rewritten}
 use Rattle.thorin_join.proofs.Parts.{joined_parts-other, no-entries, rewritten-plain, units-strings}
 use Rattle.thorin_join.proofs.Rows.{own-bytes, place-put, range-front, range_for}
 use Rattle.thorin_join.{proofs.Ranges.count-again, proofs.Ranges.range-of, specs.StandApart.EachRow}
@@ -189,144 +191,125 @@ module _ (order : Endianness) (encoding : Encoding) where
       (omega (arith, tile.0)) tile.2 fits (s2.0.0, grind (arith, s2.1, s2.2)) second)
 
 -- the part of string offsets that a plain object makes is whole
-module _ (source : Source) (plain : is_package source.indexes ≡ false) (start : List (List ℕ)) where
+module _ (source : Source) (plain : is_package source.indexes ≡ false) where
   abbrev order : Endianness
   order = source.object.order
 
   abbrev encoding : Encoding
   encoding = source.encoding
 
-  abbrev entry_width : ℕ
-  entry_width = offset_size encoding.format
-
   abbrev section : List ℕ
   section = first Str source.object.sections
 
-  -- no bytes, or so many whole entries behind a header
-  abbrev Fills : ℕ → ℕ → Type 0
-  Fills size n = ((size ≡ 0) × (n ≡ 0)) ⊎ ((size ≡ header_size encoding + n * entry_width)
-      × (header : List ℕ) × (header_of order encoding (n * entry_width) ≡ Ok header))
+  -- a whole range; rewritten once more from these strings on, it gives those, in the section of any
+  -- that begin with them
+  record Given (new : List ℕ) (before after : List (List ℕ)) : Type 0 where
+    whole : IsWholeRange order encoding (length new)
+    again : (final : List (List ℕ)) → IsTable final → take (length after) final ≡ after
+        → Lead order encoding (data_of final) new whole.count before after
 
-  -- so many entries, rewritten again from these strings on, give those, in the section of any that
-  -- begin with them
-  abbrev Again : List ℕ → ℕ → (before after : List (List ℕ)) → Type 0
-  Again new n before after = (final : List (List ℕ)) → IsTable final → take (length after) final ≡
-      after → Lead order encoding (data_of final) new n before after
+  -- or no bytes, and the strings stay
+  abbrev Gives : List ℕ → (before after : List (List ℕ)) → Type 0
+  Gives new before after = ((new ≡ []) × (after ≡ before)) ⊎ Given new before after
 
-  record Made (new : List ℕ) (strings : List (List ℕ)) (has : Bool) : Type 0 where
-    table : IsTable strings
-    fresh : has ≡ false → (new ≡ []) × (strings ≡ start)
-    count : ℕ
-    fills : Fills (length new) count
-    kept : take (length start) strings ≡ start
-    again : Again new count start strings
-
-  abbrev MadeBy : Parts → Type 0
-  MadeBy parts = Made (joined_parts StrOffsets parts.0) parts.1 (has_part StrOffsets parts.0)
-
-  -- before DWARF 5 there are the entries alone
-  older-long : encoding.version < 5 → (size n : ℕ) → Fills size n → size ≡ n * entry_width
-  older-long old size n fills = grind (arith, zero-mul entry_width, no_header encoding old)
-
-  made-rewritten : (before : Parts) (bytes : List ℕ) (next : Parts) → MadeBy before
-      → (leb 5 encoding.version ≡ true → has_part StrOffsets before.0 ≡ false)
-      → Rewritten source before bytes next → MadeBy next
-  unfolding header_of remapped_entries
-  made-rewritten before bytes next so_far once w =
-      let new = joined_parts StrOffsets before.0 in
-      let own = w.written.0 in
-      let strings = w.written.1 in
-      let m = entry_count encoding (length bytes) in
-      let rewrites : remapped order encoding section bytes (length bytes) before.1 ≡ Ok w.written =
-      sym (rewritten-plain source bytes before.1 plain) ∙ w.rewrites in
-      let law = range_named _ _ _ _ _ _ w.written so_far.table rewrites in
-      let one : Fills (length own) m × Lead order encoding section bytes m before.1 strings =
-      elim (range-of order encoding section bytes (length bytes) before.1 w.written rewrites) [
-        | inl none ↦
-            let count = ap (entry_count encoding) none.0 ∙ no-entries encoding in
-            rw (← none.1) (inl (refl, count), ([], rw count refl))
-        | inr r ↦
-            let long = law.long (eqb-false (length bytes) 0 r.some) in
-            (inr (long, r.header, r.header_is), (r.entries.0, grind (arith, r.entries_are, r.is)))
-      ] in
-      let alone : Again own m before.1 strings = λ final table kept.
-      let same = entries-alike order encoding (data_of final) section own bytes m before.1
-      (λ k less. let name = law.named k less in name.new final table kept ∙ sym name.old) in
-      (one.1.0, same ∙ one.1.1) in
-      let all : (n : ℕ) × Fills (length (new ++ own)) n × Again (new ++ own) n start strings =
-      by-bool _ (leb 5 encoding.version) (λ standard. let empty = so_far.fresh (once standard) in
-      (m, rw empty.0 one.0, λ final table kept. rw (empty.0, ← empty.1) (alone final table kept)))
-      (λ gnu.
-      let old = leb-false 5 encoding.version gnu in
-      let long = older-long old (length new) so_far.count so_far.fills in
-      let more = older-long old (length own) m one.0 in
-      let both = add-mul so_far.count m entry_width in
-      let size : length (new ++ own) ≡ header_size encoding + (so_far.count + m) * entry_width =
-      omega (arith, long, more, no_header encoding old, both, length-append new own) in (
-        so_far.count + m,
-        inr (size, [], rw (lt-ltb encoding.version 5 old) refl),
-        λ final table kept. leads-joined order encoding old _ new own _ long m start _ _
-            (so_far.again final table (kept_more _ _ final law.kept kept)) (alone final table kept),
-      )) in
-      let more = joined_parts-more StrOffsets before.0 StrOffsets own in
-      rw (w.is, has-more before.0 own, more) (record {
-        table = law.table;
-        fresh = λ none. absurd (true≢false none);
-        count = all.0;
-        fills = all.1;
-        kept = kept_more start before.1 strings so_far.kept law.kept;
-        again = all.2;
+  -- joined, before DWARF 5
+  joined-gives : encoding.version < 5 → (xs ys : List ℕ) (a b c : List (List ℕ))
+      → take (length b) c ≡ b → Gives xs a b → Gives ys b c → Gives (xs ++ ys) a c
+  unfolding header_of
+  joined-gives old xs ys a b c kept (inl none) second = rw (none.0, ← none.1) second
+  joined-gives old xs ys a b c kept (inr first) (inl none) =
+      rw (none.0, append-nil, none.1) (inr first)
+  joined-gives old xs ys a b c kept (inr first) (inr second) =
+      let n = first.whole.count in
+      let m = second.whole.count in
+      let none = no_header encoding old in
+      let long = add-mul n m (offset_size encoding.format) in
+      inr (record {
+        whole = record {
+          some = omega (arith, first.whole.some, length-append xs ys);
+          count = n + m;
+          long = omega
+              (arith, none, first.whole.long, second.whole.long, long, length-append xs ys);
+          header = [];
+          written = rw (lt-ltb encoding.version 5 old) refl;
+        };
+        again = λ final table begins. leads-joined order encoding old _ xs ys n
+            (omega (arith, none, first.whole.long)) m a b c
+            (first.again final table (kept_more b c final kept begins))
+            (second.again final table begins);
       })
 
-  -- the part of an input gives the strings after it
-  part-made : (parts : Contents) (after : List (List ℕ)) → IsTable start
-      → parts_of source start ≡ Ok (parts, after) → MadeBy (parts, after)
-  unfolding remapped_entries
-  part-made parts after table h = each-part source (λ before ss now. MadeBy before → MadeBy now)
-      (λ now so_far. so_far) (λ before s next ss now made rest later so_far.
-      elim made.adds [
-        | inl (o, w) ↦ later (made-rewritten before s.bytes next so_far
-            (λ standard. grind (arith, made.once, is-same s.kind StrOffsets o)) w)
-        | inr (inl (o, c, is)) ↦
-            let joined = joined_parts-other StrOffsets before.0 s.kind s.bytes o in
-            later (rw (is, has-other before.0 s.kind s.bytes o, joined) so_far)
-        | inr (inr (o, c, is)) ↦ later (rw is so_far)
-      ]) source.object.sections ([], start) (parts, after) h (record {
-        table = table;
-        fresh = λ none. (refl, refl);
-        count = 0;
-        fills = inl (refl, refl);
-        kept = take-length start;
-        again = λ final final_table kept. ([], refl);
-      })
+  module _ (start : List (List ℕ)) where
+    record Made (new : List ℕ) (strings : List (List ℕ)) (has : Bool) : Type 0 where
+      table : IsTable strings
+      fresh : has ≡ false → (new ≡ []) × (strings ≡ start)
+      gives : Gives new start strings
 
-  -- without bytes the strings stay; else they are a whole range, which gives the strings again
-  made-fills : (new : List ℕ) (after : List (List ℕ)) (has : Bool) → Made new after has
-      → ((length new ≡ 0) × (after ≡ start)) ⊎ (IsWholeRange order encoding (length new)
-      × ((final : List (List ℕ)) → IsTable final → take (length after) final ≡ after
-      → (written : List ℕ) × (remapped order encoding (data_of final) new (length new) start
-      ≡ Ok (written, after))))
-  unfolding remapped_entries
-  made-fills new after has made = by-bool _ (eqb (length new) 0) (λ none.
-      let empty = eqb-true (length new) 0 none in
-      let again = count-again encoding.format (length new) (header_size encoding) made.count in
-      let none : made.count ≡ 0 = grind (arith, made.fills, empty, no-entries encoding, again) in
-      let lead = rw none at (made.again after made.table (take-length after)) in
-      inl (empty, grind (arith, lead.1))) (λ some.
-      let there : 0 < length new = omega (arith, eqb-false (length new) 0 some) in
-      elim made.fills [
-        | inl none ↦ absurd (omega (arith, there, none.0))
-        | inr f ↦
-            let whole : IsWholeRange order encoding (length new) =
-            record { some = there; count = made.count; long = f.0; header = f.1; written = f.2 } in
-            inr (
-              whole,
-              λ final table kept. let lead = made.again final table kept in (
-                whole.header ++ entry_bytes order encoding.format lead.0,
-                whole-remapped _ _ (data_of final) new _ start whole ∙ rw lead.1 refl,
-              ),
-            )
-      ])
+    abbrev MadeBy : Parts → Type 0
+    MadeBy parts = Made (joined_parts StrOffsets parts.0) parts.1 (has_part StrOffsets parts.0)
+
+    made-rewritten : (before : Parts) (bytes : List ℕ) (next : Parts) → MadeBy before
+        → (leb 5 encoding.version ≡ true → has_part StrOffsets before.0 ≡ false)
+        → Rewritten source before bytes next → MadeBy next
+    unfolding remapped_entries
+    made-rewritten before bytes next so_far once w =
+        let own = w.written.0 in
+        let m = entry_count encoding (length bytes) in
+        let rewrites : remapped order encoding section bytes (length bytes) before.1
+        ≡ Ok w.written =
+        sym (rewritten-plain source bytes before.1 plain) ∙ w.rewrites in
+        let law = range_named _ _ _ _ _ _ w.written so_far.table rewrites in
+        let one : Gives own before.1 w.written.1 =
+        elim (range-of order encoding section bytes (length bytes) before.1 w.written rewrites) [
+          | inl none ↦ rw (← none.1) (inl (refl, refl))
+          | inr r ↦
+              let long = law.long (eqb-false (length bytes) 0 r.some) in
+              let count = count-again encoding.format (length own) (header_size encoding) m long in
+              by-bool _ (eqb (length own) 0) (λ empty. let size = eqb-true (length own) 0 empty in
+              let none : m ≡ 0 = grind (arith, count, size, no-entries encoding) in
+              let first = rw none at r.entries_are in
+              inl (nil_from_length own size, grind (arith, first, r.is)))
+              (λ some. inr (record {
+                whole = record {
+                  some = omega (arith, eqb-false (length own) 0 some);
+                  count = m;
+                  long = long;
+                  header = r.header;
+                  written = r.header_is;
+                };
+                again = λ final table kept.
+                    let same = entries-alike order encoding (data_of final) section own bytes m
+                    before.1 (λ k less. let name = law.named k less in
+                    name.new final table kept ∙ sym name.old) in
+                    (r.entries.0, same ∙ grind (arith, r.entries_are, r.is));
+              }))
+        ] in
+        rw (w.is, has-more before.0 own, joined_parts-more StrOffsets before.0 StrOffsets own)
+        (record {
+          table = law.table;
+          fresh = λ none. absurd (true≢false none);
+          gives = by-bool _ (leb 5 encoding.version)
+              (λ standard. let empty = so_far.fresh (once standard) in
+              rw (empty.0, ← empty.1) one)
+              (λ gnu. joined-gives (leb-false 5 encoding.version gnu) _ own _ _ _ law.kept
+              so_far.gives one);
+        })
+
+    -- the part of an input gives the strings after it
+    part-gives : (parts : Contents) (after : List (List ℕ)) → IsTable start
+        → parts_of source start ≡ Ok (parts, after)
+        → Gives (joined_parts StrOffsets parts) start after
+    part-gives parts after table h =
+        (each-part source (λ before ss now. MadeBy before → MadeBy now) (λ now so_far. so_far)
+        (λ before s next ss now made rest later so_far. elim made.adds [
+          | inl (o, w) ↦ later (made-rewritten before s.bytes next so_far
+              (λ standard. grind (arith, made.once, is-same s.kind StrOffsets o)) w)
+          | inr (inl (o, c, is)) ↦
+              let joined = joined_parts-other StrOffsets before.0 s.kind s.bytes o in
+              later (rw (is, has-other before.0 s.kind s.bytes o, joined) so_far)
+          | inr (inr (o, c, is)) ↦ later (rw is so_far)
+        ]) source.object.sections ([], start) (parts, after) h
+        (record { table = table; fresh = λ none. (refl, refl); gives = inl (refl, refl) })).gives
 
 -- what holds of one of a list, or of another
 abbrev Any : {X : Type 0} → (X → Type 0) → List X → Type 0
@@ -350,9 +333,6 @@ module _ (source : Source) (before now : InProgress) (plain : is_package source.
     (table : IsTable before.strings) (same : source.object.order ≡ before.file.order)
     (h : with_source source before ≡ Ok now) (more : length before.rows < length now.rows)
     (tiled : HasTiledOffsets source.encoding before) where
-  abbrev now_order : Endianness
-  now_order = before.file.order
-
   abbrev a : Added source before now
   a = source-made source before now h
 
@@ -365,29 +345,28 @@ module _ (source : Source) (before now : InProgress) (plain : is_package source.
   abbrev range : Contribution
   range = range_for StrOffsets joined before.file.contents
 
-  abbrev part : MadeBy source plain before.strings (a.parts, a.after)
-  part = part-made source plain before.strings a.parts a.after table a.parts_are
-
   -- what these ranges more are of the section and the strings behind the others, and of the rows
-  made-so : (ranges : List Contribution)
-      → Tile now_order source.encoding (length old) ranges (length old + length joined)
-      → ((r : Contribution) → contribution_put StrOffsets joined before.file.contents ≡ Some r
-      → IsAmong r ranges) → ((r : Contribution) → IsAmong r ranges → IsOfSome r now.rows)
+  made-so : (ranges : List Contribution) → Tile source.object.order source.encoding (length old)
+      ranges (length old + length joined) → ((r : Contribution)
+      → contribution_put StrOffsets joined before.file.contents ≡ Some r → IsAmong r ranges)
+      → ((r : Contribution) → IsAmong r ranges → IsOfSome r now.rows)
       → ((final : List (List ℕ)) → IsTable final → take (length a.after) final ≡ a.after
-      → InTurn now_order source.encoding (data_of final) (old ++ joined) (length old) ranges
-      before.strings a.after) → HasTiledOffsets source.encoding now
+      → InTurn source.object.order source.encoding (data_of final) (old ++ joined) (length old)
+      ranges before.strings a.after) → HasTiledOffsets source.encoding now
   made-so ranges tile new named gives =
       let all = tiled.ranges ++ ranges in
+      let order_is = order-added a ∙ sym same in
       let content : content_of StrOffsets now.file.contents ≡ old ++ joined =
       content-added a StrOffsets refl in
-      let order_is = order-added a in
+      let first_tile = rw (← same) at tiled.tile in
+      let kept = ((each-brings source _ _ _ a.parts_are).0.follows table).kept in
       let strings_are : now.strings ≡ a.after =
       ap (λ (p : InProgress). p.strings) (sym a.is) ∙ units-strings (parted a) a.new.units in
       let among = λ (r : Contribution). any-append (λ x. r ≡ x) tiled.ranges ranges in
       record {
         ranges = all;
-        tile = rw (order_is, content, length-append old joined) (tile-append now_order
-            source.encoding 0 tiled.ranges ranges _ _ tiled.tile tile);
+        tile = rw (order_is, content, length-append old joined)
+            (tile-append _ source.encoding 0 tiled.ranges ranges _ _ first_tile tile);
         rows = with-each a (λ p. EachRow (HasOneOf all) p.rows) (RowHas (HasOneOf all))
             (λ p u has rows. All-append (HasOneOf all) p.rows (row_with p.file.contents u ∷ [])
             rows (has p.file.contents, tt))
@@ -399,25 +378,23 @@ module _ (source : Source) (before now : InProgress) (plain : is_package source.
             (λ p u so. (any-append (λ (row : IndexEntry). row.debug_str_offsets ≡ Some r) p.rows
             (row_with p.file.contents u ∷ [])).0 (inl so)) (tiled.named r k)) (named r)
             ((among r).1 h);
-        strings = rw (order_is, content) (subst (GiveStrings now_order source.encoding (old ++
-            joined) all) (sym strings_are) (λ final table front. grown now_order source.encoding
-            _ old joined 0 0 _ tiled.ranges ranges [] _ a.after refl tiled.tile (omega arith)
-            (tiled.strings final table (kept_more _ _ final part.kept front))
+        strings = rw (order_is, content) (subst (GiveStrings source.object.order source.encoding
+            (old ++ joined) all) (sym strings_are) (λ final table front. grown _ source.encoding
+            _ old joined 0 0 _ tiled.ranges ranges [] _ a.after refl first_tile (omega arith)
+            ((rw (← same) at tiled.strings) final table (kept_more _ _ final kept front))
             (gives final table front)));
       }
 
   pub tiled-kept : HasTiledOffsets source.encoding now
-  tiled-kept = elim (made-fills source plain before.strings joined a.after
-      (has_part StrOffsets a.parts) part) [
-        | inl none ↦ made-so [] (omega (arith, none.0))
+  tiled-kept =
+      elim (part-gives source plain before.strings a.parts a.after table a.parts_are) [
+        | inl none ↦ made-so [] (omega (arith, ap length none.0))
             (λ r e. absurd (none-some r (rw none.0 at e))) (λ r h. absurd h)
-            (λ final table front. rw none.1 (no-turn now_order source.encoding _ _ _ _))
-        | inr whole ↦
-            let put = place-put StrOffsets joined before.file.contents whole.0.some in
+            (λ final table front. rw none.1 (no-turn _ source.encoding _ _ _ _))
+        | inr g ↦
+            let put = place-put StrOffsets joined before.file.contents g.whole.some in
             let is_some = λ (row : IndexEntry). row.debug_str_offsets ≡ Some range in
-            let is_whole = subst (λ o. IsWholeRange o source.encoding (length joined)) same
-            whole.0 in
-            made-so (range ∷ []) (refl, is_whole, refl)
+            made-so (range ∷ []) (refl, g.whole, refl)
             (λ r e. inl (same_Some r range (sym e ∙ put)))
             (λ r h. ⊎_elim (λ e. subst (λ x. IsOfSome x now.rows) (sym e)
             (once-more a more (λ p. IsOfSome range p.rows) (RowHas is_some)
@@ -425,9 +402,12 @@ module _ (source : Source) (before now : InProgress) (plain : is_package source.
             (inr (inl (has p.file.contents))))
             (rows-share a plain StrOffsets refl (λ part. part ≡ Some range) put)))
             (λ k. absurd k) h) (λ final table front.
-            let one = whole.1 final table front in
-            let again = subst (λ o. remapped o source.encoding (data_of final) joined
-            (length joined) before.strings ≡ Ok (one.0, a.after)) same one.1 in
-            turn now_order source.encoding _ _ _ range [] _ a.after a.after
-            (one.0, rw (own-bytes old joined) again) (no-turn now_order source.encoding _ _ _ _))
+            let lead = g.again final table front in
+            let one = g.whole.header ++ entry_bytes source.object.order source.encoding.format
+            lead.0 in
+            turn _ source.encoding _ _ _ range [] _ a.after a.after (
+              one,
+              rw (own-bytes old joined) (whole-remapped _ _ (data_of final) joined _
+                  before.strings g.whole ∙ rw lead.1 refl),
+            ) (no-turn _ source.encoding _ _ _ _))
       ]
