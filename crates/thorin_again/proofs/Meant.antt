@@ -1,7 +1,8 @@
 -- What a unit of a written package means as an input: just what was joined. A finished package,
 -- taken as an input, means the units that were joined in it.
 use Rattle.thorin_join.proofs.Terms as Joined
-use Joined.{Adding, by-bool, Indexes, is_none, IsRowOf, IsSound, joining, Meaning, Members, NewUnit}
+use Joined.{Adding, by-bool, cond, filter, is-same, not, same_kind, Used, Indexes, is_none, IsRowOf}
+use Joined.{IsSound, joining, Meaning, Members, NewUnit}
 use Joined.{All, Bool, Each, File, first, List, None, opened, refl, row_in, Some, subst, true, zero}
 use Joined.{Contribution, filter-append, is_compilation, IsSoundBegun, name_signature, source_units}
 use Joined.{Header, kind_of, Option, part_of, range_in, Ranges, rows_of, same-ok, section, units_in}
@@ -15,13 +16,12 @@ use Joined.{entry_ids, file_text, indexes_of, is_chosen, LieInside, nat_tests, n
 use Rattle.dwp_table.specs.{Probing.found_row, Probing.look_count, Table.FindsExactly}
 use Rattle.dwp_units.specs.Units.{units, units_within}
 use Rattle.std.proofs.Common.{ap₂, eqb-true, find, get_or, IsPermutation, ◌≢◌}
-use Rattle.std.proofs.Math.{Dec.eqb-suc-zero, Seq.drop-append_seam, Seq.take-append_seam}
-use Rattle.std.proofs.lemmas.List.Elements.{All-drop, All-filter, All-from_recursion, All-head}
-use Rattle.std.proofs.lemmas.List.Sorted.{IsPermutation-append_comm, IsPermutation-append_right}
+use Rattle.std.proofs.Math.{Dec.eqb-suc-zero}
+use Rattle.std.proofs.lemmas.List.Elements.{All-filter, All-from_recursion, All-head}
 use Rattle.std.proofs.lemmas.List.Sorted.{IsPermutation-filter_both, IsPermutation-refl}
 use Rattle.std.proofs.lemmas.List.Sorted.{IsPermutation-map, IsPermutation-sym, IsPermutation-trans}
-use Rattle.std.proofs.lemmas.List.{Elements.All-tail, Elements.All-take, Folds.Any-from_list_any}
-use Rattle.std.proofs.lemmas.List.{get_or_append_left, Sorted.All-permutation}
+use Rattle.std.proofs.lemmas.List.{Elements.All-tail, Folds.Any-from_list_any}
+use Rattle.std.proofs.lemmas.List.{get_or_append_left}
 use Rattle.std.proofs.lemmas.Option.{slice_get-get_or, slice_get_within}
 use Rattle.thorin_again.proofs.Opened.{empty-first, info-written, IsOwnRow, none-behind, opened-elf}
 use Rattle.thorin_again.proofs.Opened.{first-written, input-encoding, IsReadOf, mean_of, section_of}
@@ -35,7 +35,8 @@ use Rattle.thorin_input.specs.Rows.{abbreviations_for, numbered_abbreviations, r
 use Rattle.thorin_input.specs.{Adjusting.row_of, Indexes.index_for, Indexes.looked_up}
 use Rattle.thorin_input.specs.{Encodings.encoding_of, Rows.own_contribution, Rows.row_test}
 use Rattle.thorin_join.proofs.Files.{finished-grows, finished-order, HasRows, members, part-there}
-use Rattle.thorin_join.proofs.Units.{AreAdded, identity-sort, name-identity, Reads}
+use Rattle.thorin_join.proofs.Units.{each-named, kind-place, AreAdded, identity-sort, name-identity}
+use Rattle.thorin_join.proofs.Units.{Reads}
 use Rattle.thorin_join.proofs.{Files.id-at, Joined.source-made, Rows.keep-rows, Rows.not-outside}
 use Rattle.thorin_join.specs.Builder.{IsFinishedState, source_for, State, taken, with_source_or_new}
 use Rattle.thorin_join.specs.Meaning.{input_meaning, named_sections, object_meaning, source_meaning}
@@ -253,45 +254,42 @@ abbrev read_at : Source → Contents → UnitSection → Result Reads ErrorValue
 read_at source cs place = named_each source (kind_of place)
     (units place (section source.object.order (content_of (kind_of place) cs)))
 
--- those of info and those of types are all of these, in some order
-abbrev Split : Source → Contents → Reads → Type 0
-Split source cs all = (infos types : Reads) × (read_at source cs places.Info ≡ Ok infos)
-    × (read_at source cs places.Types ≡ Ok types) × IsPermutation (infos ++ types) all
+-- a unit that stands in a section of units stands in that one
+abbrev stands : UnitSection → DwarfObject × UnitRead → Bool
+stands places.Info u = same_kind u.1.from kinds.Info
+stands places.Types u = not (same_kind u.1.from kinds.Info)
 
--- one more section, behind which no other of its place has units
-section-split : (source : Source) (c : SectionKind × List ℕ) (cs : Contents) (here others : Reads)
-    → KindsDiffer (c ∷ cs) → Split source cs others → named_at source (section_of c)
-    (unit_section c.0) ≡ Ok here → Split source (c ∷ cs) (here ++ others)
-unfolding named_each units units_within
-section-split source (kinds.Info, bytes) cs here others apart rest h =
-    let behind = none-behind kinds.Info (kinds.Info, bytes) cs apart refl in
-    let none : rest.0 ≡ [] = grind (arith, rest.2, behind) in
-    (here, rest.1, h, rest.3, IsPermutation-append_right here rest.1 others (rw none at rest.4))
-section-split source (kinds.Types, bytes) cs here others apart rest h =
-    let behind = none-behind kinds.Types (kinds.Types, bytes) cs apart refl in
-    let none : rest.1 ≡ [] = grind (arith, rest.3, behind) in
-    let are = IsPermutation-trans _ (here ++ rest.0) _ (IsPermutation-append_comm rest.0 here)
-    (IsPermutation-append_right here rest.0 others (rw (none, append-nil) at rest.4)) in
-    (rest.0, here, rest.2, h, are)
-section-split source (kind, bytes) cs here others apart rest h = rw (← same-ok [] here h) rest
+-- of the units of a section all do, or none
+each-stands : (source : Source) (from : Used) (place : UnitSection) (us : Reads)
+    (o : Option UnitSection) → unit_section from.kind ≡ o → named_at source from o ≡ Ok us
+    → filter (stands place) us ≡ cond (same_kind from.kind (kind_of place)) us []
+each-stands source from place us None at h = grind arith
+each-stands source from place us (Some p) at h =
+    let kind = kind-place from.kind p at in
+    each-named source from.kind (λ reads us. filter (stands place) us
+    ≡ cond (same_kind from.kind (kind_of place)) us []) (grind arith)
+    (λ unit name reads us named others. grind (arith, others, kind)) _ us h
 
--- the units of a file's sections are those of info and those of types, in some order
-sections-split : (source : Source) (cs : Contents) (all : Reads) → KindsDiffer cs
-    → named_sections source (written_used cs) ≡ Ok all → Split source cs all
+-- the units of a file's sections that stand in one of them are what is read of its content
+sections-split : (source : Source) (place : UnitSection) (cs : Contents) (all : Reads)
+    → KindsDiffer cs → named_sections source (written_used cs) ≡ Ok all
+    → read_at source cs place ≡ Ok (filter (stands place) all)
 unfolding named_sections named_each units units_within
-sections-split source [] all differ h =
-    rw (← same-ok [] all h) ([], [], refl, refl, IsPermutation-refl [])
-sections-split source ((kind, []) ∷ cs) all differ h =
-    let rest = sections-split source cs all (rest-differ (kind, []) cs differ) h in
-    let info = empty-first kinds.Info kind cs differ in
-    (rest.0, rest.1, rw info rest.2, rw (empty-first kinds.Types kind cs differ) rest.3, rest.4)
-sections-split source ((kind, b ∷ bs) ∷ cs) all differ h =
+sections-split source place [] all differ h = rw (← same-ok [] all h) refl
+sections-split source place ((kind, []) ∷ cs) all differ h =
+    rw (empty-first (kind_of place) kind cs differ) (sections-split source place cs all
+    (rest-differ (kind, []) cs differ) h)
+sections-split source place ((kind, b ∷ bs) ∷ cs) all differ h =
     let c : SectionKind × List ℕ = (kind, b ∷ bs) in
     let s1 = bind-was (named_at source (section_of c) (unit_section kind)) _ all
     (rw eqb-suc-zero at h) in
     let s2 = bind-was (named_sections source (written_used cs)) _ all s1.2 in
-    rw (← same-ok _ all s2.2) (section-split source c cs s1.0 s2.0 differ
-    (sections-split source cs s2.0 (rest-differ c cs differ) s2.1) s1.1)
+    let rest = sections-split source place cs s2.0 (rest-differ c cs differ) s2.1 in
+    let here = each-stands source (section_of c) place s1.0 (unit_section kind) refl s1.1 in
+    let behind = none-behind (kind_of place) c cs differ in
+    let is = is-same kind (kind_of place) in
+    rw (← same-ok _ all s2.2, filter-append (stands place) s1.0 s2.0)
+    (grind (arith, here, rest, behind, is, s1.1, append-nil s1.0))
 
 -- an input without info has no encoding
 encoding-none : (file : File) (e : Encoding) → KindsDiffer file.contents
@@ -337,18 +335,17 @@ module _ {encoding : Encoding} {file : File} {indexes : Indexes} {made : InProgr
   rows-meant =
       let apart = IsPermutation-filter_both (is_at places.Info) (is_at places.Types)
       (λ row. grind arith) made.rows in
-      let split = sections-split input file.contents all is.kinds units_are in
-      let n = length split.0 in
-      let both = All-permutation (IsTested input) _ _ (IsPermutation-sym _ _ split.4) tested in
-      let i = units-are places.Info split.0 split.2
-      (rw take-append_seam at (All-take (IsTested input) n _ both)) in
-      let t = units-are places.Types split.1 split.3
-      (rw drop-append_seam at (All-drop (IsTested input) n _ both)) in
+      let split = IsPermutation-filter_both (stands places.Info) (stands places.Types) (λ u. refl)
+      all in
+      let are = λ (place : UnitSection). units-are place (filter (stands place) all)
+      (sections-split input place file.contents all is.kinds units_are)
+      (All-filter (stands place) (IsTested input) all tested) in
       let joined : all_meant (members (mean_of made) (rows_at places.Info made.rows ++ rows_at
-      places.Types made.rows)) ≡ units_meant (split.0 ++ split.1) = simp map-append (ap₂ (λ a b. a
-      ++ b) (sym i) (sym t)) in
+      places.Types made.rows)) ≡ units_meant (filter (stands places.Info) all
+      ++ filter (stands places.Types) all) = simp map-append (ap₂ (λ a b. a ++ b)
+      (sym (are places.Info)) (sym (are places.Types))) in
       IsPermutation-trans _ _ _ (IsPermutation-map _ _ _ (IsPermutation-map _ made.rows _ apart))
-      (rw joined (IsPermutation-map (meant input) _ all split.4))
+      (rw joined (IsPermutation-map (meant input) _ all (IsPermutation-sym all _ split)))
 
 -- the file of a finished state
 module _ (state : State) (file : File) (begun : IsSoundBegun state.begun)
