@@ -122,18 +122,6 @@ module _ {encoding : Encoding} {file : File} {indexes : Indexes} {made : InProgr
       grind (arith, used some, none, no, compilations, types) in
       rw (none, no) (grind (arith, empty)))))
 
-  -- where the wholes lie
-  pub row-given : (whole : IndexEntry) (x : SectionKind → List ℕ) (before : Contents)
-      → ((kind : SectionKind) → is_shared kind ≡ true
-      → length (x kind) ≡ length (content_of kind file.contents)) → ((kind : SectionKind)
-      → is_shared kind ≡ true → contribution_to kind whole ≡ contribution_put kind (x kind) before)
-      → (given : IndexEntry) × (unit_row indexes whole row.id ≡ Ok given)
-  unfolding unit_row
-  row-given whole x before long put = answered _ (and-then (λ e. ⊥) _ _ (each-fine
-      (λ kind. unit_contribution indexes row.id kind (contribution_to kind whole)) (λ kind.
-      let fine = λ (s : is_shared kind ≡ true). part-fine kind s (x kind) before (long kind s) in
-      grind (arith, put kind, fine)) all_kinds) (λ parts are. tt))
-
 pub flips : (a b : DwarfObject) → same_name a b ≡ same_name b a
 flips a b = both_ways (same_name a b) (same_name b a) (same_name-sym a b) (same_name-sym b a)
 
@@ -211,7 +199,7 @@ module _ (Fresh : Type 0) (E : ErrorValue → Type 0)
         (reads : List (Result Header ReadError))
         → IsUnitOf file.order file.contents place made.rows r rs h → TakesRows rs reads
         → TakesRows (r ∷ rs) (Ok h ∷ reads)
-    unfolding with_each_read with_read
+    unfolding with_each_read with_read unit_row
     one-taken r rs h reads u later new left =
         let place_at = length u.before in
         let long = ap length u.split ∙ length-append u.before (r ∷ rs) in
@@ -229,8 +217,13 @@ module _ (Fresh : Type 0) (E : ErrorValue → Type 0)
         before.strings parts_taken after parts_are k copied ∙ is.held k)) ((rows-read source
         is.packed before.strings parts_taken after table parts_are).size ∙ ap length (is.held
         StrOffsets)) in
-        let given = row-given is plain u add.whole (λ k. joined_parts k parts_taken)
-        before.file.contents parts_long (whole-part encoding before.file.contents parts_taken) in
+        let given : (row : IndexEntry) × (unit_row indexes add.whole r.id ≡ Ok row) =
+        answered _ (and-then (λ e. ⊥) _ _ (each-fine (λ kind. unit_contribution indexes r.id kind
+        (contribution_to kind add.whole)) (λ kind. let fine = λ (s : is_shared kind ≡ true).
+        part-fine is plain u kind s (joined_parts kind parts_taken) before.file.contents
+        (parts_long kind s) in
+        let whole = whole-part encoding before.file.contents parts_taken kind in
+        grind (arith, whole, fine)) all_kinds) (λ parts are. tt)) in
         let free = λ (f : Fresh). left f place_at r at (ap (λ p. is_met p met) (sym (place-is u))
         ∙ unmet) (λ here. omega (arith, long)) in
         then-fares E (Added r.id new) _ (with_read add from new (Ok h))

@@ -327,8 +327,7 @@ input-encoded : (bytes : List ℕ) (begun now : Option InProgress) → IsOfOneEn
 input-encoded bytes begun now one sound h before =
     let t = takes bytes begun now h in
     let old = package_or_new t.file begun in
-    let was = (elim begun as (λ b. Encoded b → Encoded (Some (package_or_new t.file b)))
-    [ None ↦ λ e. tt | Some made ↦ λ e. e ]) before in
+    let was : Encoded (Some old) = grind (arith, before) in
     elim t.does [
       | inl w ↦
           let u = w.1 in
