@@ -1,4 +1,4 @@
-use Rattle.thorin_join.proofs.Terms.{arith, inl, inr, IsSoundBegun, List, refl, [], ◌∙◌, ◌∷◌, ◌≡◌}
+use Rattle.thorin_join.proofs.Terms.{arith, inl, IsSoundBegun, List, refl, [], ◌∙◌, ◌∷◌, ◌≡◌}
 use Rattle.thorin.{proofs.Running.each-taken, proofs.Running.read-text, specs.Groups.taken_each}
 use Rattle.thorin.specs.{Again.CanBePackedAgain, Groups.ArePackedAlone, Groups.IsUnwritten}
 use Rattle.{dwp_elf.specs.Written.written_elf, std.proofs.Common.⊎_elim}
@@ -26,24 +26,9 @@ returns-clause-left c order groups error refused can = ⊎_elim
     (λ h. inl (rw h at (each-foreseen groups refused.packages refused.each can start tt refl)))
     (λ (u : IsUnwritten refused.packages error).
     let are = each-taken refused.packages start u.state u.taken in
-    inr (⊎_elim (λ h. elim (c.taken_inputs_are_finished.ensures refused.packages u.state error are
-    h) [
-      | inl target ↦
-          let none = targets-stay refused.packages start u.state u.taken in
-          let found = rw none at target.1 in
-          absurd cc
-      | inr (inl none) ↦ inl none
-      | inr (inr (inl mixed)) ↦ inr (inl mixed)
-      | inr (inr (inr long)) ↦ inr (inr (record {
-        state = u.state;
-        taken = u.taken;
-        long = inl long;
-      }))
-    ]) (λ large. inr (inr (record {
-      state = u.state;
-      taken = u.taken;
-      long = inr (large.1, large.0);
-    }))) u.refused)) refused.refused
+    let why = c.taken_inputs_are_finished.ensures refused.packages u.state error are in
+    let none = targets-stay refused.packages start u.state u.taken in
+    grind (arith, why, none, u.refused)) refused.refused
   where
     each-foreseen : (groups : List (List (List ℕ))) (packages : List (List ℕ))
         (each : ArePackedAlone groups packages) → CanBePackedAgain order groups packages each
