@@ -2,33 +2,33 @@
 -- Joining in groups: joining what groups joined is joining all of them. And what packing in groups
 -- means: the join of all inputs at once.
 use Rattle.thorin_join.proofs.Terms as Joined
-use Joined.{ap, Ok, true, [], ℕ, ◌&&◌, ◌++◌, ◌+◌, ◌∙◌, ◌∷◌, ◌≡◌}
+use Joined.{ap, Ok, [], ℕ, ◌&&◌, ◌++◌, ◌+◌, ◌∙◌, ◌∷◌, ◌≡◌}
 use Joined.{append-nil, DwarfObject, ErrorValue, file_text, is_compilation, KindsDiffer, length-map}
 use Joined.{append_assoc, Compilation, filter-append, IsSoundBegun, length-append, take-append-drop}
 use Joined.{arith, Bool, elf_of, filter, length, lookup, map-append, Option, Result, same-ok, subst}
 use Joined.{bind-was, can_join, joining, list_any, Meaning, Members, nat_tests, same_name, TypeUnit}
-use Joined.{cond, drop, Err, File, inl, inr, keys, List, map, None, refl, Some, sym, take, units_in}
+use Joined.{cond, drop, Err, inl, inr, keys, List, map, None, refl, Some, sym, take, true, units_in}
 use Rattle.std.proofs.Common.{flat_map, IsPermutation, map-id, rules, ◌==◌}
 use Rattle.std.proofs.Math.Seq.{drop-append_seam, take-append_seam}
 use Rattle.std.proofs.lemmas.Map.{Lookups.hash_map_IsPermutation_from_get, Made.keys_of-map_values}
-use Rattle.std.proofs.lemmas.{List.Sorted.IsPermutation-sym, Map.Keys.IsDistinct-from_apart}
 use Rattle.std.specs.List.{drop-map, IsDistinct, Sorted.apply_swaps, take-map}
-use Rattle.thorin.specs.Groups.{AreJoined, inputs_of, IsPackageOfAll, taken_each}
-use Rattle.thorin.specs.Groups.{ArePackedAlone, HaveTheirEncodings, IsPackedAlone, IsPackedInGroups}
+use Rattle.thorin.specs.Groups.{AreJoined, ArePackedAlone, inputs_of, taken_each}
+use Rattle.thorin.specs.Groups.{HaveTheirEncodings, IsPackageOfAll, IsPackedAlone, IsPackedInGroups}
 use Rattle.thorin.specs.{declared.packing.Input.Input, Run.IsWritten, Run.Ran, Run.TakesInput}
 use Rattle.thorin_again.proofs.Accepted.{count-again, equivalence, found-again}
-use Rattle.thorin_again.specs.Again.{all_meant, HaveEncodingOf, MeansOnceWritten, MeansWhereTaken}
-use Rattle.thorin_builder.specs.Taking.{Came, Outcome, TakesRead, TakesSkeleton, TakesSkeletons}
-use Rattle.thorin_builder.specs.Taking.{TakesBytes, TakesExecutableRead, TakesReferred, with_target}
+use Rattle.thorin_again.specs.Again.{all_meant, HaveEncodingOf, MeansWhereTaken}
+use Rattle.thorin_again.{proofs.Lists.begun-now, proofs.Meant.again-is, specs.PlainInputs.AreTaken}
+use Rattle.thorin_builder.specs.Taking.{Came, came, TakesExecutableRead, TakesSkeleton, with_target}
+use Rattle.thorin_builder.specs.Taking.{TakesBytes, TakesRead, TakesReferred, TakesSkeletons}
 use Rattle.thorin_errors.specs.declared.error.MissingReferencedObjectBehaviour.{MissingReferencedObjectBehaviour}
 use Rattle.thorin_executable.specs.Skeletons.{Listed, named_skeletons_of, skeletons_of}
 use Rattle.thorin_join.proofs.Units.{apart-none, joined_distinct, same_name-true}
-use Rattle.thorin_join.specs.Builder.{finish_test, IsFinishedState, start, State, taken}
-use Rattle.thorin_join.specs.{Join.IsPackageOf, Join.JoinAll, Meaning.input_meaning}
-use Rattle.{dwp_elf.specs.Written.written_elf, thorin_builder.proofs.Inputs.Offer}
-use Rattle.{indexmap.proofs.ReorderLemmas.map-swap, thorin_again.proofs.Lists.begun-now}
-use Rattle.{indexmap.specs.Layout.hash_map, thorin_builder.specs.Taking.came}
-use Rattle.{std.proofs.lemmas.List.Folds.list_any-append, thorin_again.specs.PlainInputs.AreTaken}
+use Rattle.thorin_join.specs.Join.{IsPackageOf, JoinAll}
+use Rattle.thorin_join.specs.{Builder.start, Builder.State, Builder.taken, Meaning.input_meaning}
+use Rattle.{dwp_elf.specs.Written.written_elf, std.proofs.lemmas.List.Folds.list_any-append}
+use Rattle.{indexmap.proofs.ReorderLemmas.map-swap, std.proofs.lemmas.List.Sorted.IsPermutation-sym}
+use Rattle.{indexmap.specs.Layout.hash_map, thorin_builder.specs.Taking.Outcome}
+use Rattle.{std.proofs.lemmas.Map.Keys.IsDistinct-from_apart, thorin_builder.proofs.Inputs.Offer}
 use Rattle.{std.specs.Option.option_or, thorin_errors.specs.declared.error.InputError.InputError}
 use Rattle.thorin_errors.specs.declared.error.InputError.TheVariants.{Io, Memory as no_memory}
 use Rattle.{dwp_base.proofs.Bools.both as both-true, thorin_join.proofs.Joined.input-keeps}
@@ -428,69 +428,66 @@ record AreGrouped (groups : List (List (List ℕ))) (all : Units) : Type 0 where
   are : AreJoined lists results
   whole : all ≡ flat_map (λ units. units) results
 
-module _ (again : (state : State) (file : File) → IsSoundBegun state.begun
-    → finish_test state ≡ Ok tt → IsFinishedState state file
-    → MeansOnceWritten (units_in state) file) where
-  grouped : (groups : List (List (List ℕ))) (packages : List (List ℕ)) (old new : State)
-      (all : Units) (each : ArePackedAlone groups packages)
-      → HaveTheirEncodings groups packages each → taken_each packages old ≡ Ok new
-      → AllMean packages all → AreGrouped groups all
-  unfolding taken_each
-  grouped [] [] old new all packed has took mean =
-      record { lists = []; results = []; meant = refl; are = tt; whole = mean }
-  grouped (g ∷ gs) (p ∷ ps) old new all packed has took (here, later, meaning, others, whole) =
-      let alone = packed.0 in
-      let w = alone.written in
-      let units = units_in alone.state in
-      let join = join-of g [] units alone.joined in
-      let next = bind-was (taken p old) _ new took in
-      let rest = grouped gs ps next.0 new later packed.1 has.1 next.2 others in
-      let joined = rw (← join.is) at join.joined in
-      record {
-        lists = join.all ∷ rest.lists;
-        results = here ∷ rest.results;
-        meant = mean-append g (inputs_of gs) join.all (flat_map (λ units. units) rest.lists)
-            join.meant rest.meant;
-        are = (
-          join.defined,
-          rw joined (as-written alone.state p w
-              (λ b. HaveEncodingOf b units → MeansWhereTaken units b)
-              (again alone.state w.file (taken-joins g start alone.state tt
-              (each-taken g start alone.state alone.taken)).0 w.tested w.finished) has.0 old next.0
-              next.1 here meaning),
-          rest.are,
-        );
-        whole = whole ∙ ap (λ l. here ++ l) rest.whole;
-      }
-  grouped _ _ old new all packed has took mean = absurd packed
+grouped : (groups : List (List (List ℕ))) (packages : List (List ℕ)) (old new : State)
+    (all : Units) (each : ArePackedAlone groups packages)
+    → HaveTheirEncodings groups packages each → taken_each packages old ≡ Ok new
+    → AllMean packages all → AreGrouped groups all
+unfolding taken_each
+grouped [] [] old new all packed has took mean =
+    record { lists = []; results = []; meant = refl; are = tt; whole = mean }
+grouped (g ∷ gs) (p ∷ ps) old new all packed has took (here, later, meaning, others, whole) =
+    let alone = packed.0 in
+    let w = alone.written in
+    let units = units_in alone.state in
+    let join = join-of g [] units alone.joined in
+    let next = bind-was (taken p old) _ new took in
+    let rest = grouped gs ps next.0 new later packed.1 has.1 next.2 others in
+    let joined = rw (← join.is) at join.joined in
+    record {
+      lists = join.all ∷ rest.lists;
+      results = here ∷ rest.results;
+      meant = mean-append g (inputs_of gs) join.all (flat_map (λ units. units) rest.lists)
+          join.meant rest.meant;
+      are = (
+        join.defined,
+        rw joined (as-written alone.state p w
+            (λ b. HaveEncodingOf b units → MeansWhereTaken units b)
+            (again-is alone.state w.file (taken-joins g start alone.state tt
+            (each-taken g start alone.state alone.taken)).0 w.tested w.finished) has.0 old next.0
+            next.1 here meaning),
+        rest.are,
+      );
+      whole = whole ∙ ap (λ l. here ++ l) rest.whole;
+    }
+grouped _ _ old new all packed has took mean = absurd packed
 
-  -- what is packed in groups is a package of all inputs
-  pub means-all : (groups : List (List (List ℕ))) (file : List ℕ)
-      (packed : IsPackedInGroups groups file)
-      → HaveTheirEncodings groups packed.packages packed.each
-      → IsPackageOfAll (inputs_of groups) file
-  means-all groups file packed has =
-      let together = packed.together in
-      let join = join-of packed.packages [] (units_in together.state) together.joined in
-      let parts = grouped groups packed.packages start together.state join.all packed.each has
-      together.taken join.meant in
-      let lists = flat_map (λ (units : Units). units) parts.lists in
-      let joined = rw parts.whole at join.joined in
-      let order = lifted meant_one join.added (joining [] lists)
-      (IsPermutation-sym (joining [] lists) (all_meant join.added)
-      (subst (IsPermutation (joining [] lists)) joined
-      (groups-joined parts.lists parts.results parts.are))) in
-      record {
-        units = order.0;
-        joined = joins-all (inputs_of groups) lists [] order.0 parts.meant
-            (groups-defined parts.lists parts.results parts.are
-            ∙ ap (can_join []) (sym parts.whole) ∙ join.defined) order.1;
-        packed = join.added;
-        same = IsPermutation-sym join.added order.0 order.2;
-        found = found-again join.added order.0 (rw
-            (join.joined, keys_of-map_values Some join.added) at (joined-apart join.all)) order.2;
-        package_of = subst (λ units. IsPackageOf units file) join.is together.package_of;
-      }
+-- what is packed in groups is a package of all inputs
+pub means-all : (groups : List (List (List ℕ))) (file : List ℕ)
+    (packed : IsPackedInGroups groups file)
+    → HaveTheirEncodings groups packed.packages packed.each
+    → IsPackageOfAll (inputs_of groups) file
+means-all groups file packed has =
+    let together = packed.together in
+    let join = join-of packed.packages [] (units_in together.state) together.joined in
+    let parts = grouped groups packed.packages start together.state join.all packed.each has
+    together.taken join.meant in
+    let lists = flat_map (λ (units : Units). units) parts.lists in
+    let joined = rw parts.whole at join.joined in
+    let order = lifted meant_one join.added (joining [] lists)
+    (IsPermutation-sym (joining [] lists) (all_meant join.added)
+    (subst (IsPermutation (joining [] lists)) joined
+    (groups-joined parts.lists parts.results parts.are))) in
+    record {
+      units = order.0;
+      joined = joins-all (inputs_of groups) lists [] order.0 parts.meant
+          (groups-defined parts.lists parts.results parts.are
+          ∙ ap (can_join []) (sym parts.whole) ∙ join.defined) order.1;
+      packed = join.added;
+      same = IsPermutation-sym join.added order.0 order.2;
+      found = found-again join.added order.0 (rw
+          (join.joined, keys_of-map_values Some join.added) at (joined-apart join.all)) order.2;
+      package_of = subst (λ units. IsPackageOf units file) join.is together.package_of;
+    }
 
 -- the laws that are one of these lemmas as it stands
-pub ruleset laws = (each-taken, groups-defined, groups-joined, ran-next, run-accepts)
+pub ruleset laws = (each-taken, groups-defined, groups-joined, means-all, ran-next, run-accepts)

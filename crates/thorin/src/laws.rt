@@ -24,7 +24,6 @@ ghost use Rattle.thorin.specs.{declared.packing.Input.Input, Groups.AreJoined, G
 ghost use Rattle.thorin.specs.Differing.{differing, input_units, own_bytes};
 ghost use Rattle.thorin.specs.Run.{Ran, TakesInput};
 
-use thorin_again::written_packages_mean_their_units;
 use thorin_builder::InputReader;
 
 /// The law of joining in groups, on lists of units alone. Join each group by itself, put each
@@ -48,9 +47,7 @@ pub fn groups_are_packed_alike()
         (packed : IsPackedInGroups groups file)
         → HaveTheirEncodings groups packed.packages packed.each
         → IsPackageOfAll (inputs_of groups) file }
-{
-    written_packages_mean_their_units();
-}
+{}
 
 /// The laws of runs: a run and one more input are a run again, and a run joins the units of the
 /// accepted inputs. It does nothing: its contract is the laws, about every run with this reader.
