@@ -53,6 +53,7 @@ pub fn remap_packaged_offsets(
 }
 
 /// Rewrites the ranges, which passed the tests.
+#[tactic(auto, using(crate::proofs::ReadAlike::next_passed), unfolding(crate::specs::PackagedOffsets::ranges_test))]
 fn rewritten(
     alloc: Global,
     strings: &mut PackageStringTable,

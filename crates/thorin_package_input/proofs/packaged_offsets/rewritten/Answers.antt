@@ -1,33 +1,7 @@
-use Rattle.thorin_package_input.proofs.ReadAlike.{all_written, next, one_more, one_refused}
+use Rattle.thorin_package_input.proofs.ReadAlike.{all_written, one_more, one_refused}
 use Rattle.std.proofs.lemmas.{List.take_rest, Result.err_from_is_err_and}
-use Rattle.dwp_base.specs.declared.section.Contribution.{Contribution}
-use Rattle.std.proofs.Common.{ap₂, arith, refl, ◌++◌, ◌∙◌}
+use Rattle.std.proofs.Common.{ap₂, refl, ◌++◌, ◌∙◌}
 use Rattle.thorin_package_input.proofs.packaged_offsets.rewritten.Goals as goal
-
-abbrev zero_range : Contribution
-zero_range = record { offset = record { 0 = 0 }; size = 0 }
-
-pub overflow_add-end : goal.overflow_add-end
-overflow_add-end c =
-    let r = next c.loop-range.invariant.so_far zero_range c.loop-range-test.true in
-    omega (arith, r.inside)
-
-pub slice_bounds-extend_from_slice-count : goal.slice_bounds-extend_from_slice-count
-slice_bounds-extend_from_slice-count c =
-    (next c.loop-range.invariant.so_far zero_range c.loop-range-test.true).behind
-
-pub slice_bounds-extend_from_slice-start : goal.slice_bounds-extend_from_slice-start
-slice_bounds-extend_from_slice-start c =
-    (next c.loop-range.invariant.so_far zero_range c.loop-range-test.true).behind
-
-pub slice_bounds-extend_from_slice-end : goal.slice_bounds-extend_from_slice-end
-slice_bounds-extend_from_slice-end c =
-    let r = next c.loop-range.invariant.so_far zero_range c.loop-range-test.true in
-    omega (arith, r.inside)
-
-pub slice_bounds-one-end : goal.slice_bounds-one-end
-slice_bounds-one-end c =
-    (next c.loop-range.invariant.so_far zero_range c.loop-range-test.true).inside
 
 pub returns-in_err-bytes-clause-meaning : goal.returns-in_err-bytes-clause-meaning
 returns-in_err-bytes-clause-meaning c =
