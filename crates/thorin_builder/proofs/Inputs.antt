@@ -9,37 +9,38 @@ use Joined.{append-nil, Contents, Encoding, is_some, list_any, Meaning, name_for
 use Joined.{append_assoc, Contribution, DwarfObject, packaged_offsets, with_each_part, with_offsets}
 use Joined.{entry_count, ErrorValue, InProgress, slice_range, take-length, units_begun, with_string}
 use Joined.{keys, lookup, New, Str, Used, with_input}
-use Rattle.dwp_elf.specs.Growing.{Begins, IsGrown}
 use Rattle.dwp_strings.proofs.Named.{there_later, there_once_used}
 use Rattle.dwp_table.specs.declared.object.DebugTypeSignature.{DebugTypeSignature}
-use Rattle.std.proofs.Common.{Bool, cond, drop, false, length, List, None, OnOk, rules, Some, subst}
-use Rattle.std.proofs.Common.{Err, find, inl, inr, map, refl, suc, sym, take, take-take, zero, ◌++◌}
-use Rattle.std.proofs.Common.{add-one, arith, Global, le-ltb, length-append, Option, Result, String}
-use Rattle.std.proofs.Common.{ap, Ok, [], ℕ, ◌+◌, ◌∙◌, ◌∷◌, ◌≡◌, ◌≢◌, ◌⊎◌}
-use Rattle.std.proofs.Common.{bytes_eq, length-take, slice_get, string_bytes, string_eq, true≢false}
+use Rattle.std.proofs.Common.{Bool, drop, Global, None, ◌++◌, ◌⊎◌}
+use Rattle.std.proofs.Common.{add-one, ap, bytes_eq, cond, inl, length, List, slice_get, subst, ◌∷◌}
+use Rattle.std.proofs.Common.{arith, Err, find, OnOk, Result, String, string_eq, suc, take, [], ◌≡◌}
+use Rattle.std.proofs.Common.{false, inr, refl, rules, Some, string_bytes, take-take, true≢false, ℕ}
+use Rattle.std.proofs.Common.{length-append, length-take, map, Ok, Option, sym, zero, ◌+◌, ◌∙◌, ◌≢◌}
+use Rattle.std.proofs.lemmas.{Grind.length_at_push, Simd.map-map, Slice.Eq.bytes_eq-Decides}
 use Rattle.std.proofs.{lemmas.Bool.cond-true, Math.Seq.take-append-add, Math.Seq.take-append_seam}
 use Rattle.thorin_builder.specs.Reading.{error_in, input_error_in, OnDeclined, outcome_of, unread}
-use Rattle.thorin_builder.specs.Repeated.{AddsAgain, AddsAgainTo, AreTaken, ExtendsBegun, Remembers}
-use Rattle.thorin_builder.specs.Repeated.{IsLater, IsLaterBegun, IsTaken, with_more}
-use Rattle.thorin_builder.specs.Taking.{TakesExecutableBy, TakesFile, TakesSkeleton, TakesSkeletons}
-use Rattle.thorin_builder.specs.Taking.{came, Manner, MayRead, Outcome, TakesNamed, with_target}
+use Rattle.thorin_builder.specs.Repeated.{AddsAgainTo, ExtendsBegun, IsLater, IsLaterBegun, IsTaken}
+use Rattle.thorin_builder.specs.Taking.{Manner, MayRead, Outcome, TakesSkeleton, TakesSkeletons}
+use Rattle.thorin_builder.specs.Taking.{TakesExecutableBy, TakesFile, TakesNamed, TakesReferredFile}
 use Rattle.thorin_builder.specs.declared.in_progress.InProgressDwarfPackage.{InProgressDwarfPackage}
-use Rattle.thorin_builder.specs.{declared.reader.NotTaken.NotTaken, Reading.DeclinesNamed}
-use Rattle.thorin_builder.specs.{declared.repeated.UnitlessInput.UnitlessInput, StateView.begun_of}
+use Rattle.thorin_builder.specs.{Repeated.AreTaken, StateView.begun_of, StateView.in_progress_of}
+use Rattle.thorin_builder.specs.{declared.reader.NotTaken.NotTaken, Repeated.with_more, Taking.came}
+use Rattle.thorin_builder.specs.{declared.repeated.UnitlessInput.UnitlessInput, Repeated.Remembers}
 use Rattle.thorin_errors.specs.declared.error.MissingReferencedObjectBehaviour.{MissingReferencedObjectBehaviour}
-use Rattle.thorin_errors.specs.declared.error.{Error.Error, InputError.InputError}
 use Rattle.thorin_errors.specs.{Answers.MemoryAside, Errors.error_of, Errors.Memory}
-use Rattle.thorin_input.specs.NewUnits.{SeenSections, with_each_read, with_section, with_section_at}
-use Rattle.thorin_input.specs.NewUnits.{none_met, once_test, or_held, with_each_section, with_first}
-use Rattle.thorin_input.{proofs.NewUnitLemmas.same_name-is, specs.Encodings.own_encoding}
+use Rattle.thorin_errors.specs.{declared.error.InputError.InputError, Inputs.input_error}
+use Rattle.thorin_input.specs.NewUnits.{SeenSections, with_each_read, with_each_section, with_first}
+use Rattle.thorin_input.specs.NewUnits.{none_met, once_test, or_held, with_section, with_section_at}
+use Rattle.thorin_input.specs.{Encodings.own_encoding, NewUnits.with_read, View.part}
 use Rattle.thorin_join.specs.Builder.{names_in, own_after, State, taken}
 use Rattle.thorin_join.{proofs.Units.keys-units, specs.State.Extends, specs.State.held_units}
 use Rattle.thorin_package_input.specs.PackagedOffsets.{offset_ranges, rewritten_from}
 use Rattle.thorin_strings.specs.StringOffsets.{remapped_entries, remapped_entry}
-use Rattle.{std.proofs.lemmas.Grind.length_at_push, thorin_errors.specs.Inputs.input_error}
-use Rattle.{std.proofs.lemmas.Simd.map-map, thorin_input.specs.NewUnits.with_read}
-use Rattle.{std.proofs.lemmas.Slice.Eq.bytes_eq-Decides, thorin_executable.specs.Skeletons.Listed}
-use Rattle.{thorin_builder.specs.StateView.in_progress_of, thorin_input.specs.View.part}
+use Rattle.{dwp_elf.specs.Growing.Begins, thorin_errors.specs.declared.error.Error.Error}
+use Rattle.{dwp_elf.specs.Growing.IsGrown, thorin_input.proofs.NewUnitLemmas.same_name-is}
+use Rattle.{thorin_builder.specs.Reading.DeclinesNamed, thorin_executable.specs.Skeletons.Listed}
+use Rattle.thorin_errors.specs.declared.error.Error.TheVariants as error
+use Rattle.thorin_errors.specs.declared.error.InputError.TheVariants as input
 use Rattle.{dwp_elf.specs.FileText.Object as File, indexmap.specs.IndexMap.insert_entry}
 use Rattle.{dwp_strings.specs.Strings.offset_of, dwp_units.specs.Units.Unit as Header}
 use Rattle.{std.specs.declared.io.Error.Error as IoError, thorin_strings.proofs.Remapping.kept_more}
@@ -95,20 +96,18 @@ extends_by p q file rows differing kept =
 pub extends-refl : (p : InProgress) → Extends p p
 extends-refl p = extends_by p p refl refl refl (take-length p.strings)
 
--- what keeps those before it keeps those before them
-still-kept : {A : Type 0} (old now new : List A) → take (length old) now ≡ old
-    → take (length now) new ≡ now → take (length old) new ≡ old
-still-kept old now new first second =
-    grind (arith, length-take (length old) now, take-take (length old) (length now) new)
-
 -- a file that grew, and more strings and signatures
 pub still-extends : {before p : InProgress} {f : File} {strings : List (List ℕ)}
     {differing : List ℕ} → Extends before p → ((b : File) → IsGrown b p.file → IsGrown b f)
     → take (length p.strings) strings ≡ p.strings → take (length p.differing) differing
     ≡ p.differing → Extends before (record p { file = f; strings = strings; differing = differing })
 still-extends {before} {p} {f} {strings} {differing} h grown kept more =
-    let texts = still-kept before.strings p.strings strings h.strings kept in
-    let types = still-kept before.differing p.differing differing h.differing more in
+    let texts = kept_more before.strings p.strings strings h.strings kept in
+    let types : take (length before.differing) differing ≡ before.differing = grind (
+      arith,
+      length-take (length before.differing) p.differing,
+      take-take (length before.differing) (length p.differing) differing,
+    ) in
     assumption (grown before.file h.file, texts, types)
 
 abbrev pub Offer : Type 1
@@ -133,71 +132,72 @@ module _ (offer : Offer) (missing : MissingReferencedObjectBehaviour) (all : Lis
       record { done = []; before = []; are = refl; goes_on = λ rest error outcome new here h. h }
 
 -- of a list some were taken
-module _ {offer : Offer} {missing : MissingReferencedObjectBehaviour} {all left : Listed}
-    {old middle : State} (so_far : TakenUpTo offer missing all old left middle) where
-  whole : (rest : Listed) → left ≡ rest → (so_far.done ++ rest.0, rest.1) ≡ all
-  whole rest is = subst (λ (l : Listed). (so_far.done ++ l.0, l.1) ≡ all) is so_far.are
-
-  -- one more was taken
-  pub next-taken : (rest : Listed) (n : DwarfObject × List ℕ) (new : State) (here : List (List ℕ))
-      → left ≡ (n ∷ rest.0, rest.1) → TakesSkeleton offer missing n middle (came (Ok tt) new here)
-      → TakenUpTo offer missing all old rest new
-  next-taken rest n new here first took = record {
-    done = so_far.done ++ n ∷ [];
-    before = so_far.before ++ here;
-    are = rw append_assoc (whole (n ∷ rest.0, rest.1) first);
-    goes_on = λ others error outcome last later end. simp append_assoc
-        (so_far.goes_on (n ∷ others) error outcome last (here ++ later)
-        (record { middle = new; here = here; later = later }, Ok tt, took, (end, refl)));
-  }
-
-  -- the list ends so; where memory ran out, these are the first of it
-  pub ends : (rest : List (DwarfObject × List ℕ)) (error : Option ErrorValue) (outcome : Outcome)
+module _ {offer : Offer} {missing : MissingReferencedObjectBehaviour} {all : Listed}
+    {old middle : State} where
+  -- the list ends so
+  pub ends : {left : Listed} → TakenUpTo offer missing all old left middle
+      → (rest : List (DwarfObject × List ℕ)) (error : Option ErrorValue) (outcome : Outcome)
       (new : State) (here : List (List ℕ))
       → (error ≢ Some Memory → left ≡ (rest, error)) → take (length rest) left.0 ≡ rest
       → TakesSkeletons offer missing rest error middle (came outcome new here)
       → (accepted : List (List ℕ)) × TakesNamed offer missing all old (came outcome new accepted)
-  ends rest error outcome new here is front took = (
+  ends {left} so_far rest error outcome new here is front took = (
     so_far.before ++ here,
     record {
       named = so_far.done ++ rest;
       error = error;
-      are = λ other. sym (whole (rest, error) (is other));
+      are = λ other. sym (subst (λ (l : Listed). (so_far.done ++ l.0, l.1) ≡ all) (is other)
+          so_far.are);
       front = ap (λ (l : Listed). take (length (so_far.done ++ rest)) l.0) (sym so_far.are)
           ∙ rw (length-append, take-append-add so_far.done left.0 (length rest), front) refl;
       taken = so_far.goes_on rest error outcome new here took;
     },
   )
 
-  -- one was refused
-  pub next-refused : (rest : Listed) (n : DwarfObject × List ℕ) (new : State) (e : Error)
-      (here : List (List ℕ))
-      → left ≡ (n ∷ rest.0, rest.1) → TakesSkeleton offer missing n middle (came (Err e) new here)
-      → (accepted : List (List ℕ)) × TakesNamed offer missing all old (came (Err e) new accepted)
-  next-refused rest n new e here first took = ends (n ∷ rest.0) rest.1 (Err e) new here
-      (λ other. first) (rw first (take-length (n ∷ rest.0)))
-      (record { middle = new; here = here; later = [] }, Err e, took, (refl, refl, refl))
-
-  -- the object of one is declined
-  pub next-declined : {D : Type 0} {declines : Bool → List ℕ → D → Type 0} (rest : Listed)
-      (n : DwarfObject × List ℕ) → left ≡ (n ∷ rest.0, rest.1) → (why : D)
-      → declines false n.1 why → DeclinesNamed offer declines missing all old why
-  next-declined rest n first why declined = record {
-    front = so_far.done;
-    named = n;
-    rest = rest.0;
-    list_is = ap (λ (l : Listed). l.0) (sym (whole (n ∷ rest.0, rest.1) first));
-    state = middle;
-    accepted = so_far.before;
-    took = simp append-nil at (so_far.goes_on [] None (Ok tt) middle [] (refl, (refl, refl)));
-    declined = declined;
-  }
-
   -- the list ended with an error
-  pub list-error : (e : Error) → MemoryAside e (left ≡ ([], Some (error_of e))) →
-      (accepted : List (List ℕ)) × TakesNamed offer missing all old (came (Err e) middle accepted)
-  list-error e is = ends [] (Some (error_of e)) (Err e) middle []
+  pub list-error : {left : Listed} → TakenUpTo offer missing all old left middle → (e : Error)
+      → MemoryAside e (left ≡ ([], Some (error_of e)))
+      → (accepted : List (List ℕ)) × TakesNamed offer missing all old (came (Err e) middle accepted)
+  list-error so_far e is = ends so_far [] (Some (error_of e)) (Err e) middle []
       (λ other. is (λ m. other (ap (λ f. Some (error_of f)) m))) refl (refl, (refl, refl))
+
+  -- the first of those that are left
+  module _ (rest : Listed) (n : DwarfObject × List ℕ)
+      (so_far : TakenUpTo offer missing all old (n ∷ rest.0, rest.1) middle) where
+    -- it was taken
+    pub next-taken : (new : State) (here : List (List ℕ))
+        → TakesSkeleton offer missing n middle (came (Ok tt) new here)
+        → TakenUpTo offer missing all old rest new
+    next-taken new here took = record {
+      done = so_far.done ++ n ∷ [];
+      before = so_far.before ++ here;
+      are = rw append_assoc so_far.are;
+      goes_on = λ others error outcome last later end. simp append_assoc
+          (so_far.goes_on (n ∷ others) error outcome last (here ++ later)
+          (record { middle = new; here = here; later = later }, Ok tt, took, (end, refl)));
+    }
+
+    -- it was refused
+    pub next-refused : (new : State) (e : Error) (here : List (List ℕ))
+        → TakesSkeleton offer missing n middle (came (Err e) new here)
+        → (accepted : List (List ℕ)) × TakesNamed offer missing all old (came (Err e) new accepted)
+    next-refused new e here took =
+        ends so_far (n ∷ rest.0) rest.1 (Err e) new here (λ other. refl) (take-length (n ∷ rest.0))
+        (record { middle = new; here = here; later = [] }, Err e, took, (refl, refl, refl))
+
+    -- its object is declined
+    pub next-declined : {D : Type 0} {declines : Bool → List ℕ → D → Type 0} (why : D)
+        → declines false n.1 why → DeclinesNamed offer declines missing all old why
+    next-declined why declined = record {
+      front = so_far.done;
+      named = n;
+      rest = rest.0;
+      list_is = ap (λ (l : Listed). l.0) (sym so_far.are);
+      state = middle;
+      accepted = so_far.before;
+      took = simp append-nil at (so_far.goes_on [] None (Ok tt) middle [] (refl, (refl, refl)));
+      declined = declined;
+    }
 
 -- the names of a builder's units
 pub names_begun : (state : State) → keys (units_in state) ≡ names_in state.begun
@@ -226,6 +226,13 @@ module _ {D : Type 0} (why : NotTaken InputError D) where
     accepted = [];
     taken = (refl, (refl, refl));
   })
+
+-- of an object that an executable refers to nothing is taken where memory runs out
+pub memory_out : {offered : Result (List ℕ) IoError → Type 0}
+    {missing : MissingReferencedObjectBehaviour} {old new : State} {outcome : Outcome} → new ≡ old
+    → outcome ≡ Err error.Memory → TakesReferredFile offered missing old outcome new
+memory_out same is =
+    record { read = Err input.Memory; within = tt; accepted = []; taken = (is, (same, refl)) }
 
 -- an input that is declined
 module _ {D : Type 0} where
@@ -290,11 +297,6 @@ joined-later bytes (Some made) (Some now) h joins = record {
   held = simp (map-append, map-map) at (ap (map own-bytes) joins.is);
 }
 
--- a target changes nothing of the package
-pub target-kept : (target : DwarfObject) (old new : State) → new ≡ with_target target old
-    → old.begun ≡ new.begun
-target-kept target old new added = grind rules
-
 module _ (offer : Offer) where
   pub are-taken-later : (es : List (String Global × UnitlessInput)) (begun now : Option InProgress)
       → IsLaterBegun begun now → AreTaken offer es begun → AreTaken offer es now
@@ -337,25 +339,6 @@ pub taken-as : (bytes : List ℕ) (old : State) (now : Option InProgress)
     → own_after old now found ≡ own → taken bytes old ≡ Ok (record old { begun = now; own = own })
 unfolding taken
 taken-as bytes old now found own h k e = rw (h, k, e) refl
-
--- what is known of an input that was added again
-pub added-known : (bytes : List ℕ) (again : UnitlessInput) (old : State) (made now : InProgress)
-    → old.begun ≡ Some made → AddsAgainTo bytes again old.begun → now ≡ with_again again made
-    → (with_input bytes old.begun ≡ Ok (Some now))
-    × (taken bytes old ≡ Ok (record old { begun = Some now; own = None }))
-    × IsLaterBegun old.begun (Some now)
-added-known bytes again old made now begun known added =
-    let alone : AddsAgain bytes again made = rw begun at known in
-    let input : with_input bytes old.begun ≡ Ok (Some now) =
-    rw (begun, added) (alone.adds made (later-refl made)) in
-    let names : length (names_in (Some now)) ≡ length (names_in old.begun) =
-    rw (begun, added) refl in (
-      input,
-      taken-as bytes old (Some now) alone.own None input alone.own_is
-          (rw (le-ltb (length (names_in old.begun)) (length (names_in (Some now))) (omega arith))
-          refl),
-      rw (begun, added) (alone.stays made),
-    )
 
 abbrev Strings : Type 0
 Strings = List (List ℕ)

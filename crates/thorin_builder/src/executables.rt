@@ -197,9 +197,7 @@ impl<'output, 'session: 'output, Sess: Session<RelocationEntry>> DwarfPackage<
         Ok(())
     }
 
-    /// Adds the object of a unit that an executable refers to. One that couldn't be read at this
-    /// path for the unit before isn't read again where it is passed over, nor is one of which it is
-    /// known what it adds.
+    /// Adds the object of a unit that an executable refers to, unless the unit is there.
     fn add_skeleton<R: InputReader>(
         &mut self,
         reader: &R,
@@ -225,19 +223,7 @@ impl<'output, 'session: 'output, Sess: Session<RelocationEntry>> DwarfPackage<
             return Ok(());
         }
         self.add_target(named.target)?;
-        if known.is_unread {
-            reader.pass_over();
-            return Ok(());
-        }
-        match known.taken.get(named.path) {
-            Some(again) => {
-                match reader.admit(again.repetition(Path::new(named.path))) {
-                    Ok(()) => tried(self.add_again(again)),
-                    Err(why) => Err(NotTaken::Declined(why)),
-                }
-            }
-            None => self.add_referred(reader, room, named, missing, known),
-        }
+        self.add_referred(reader, room, named, missing, known)
     }
 
     /// Whether a unit is a compilation unit that the package has.
@@ -252,7 +238,9 @@ impl<'output, 'session: 'output, Sess: Session<RelocationEntry>> DwarfPackage<
     }
 
     /// Adds the object at a path that an executable refers to; one that can't be read may be passed
-    /// over.
+    /// over. One that couldn't be read at this path for the unit before isn't read again where it
+    /// is passed over, nor is one of which it is known what it adds.
+    #[tactic(auto, using(crate::proofs::Inputs::memory_out))]
     fn add_referred<R: InputReader>(
         &mut self,
         reader: &R,
@@ -273,6 +261,16 @@ impl<'output, 'session: 'output, Sess: Session<RelocationEntry>> DwarfPackage<
             self.new.state.begun) }
         ensures session { self.new.session ≡ self.old.session }
     {
+        if known.is_unread {
+            reader.pass_over();
+            return Ok(());
+        }
+        if let Some(again) = known.taken.get(named.path) {
+            return match reader.admit(again.repetition(Path::new(named.path))) {
+                Ok(()) => tried(self.add_again(again)),
+                Err(why) => Err(NotTaken::Declined(why)),
+            };
+        }
         match reader.read_into(false, Path::new(named.path), room) {
             Ok(bytes) => tried(self.add_and_remember(bytes, named, &mut known.taken)),
             Err(NotTaken::Failed(InputError::Io(e))) => match missing {

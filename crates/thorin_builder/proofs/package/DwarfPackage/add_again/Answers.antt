@@ -1,8 +1,31 @@
 use Rattle.thorin_builder.specs.{BuilderView.building, StateView.begun_of, StateView.in_progress_of}
-use Rattle.{thorin_builder.proofs.Inputs.added-known, thorin_join.specs.Builder.State}
 use Rattle.thorin_again.proofs.Lists.{taken-holds, taken-plain}
-use Rattle.std.proofs.Common.{ap, None, rules, Some, ◌≡◌}
+use Rattle.thorin_builder.proofs.Inputs.{later-refl, taken-as, with_again}
+use Rattle.thorin_builder.specs.Repeated.{AddsAgain, AddsAgainTo, IsLaterBegun}
+use Rattle.thorin_builder.specs.declared.repeated.UnitlessInput.{UnitlessInput}
+use Rattle.thorin_join.proofs.Terms.{InProgress, with_input}
+use Rattle.thorin_join.specs.Builder.{names_in, State, taken}
+use Rattle.std.proofs.Common.{ap, arith, le-ltb, length, List, None, Ok, refl, rules, Some, ℕ, ◌≡◌}
 use Rattle.thorin_builder.proofs.package.DwarfPackage.add_again.Goals as goal
+
+-- what is known of an input that was added again
+added-known : (bytes : List ℕ) (again : UnitlessInput) (old : State) (made now : InProgress)
+    → old.begun ≡ Some made → AddsAgainTo bytes again old.begun → now ≡ with_again again made
+    → (with_input bytes old.begun ≡ Ok (Some now))
+    × (taken bytes old ≡ Ok (record old { begun = Some now; own = None }))
+    × IsLaterBegun old.begun (Some now)
+added-known bytes again old made now begun known added =
+    let alone : AddsAgain bytes again made = rw begun at known in
+    let input : with_input bytes old.begun ≡ Ok (Some now) =
+    rw (begun, added) (alone.adds made (later-refl made)) in
+    let names : length (names_in (Some now)) ≡ length (names_in old.begun) =
+    rw (begun, added) refl in (
+      input,
+      taken-as bytes old (Some now) alone.own None input alone.own_is
+          (rw (le-ltb (length (names_in old.begun)) (length (names_in (Some now))) (omega arith))
+          refl),
+      rw (begun, added) (alone.stays made),
+    )
 
 pub invariant_of-self-in-Some : goal.invariant_of-self-in-Some
 invariant_of-self-in-Some g c =

@@ -21,24 +21,27 @@ add_skeleton-requires-clause-unread g c =
 pub returns-in-Err-clause-taken : goal.returns-in-Err-clause-taken
 returns-in-Err-clause-taken g c =
     let first = rw c.in-Some.is at c.in_ok-unit.ensures.next in
-    next-refused c.loop-known.invariant.0 _ _ _ _ _ first (inr (inr (refl, (refl, refl))))
+    let so_far = rw first at c.loop-known.invariant.0 in
+    next-refused _ _ so_far _ _ _ (inr (inr (refl, (refl, refl))))
 
 pub returns-in-Err-clause-declined : goal.returns-in-Err-clause-declined
 returns-in-Err-clause-declined g c =
     let first = rw c.in-Some.is at c.in_ok-unit.ensures.next in
-    next-declined c.loop-known.invariant.0 _ _ first c.in-Err.why
+    let so_far = rw first at c.loop-known.invariant.0 in
+    next-declined _ _ so_far c.in-Err.why
     (rw c.path.ensures at c.in-Err.ensures)
 
 pub returns-in_err-add_skeleton : goal.returns-in_err-add_skeleton
 returns-in_err-add_skeleton g c =
     let first = rw c.in-Some.is at c.in_ok-unit.ensures.next in
+    let so_far = rw first at c.loop-known.invariant.0 in
     let p = err_from_is_err_and c.from_residual-in_err-add_skeleton.result
     c.from_residual-in_err-add_skeleton.ensures.1 in
     record {
-      taken = rw (p.1, p.2) (next-refused c.loop-known.invariant.0 _ _ _ _ _ first
+      taken = rw (p.1, p.2) (next-refused _ _ so_far _ _ _
           (rw c.path.ensures at c.in_err-add_skeleton.ensures.taken.1));
       declined = rw (p.1, p.2) (declined-as (Err c.in_err-add_skeleton.field-0.0)
-          (next-declined c.loop-known.invariant.0 _ _ first)
+          (next-declined _ _ so_far)
           (rw c.path.ensures at c.in_err-add_skeleton.ensures.declined));
       session = c.add_skeleton.ensures.session ∙ c.loop-known.invariant.1;
     }
@@ -46,7 +49,7 @@ returns-in_err-add_skeleton g c =
 pub loop-known-preserved : goal.loop-known-preserved
 loop-known-preserved g c =
     let first = rw c.in-Some.is at c.in_ok-unit.ensures.next in (
-      next-taken c.loop-known.invariant.0 _ _ _ _ first
+      next-taken _ _ (rw first at c.loop-known.invariant.0) _ _
           (rw c.path.ensures at c.in_ok-add_skeleton.ensures.taken.1),
       c.add_skeleton.ensures.session ∙ c.loop-known.invariant.1,
       rw c.path.ensures at c.add_skeleton.ensures.unread,
