@@ -1,31 +1,30 @@
 -- What tests that all passed say. The rows of an index as they are held: what they stand for where
 -- more is shared. One more row in its hash table, and bytes that a loop adds.
-use Rattle.std.proofs.lemmas.List.{get_or_append_left, get_or_push, length-map, take-map, take_more}
-use Rattle.thorin_index.specs.EntryTests.{contributions_test, encoding_test, number_test, size_test}
-use Rattle.std.proofs.Common.{Ok, Option, ap, arith, below_more, codes, cond, slice_get, ◌++◌, ◌∷◌}
-use Rattle.thorin_index.specs.IndexText.{FitsRow, IsIndexOf, entry_ids, index_bytes, used_sections}
-use Rattle.std.proofs.lemmas.{Bool.Decides.nat_tests, Bool.cases_lt, Option.get_or_from_slice_get}
-use Rattle.thorin_index.specs.EntryTests.{count_test, each, format_test, index_tests, offset_test}
-use Rattle.dwp_table.specs.{Columns.column_of, Columns.contribution_kinds, Objects.identifier_of}
-use Rattle.std.proofs.Common.{Bool, false, get_or, is_some, map, refl, suc, take_all, true, ◌^◌}
-use Rattle.std.proofs.Common.{All, Some, flat_map, inl, inr, ltb-true, sym, zero, ◌+◌, ◌∙◌, ◌≤◌}
-use Rattle.std.proofs.Common.{drop, get_or-take, length, length-take, unwrap_or, ◌*◌, ◌<◌, ◌≡◌}
+use Rattle.dwp_base.specs.declared.section.SectionKind.TheVariants.{CuIndex, Str, TuIndex}
 use Rattle.dwp_base.specs.declared.section.{Contribution.Contribution, SectionKind.SectionKind}
 use Rattle.dwp_base.{proofs.EveryKind.HoldsAll, specs.declared.endian.Endianness.Endianness}
-use Rattle.thorin_index.specs.{Buckets.IsLooked, EntryTests.tests_under, IndexText.is_used}
-use Rattle.dwp_bytes.specs.{Encoding.index_version_of, declared.encoding.Encoding.Encoding}
-use Rattle.dwp_base.specs.declared.section.SectionKind.TheVariants.{CuIndex, Str, TuIndex}
-use Rattle.thorin_index.specs.Entries.{contribution_to, entry_by, offset_or_0, size_or_0}
-use Rattle.std.proofs.lemmas.Option.{slice_get-get_or, slice_get_read, slice_get_within}
-use Rattle.std.proofs.lemmas.List.{at_drop_more, drop_all, get_or-map, get_or_default}
-use Rattle.std.proofs.lemmas.List.{flat_map_more, length_push, map_more, map_push}
-use Rattle.thorin_index.specs.declared.{entry.IndexEntry.IndexEntry, rows.Row.Row}
-use Rattle.{dwp_base.proofs.Steps.bind-was, thorin_errors.specs.Errors.ErrorValue}
-use Rattle.std.proofs.lemmas.List.{Elements.All-push, Folds.Any-from_list_any}
-use Rattle.std.proofs.Common.{Err, List, None, Result, [], take, ℕ, ◌-◌}
+use Rattle.dwp_bytes.specs.{declared.encoding.Encoding.Encoding, Encoding.index_version_of}
 use Rattle.dwp_table.specs.Table.{HasSlots, IsHashTable, IsPlacedAfter}
-use Rattle.thorin_index.specs.Rows.{blank, row_of, with_own}
+use Rattle.dwp_table.specs.{Columns.column_of, Columns.contribution_kinds, Objects.identifier_of}
+use Rattle.std.proofs.Common.{All, Bool, cond, drop, List, None, refl, Some, take, true, zero, ◌++◌}
+use Rattle.std.proofs.Common.{Err, inl, inr, map, Ok, suc, sym, [], ℕ, ◌*◌, ◌+◌, ◌-◌, ◌<◌, ◌^◌, ◌∙◌}
+use Rattle.std.proofs.Common.{ap, below_more, ltb-true, Option, slice_get, unwrap_or, ◌∷◌, ◌≡◌, ◌≤◌}
+use Rattle.std.proofs.Common.{arith, codes, false, get_or, get_or-take, length, length-take, Result}
+use Rattle.std.proofs.lemmas.List.{Elements.All-push, Folds.Any-from_list_any, map_push, take-map}
+use Rattle.std.proofs.lemmas.List.{at_drop_more, drop_all, get_or_append_left, map_more, take_more}
+use Rattle.std.proofs.lemmas.List.{get_or-map, get_or_default, get_or_push, length-map, length_push}
+use Rattle.std.proofs.lemmas.Option.{get_or_from_slice_get, slice_get-get_or, slice_get_within}
+use Rattle.std.proofs.lemmas.{Bool.cases_lt, Bool.Decides.nat_tests, Option.slice_get_read}
+use Rattle.thorin_index.specs.Entries.{contribution_to, entry_by, offset_or_0, size_or_0}
+use Rattle.thorin_index.specs.EntryTests.{contributions_test, format_test, index_tests, number_test}
+use Rattle.thorin_index.specs.EntryTests.{count_test, each, encoding_test, offset_test, tests_under}
+use Rattle.thorin_index.specs.IndexText.{entry_ids, FitsRow, index_bytes, IsIndexOf, used_sections}
+use Rattle.thorin_index.specs.declared.{entry.IndexEntry.IndexEntry, rows.Row.Row}
+use Rattle.thorin_index.specs.{IndexText.is_used, Rows.blank, Rows.row_of, Rows.with_own}
+use Rattle.{dwp_base.proofs.Steps.bind-was, std.proofs.Common.is_some, std.proofs.Common.take_all}
+use Rattle.{thorin_errors.specs.Errors.ErrorValue, thorin_index.specs.Buckets.IsLooked}
 use Rattle.dwp_base.proofs.EveryKind as kinds
+use Rattle.std.proofs.{Common.flat_map, lemmas.List.flat_map_more}
 
 -- the number of a section's column, and whether it has one
 abbrev pub number_of : ℕ → SectionKind → ℕ
@@ -79,11 +78,14 @@ kind_test test entry e none = by_contribution (λ kind. test kind (contribution_
 
 -- a test that passed all contributions of entries gives a bound on each of their numbers
 pub rows_fit : (measure : Option Contribution → ℕ) (what : List ℕ) (entries : List IndexEntry)
-    → measure None ≡ 0 → All (λ entry. contributions_test (λ _ range.
-    number_test what (measure range)) entry ≡ Ok tt) entries → All (FitsRow measure) entries
+    → measure None ≡ 0 → each (contributions_test (λ _ range. number_test what (measure range)))
+    entries ≡ Ok tt → All (FitsRow measure) entries
 rows_fit measure what entries none tests k d within kind =
-    ltb-true _ (2 ^ 32) (passed _ _ (kind_test (λ _ range. number_test what (measure range))
-    (get_or entries k d) (tests k d within) (λ _. ap (number_test what) none) kind))
+    let test = λ (kind : SectionKind) (range : Option Contribution).
+    number_test what (measure range) in
+    ltb-true _ (2 ^ 32) (passed _ _ (kind_test test (get_or entries k d)
+    (each_passed (contributions_test test) entries tests k d within)
+    (λ _. ap (number_test what) none) kind))
 
 -- what tests say of entries that passed them, with an index of this version
 pub record HavePassed (version : ℕ) (entries : List IndexEntry) : Type 0 where
@@ -118,10 +120,8 @@ have_passed encoding entries tests =
       few = ltb-true _ (2 ^ 32) (passed _ _ count.1);
       known = λ k d less kind. range_known version kind _ (kind_test (format_test version)
           (get_or entries k d) (each_passed formatted entries formats.1 k d less) (λ _. refl) kind);
-      offsets = rows_fit offset_or_0 (codes "contribution offset") entries refl
-          (each_passed (contributions_test offset_test) entries offsets.1);
-      sizes = rows_fit size_or_0 (codes "contribution size") entries refl
-          (each_passed (contributions_test size_test) entries offsets.2);
+      offsets = rows_fit offset_or_0 (codes "contribution offset") entries refl offsets.1;
+      sizes = rows_fit size_or_0 (codes "contribution size") entries refl offsets.2;
     }
 
 -- a list that begins with another isn't shorter

@@ -1,39 +1,38 @@
 -- What was written is read again: numbers, items that are written alike, one after the other, the
 -- columns of an index, the whole of one whose entries passed the tests, and its rows.
-use Rattle.dwp_base.specs.declared.{endian.Endianness.Endianness, section.Contribution.Contribution}
-use Rattle.thorin_index.specs.IndexText.{column_numbers, entry_ids, numbers_bytes, signatures_bytes}
-use Rattle.std.proofs.Common.{All, eqb, leb, ltb, suc, sym, ◌*◌, ◌+◌, ◌-◌, ◌^◌, ◌∙◌, ◌∷◌, ◌≡◌, ◌≤◌}
-use Rattle.std.proofs.Common.{Option, ap, drop_at, eqb-true, flat_map, is_some, mul-suc, unwrap_or}
-use Rattle.std.proofs.Common.{arith, eq-eqb, false, filter, get_or, le-ltb, length, lt-ltb, map-id}
-use Rattle.std.proofs.lemmas.List.{Folds.flat_map-map, Sums.count_by-le-length, Sums.length-filter}
-use Rattle.std.proofs.lemmas.{Iterator.Adapters.position_from-zero, List.Quantifiers.position-Some}
-use Rattle.std.proofs.Common.{append-nil, append_assoc, length-append, option_and_then, slice_get}
-use Rattle.std.proofs.lemmas.List.{Elements.filter_passes, get_or-map, get_or_default, length-map}
-use Rattle.std.proofs.{Common.ℕ, lemmas.List.Folds.list_any-append, lemmas.List.Folds.list_any_at}
-use Rattle.thorin_index.{proofs.Held.has_number, proofs.Held.number_of, specs.ReadBack.index_with}
-use Rattle.{dwp_base.proofs.Bools.by-bool, dwp_base.specs.Sections.rank_of, std.proofs.Common.◌<◌}
-use Rattle.std.proofs.Common.{Bool, List, None, Some, cond, drop, refl, subst, true, ◌&&◌, ◌++◌}
-use Rattle.dwp_index.specs.Index.{Index, Ranges, column_place, contribution, range_in, row_in}
-use Rattle.dwp_index.specs.IndexBytes.{after, counts_of, is_slot_count, new_column, numbers}
-use Rattle.thorin_index.specs.{EntryTests.tests_under, declared.entry.IndexEntry.IndexEntry}
-use Rattle.dwp_bytes.specs.{Encoding.index_version_of, declared.encoding.Encoding.Encoding}
-use Rattle.std.proofs.lemmas.Nat.{from_be_bytes-to_be_bytes_4, from_le_bytes-to_le_bytes_8}
-use Rattle.std.proofs.lemmas.Nat.{from_be_bytes-to_be_bytes_8, from_le_bytes-to_le_bytes_4}
-use Rattle.thorin_index.proofs.Held.{HavePassed, by_contribution, have_passed, used_known}
-use Rattle.dwp_table.specs.{Objects.identifier_of, Table.AreDistinct, Table.signature_of}
-use Rattle.thorin_index.specs.IndexText.{IsIndexText, is_used, rows_bytes, used_sections}
-use Rattle.std.proofs.{Common.Ok, Common.[], Common.map, lemmas.Bool.false_from_ne_true}
-use Rattle.dwp_base.specs.declared.section.SectionKind.{SectionKind, TheVariants.Info}
-use Rattle.dwp_index.specs.IndexBytes.{columns_at, index_of, number_rows, version_of}
-use Rattle.dwp_table.specs.Columns.{column_of, contribution_kinds, kind_of_column}
-use Rattle.thorin_index.specs.IndexText.{index_bytes, row_numbers, version_bytes}
-use Rattle.thorin_index.specs.ReadRows.{HasContributions, HasEntries, non_empty}
-use Rattle.thorin_index.specs.Entries.{contribution_to, offset_or_0, size_or_0}
+use Rattle.byteorder.specs.Numbers.{big_number-reads_back, length-bytes_low_first}
+use Rattle.byteorder.specs.Numbers.{length-bytes_high_first, little_number-reads_back}
 use Rattle.dwp_base.specs.declared.endian.Endianness.TheVariants.{Big, Little}
-use Rattle.std.proofs.lemmas.Option.{get_or_from_slice_get, slice_get_within}
+use Rattle.dwp_base.specs.declared.section.{Contribution.Contribution, SectionKind.TheVariants.Info}
+use Rattle.dwp_base.specs.declared.{endian.Endianness.Endianness, section.SectionKind.SectionKind}
+use Rattle.dwp_base.specs.{Numbers.number, Numbers.number_bytes, Sections.rank_of}
 use Rattle.dwp_index.proofs.Indexes.{is_some-position, kind_of_number}
+use Rattle.dwp_index.specs.Index.{column_place, contribution, Index, range_in, Ranges, row_in}
+use Rattle.dwp_index.specs.IndexBytes.{after, counts_of, new_column, numbers}
+use Rattle.dwp_index.specs.IndexBytes.{columns_at, index_of, is_slot_count, number_rows, version_of}
+use Rattle.dwp_table.specs.Columns.{column_of, contribution_kinds, kind_of_column}
+use Rattle.dwp_table.specs.{Objects.identifier_of, Table.AreDistinct, Table.signature_of}
+use Rattle.std.proofs.Common.{All, arith, drop, eq-eqb, leb, lt-ltb, mul-suc, Option, sym, ◌+◌, ◌≤◌}
+use Rattle.std.proofs.Common.{ap, eqb, option_and_then, slice_get, Some, suc, true, ◌&&◌, ◌++◌, ◌∷◌}
+use Rattle.std.proofs.Common.{append-nil, cond, drop_at, filter, length, List, ltb, None, subst, []}
+use Rattle.std.proofs.Common.{append_assoc, Bool, flat_map, length-append, map, map-id, ℕ, ◌-◌, ◌∙◌}
+use Rattle.std.proofs.Common.{eqb-true, false, get_or, is_some, refl, unwrap_or, ◌*◌, ◌<◌, ◌^◌, ◌≡◌}
+use Rattle.std.proofs.lemmas.List.Folds.{flat_map-map, list_any-append, list_any_at}
+use Rattle.std.proofs.lemmas.List.Sums.{count_by-le-length, length-filter}
+use Rattle.std.proofs.lemmas.List.{Elements.filter_passes, get_or-map, get_or_default, length-map}
+use Rattle.std.proofs.lemmas.Option.{get_or_from_slice_get, slice_get_within}
+use Rattle.std.proofs.lemmas.{Iterator.Adapters.position_from-zero, List.Quantifiers.position-Some}
 use Rattle.std.specs.List.{list_any, position_from, range_with_len}
-use Rattle.dwp_base.specs.Numbers.{number, number_bytes}
+use Rattle.thorin_index.proofs.Held.{by_contribution, has_number, HavePassed, number_of, used_known}
+use Rattle.thorin_index.specs.Entries.{contribution_to, offset_or_0, size_or_0}
+use Rattle.thorin_index.specs.IndexText.{column_numbers, index_bytes, row_numbers, signatures_bytes}
+use Rattle.thorin_index.specs.IndexText.{entry_ids, is_used, IsIndexText, rows_bytes, version_bytes}
+use Rattle.thorin_index.specs.ReadRows.{HasContributions, HasEntries, non_empty}
+use Rattle.thorin_index.specs.{EntryTests.tests_under, IndexText.numbers_bytes, ReadBack.index_with}
+use Rattle.thorin_index.specs.{declared.entry.IndexEntry.IndexEntry, IndexText.used_sections}
+use Rattle.{dwp_base.proofs.Bools.by-bool, dwp_bytes.specs.declared.encoding.Encoding.Encoding}
+use Rattle.{dwp_bytes.specs.Encoding.index_version_of, std.proofs.lemmas.Bool.false_from_ne_true}
+use Rattle.{std.proofs.Common.le-ltb, std.proofs.Common.Ok, thorin_index.proofs.Held.have_passed}
 
 -- items are put in so many bytes each, in which those that fit are read again as what they are
 pub record IsPut {X Y : Type 0} (put : X → List ℕ) (read : List ℕ → Y) (is : X → Y)
@@ -42,26 +41,15 @@ pub record IsPut {X Y : Type 0} (put : X → List ℕ) (read : List ℕ → Y) (
   pub again : (x : X) (rest : List ℕ) → Fits x → read (put x ++ rest) ≡ is x
 
 -- numbers that items have
-pub put_4 : {X : Type 0} (order : Endianness) (f : X → ℕ) → IsPut (λ x. number_bytes order 4 (f x))
-    (number order 4) f (λ x. f x < 2 ^ 32) 4
-put_4 Little f = record {
-  len = λ x. refl;
-  again = λ x rest h. omega (arith, from_le_bytes-to_le_bytes_4 (f x) h);
+pub put_n : {X : Type 0} (n : ℕ) (order : Endianness) (f : X → ℕ) → IsPut
+    (λ x. number_bytes order n (f x)) (number order n) f (λ x. f x < 256 ^ n) n
+put_n n Little f = record {
+  len = λ x. length-bytes_low_first 0 n (f x);
+  again = λ x rest h. little_number-reads_back n (f x) rest h;
 }
-put_4 Big f = record {
-  len = λ x. refl;
-  again = λ x rest h. omega (arith, from_be_bytes-to_be_bytes_4 (f x) h);
-}
-
-pub put_8 : {X : Type 0} (order : Endianness) (f : X → ℕ) → IsPut (λ x. number_bytes order 8 (f x))
-    (number order 8) f (λ x. f x < 2 ^ 64) 8
-put_8 Little f = record {
-  len = λ x. refl;
-  again = λ x rest h. omega (arith, from_le_bytes-to_le_bytes_8 (f x) h);
-}
-put_8 Big f = record {
-  len = λ x. refl;
-  again = λ x rest h. omega (arith, from_be_bytes-to_be_bytes_8 (f x) h);
+put_n n Big f = record {
+  len = λ x. length-bytes_high_first n (f x);
+  again = λ x rest h. big_number-reads_back n (f x) rest h;
 }
 
 pub after_front : (n : ℕ) (front rest : List ℕ) → length front ≡ n → after n (front ++ rest) ≡ Ok
@@ -102,8 +90,8 @@ pub put_row : {X K : Type 0} (order : Endianness) (columns : List K) (f : X → 
     (λ x. flat_map (number_bytes order 4) (map (f x) columns)) (numbers order 4 (length columns))
     (λ x. map (f x) columns) (λ x. (k : K) → f x k < 2 ^ 32) (4 * length columns)
 put_row order columns f = record {
-  len = λ x. rw flat_map-map (length_put (put_4 order (f x)) columns);
-  again = λ x rest fits. rw flat_map-map (put_again (put_4 order (f x)) (numbers order 4)
+  len = λ x. rw flat_map-map (length_put (put_n 4 order (f x)) columns);
+  again = λ x rest fits. rw flat_map-map (put_again (put_n 4 order (f x)) (numbers order 4)
       (λ bytes. refl) (λ n bytes. refl) columns rest (λ k d less. fits (get_or columns k d)));
 }
 
@@ -149,7 +137,7 @@ module _ (order : Endianness) (version : ℕ) (p : SectionKind → Bool)
   one_read rank before kind kinds rest has at new later =
       let n = number_of version kind in
       let tail : List ℕ = flat_map (number_bytes order 4) (map (number_of version) kinds) ++ rest in
-      let one = put_4 order (number_of version) in rw (
+      let one = put_n 4 order (number_of version) in rw (
         append_assoc,
         after_front 4 (number_bytes order 4 n) tail (one.len kind),
         one.again kind tail (grind arith),
@@ -205,7 +193,7 @@ module _ (columns units slots : ℕ) (rest : List ℕ) where
         → drop 12 bytes ≡ slots_on order → drop 16 bytes ≡ rest → IsHeader order version bytes
     unfolding counts_of
     header_read order version bytes long is at_columns at_units at_slots left =
-        let one : IsPut _ _ _ _ 4 = put_4 order (λ (n : ℕ). n) in
+        let one : IsPut _ _ _ _ 4 = put_n 4 order (λ (n : ℕ). n) in
         record {
           version_is = is (le-ltb (length bytes) 4 (omega arith));
           counts_are = λ ok. rw (
@@ -254,8 +242,8 @@ index_is_read order encoding entries bytes tests small_ids text =
     let used = length-filter (is_used entries) contribution_kinds in
     let most = count_by-le-length (is_used entries) contribution_kinds in
     let columns : length kinds ≤ 10 = omega (arith, used, most) in
-    let signatures = put_8 order (signature_of ids) in
-    let slots = put_4 order (λ (row : ℕ). row) in
+    let signatures = put_n 8 order (signature_of ids) in
+    let slots = put_n 4 order (λ (row : ℕ). row) in
     let offsets = put_row order kinds (λ (e : IndexEntry) (k : SectionKind).
     offset_or_0 (contribution_to k e)) in
     let sizes = put_row order kinds (λ (e : IndexEntry) (k : SectionKind).

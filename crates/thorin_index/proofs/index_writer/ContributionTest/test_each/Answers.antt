@@ -1,12 +1,11 @@
-use Rattle.{dwp_table.specs.Columns.contribution_kinds, thorin_index.specs.Entries.contribution_to}
-use Rattle.thorin_index.specs.{EntryTests.contributions_test, EntryTests.test_of, Rows.blank}
-use Rattle.thorin_index.proofs.Held.{each_passed, next_fails, next_passes}
-use Rattle.std.proofs.lemmas.{List.drop_all, Result.err_from_is_err_and}
-use Rattle.std.proofs.Common.{[], arith, drop, get_or, sym, ◌∙◌, ◌≡◌}
+use Rattle.std.proofs.{Common.arith, Common.get_or, lemmas.Result.err_from_is_err_and, Common.◌∙◌}
+use Rattle.thorin_index.specs.{Entries.contribution_to, EntryTests.contributions_test, Rows.blank}
+use Rattle.thorin_index.{proofs.Held.next_fails, proofs.Held.next_passes, specs.EntryTests.test_of}
+use Rattle.{dwp_table.specs.Columns.contribution_kinds, std.proofs.Common.sym}
 use Rattle.thorin_index.proofs.index_writer.ContributionTest.test_each.Goals as goal
 
-pub returns-in_err-test-clause-exact : goal.returns-in_err-test-clause-exact
-returns-in_err-test-clause-exact c =
+pub returns-in_err-test : goal.returns-in_err-test
+returns-in_err-test c =
     let entry = get_or c.args.rows.now c.loop-position.position blank in
     let p = err_from_is_err_and c.from_residual.result c.from_residual.ensures.1 in
     rw (p.1, p.2) (λ other. next_fails (contributions_test (test_of c.args.self)) c.args.rows.now
@@ -22,10 +21,3 @@ loop-kind-preserved c =
     sym (next_passes (λ kind. test_of c.args.self kind (contribution_to kind entry))
     contribution_kinds c.loop-kind.kind-index _ c.loop-kind-test.true
     (rw c.contribution.ensures at c.in_ok-test.ensures)) ∙ c.loop-kind.invariant
-
-pub returns-clause-passed : goal.returns-clause-passed
-returns-clause-passed c =
-    let left : drop c.loop-position.position c.args.rows.now ≡ [] =
-    drop_all c.loop-position.position c.args.rows.now (omega arith) in
-    each_passed (contributions_test (test_of c.args.self)) c.args.rows.now
-    (sym (rw left at c.loop-position.invariant))
