@@ -21,8 +21,8 @@ const STRTAB: u32 = 3;
 /// Zeros: as many as a section header has, and those before the headers.
 pub const ZEROS: [u8; 72] = [0; 72];
 
-/// The name of the section that has the names.
-const NAMES: &[u8; 10] = b".shstrtab\0";
+/// The end of the name before, and the name of the section that has the names.
+const NAMES: &[u8; 11] = b"\0.shstrtab\0";
 
 /// How many bytes the contents have, None past 64 bits, and how many the content of `.shstrtab`.
 fn sizes_of(sections: &[(SectionKind, Vec<u8>)]) -> Option<(u64, u64)>
@@ -34,7 +34,7 @@ fn sizes_of(sections: &[(SectionKind, Vec<u8>)]) -> Option<(u64, u64)>
     ensures small { IfSome result (λ sizes. sizes.1 ≤ 400) }
 {
     let mut contents = 0u64;
-    let mut names = 1 + NAMES.len() as u64;
+    let mut names = NAMES.len() as u64;
     for section in sections {
         contents = contents.checked_add(section.1.len() as u64)?;
         names += section.0.name().len() as u64 + 1;
@@ -109,7 +109,7 @@ pub fn write_contents<O: Output>(out: &mut O, sections: &[(SectionKind, Vec<u8>)
     Ok(())
 }
 
-/// Writes the content of `.shstrtab`: each name is ended by a zero byte.
+/// Writes the content of `.shstrtab`: an empty name, and names, each ended by a zero byte.
 pub fn write_name_table<O: Output>(
     out: &mut O,
     sections: &[(SectionKind, Vec<u8>)],
@@ -118,10 +118,9 @@ pub fn write_name_table<O: Output>(
         (name_table (contents_of sections.now)) }
     ensures error { Errors result (O.failed out.old) (O.failed out.new) }
 {
-    write_whole(out, &[0])?;
     for section in sections {
-        write_whole(out, section.0.name().as_bytes())?;
         write_whole(out, &[0])?;
+        write_whole(out, section.0.name().as_bytes())?;
     }
     write_whole(out, NAMES)
 }

@@ -1,5 +1,5 @@
 use Rattle.dwp_elf.proofs.ReadingBack.{headers_from-drop, length-content_bytes-drop, length-name_of}
-use Rattle.dwp_elf.proofs.SoFar.{failed, so_far_more, so_far_part, Writes-so_far}
+use Rattle.dwp_elf.proofs.SoFar.{so_far_failed, so_far_more}
 use Rattle.{dwp_elf.specs.FileText.headers_from, std.proofs.lemmas.List.drop_all}
 use Rattle.std.proofs.Common.{ap, arith, length, refl, ◌∙◌}
 use Rattle.dwp_elf.proofs.output.write_section_headers.Goals as goal
@@ -15,8 +15,8 @@ returns-in_err-write_whole-clause-text g c =
     let split = headers_from-drop _ _ _ c.loop-section-test.true c.section-item.is _ _
     c.args.names_size _ _ _ _ _ (c.len-size.ensures ∙ c.section-item.result.1.ok.0)
     (c.as_slice.ensures ∙ c.section_header-header.ensures) refl in
-    failed _ _ c.from_residual.ensures.1 (so_far_part c.loop-section.invariant.written _ _ _ split
-    c.in_err-write_whole.ensures.text)
+    so_far_failed c.loop-section.invariant.written _ _ split _ _ _ c.from_residual.ensures.1
+    c.in_err-write_whole.ensures.text
 
 pub overflow_add-place : goal.overflow_add-place
 overflow_add-place g c = grind (arith, length-content_bytes-drop)
@@ -30,7 +30,7 @@ loop-section-preserved g c =
     (c.as_slice.ensures ∙ c.section_header-header.ensures) c.name.ensures in
     let step = length-content_bytes-drop _ _ _ c.loop-section-test.true c.section-item.is in
     record {
-      written = so_far_more c.loop-section.invariant.written _ _ _ split
+      written = so_far_more c.loop-section.invariant.written _ _ split _
           c.in_ok-write_whole.ensures.text;
       error = λ kind f. c.loop-section.invariant.error kind
           (c.in_ok-write_whole.ensures.error kind f);
@@ -41,7 +41,7 @@ loop-section-preserved g c =
 pub returns-clause-text : goal.returns-clause-text
 unfolding headers_from
 returns-clause-text g c =
-    Writes-so_far c.loop-section.invariant.written _ _
+    c.loop-section.invariant.written.writes _ _
     (rw (
       drop_all _ _ c.loop-section-test.false,
       ← (c.as_slice-2.ensures ∙ c.section_header-header-2.ensures),
