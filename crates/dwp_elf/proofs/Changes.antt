@@ -1,9 +1,9 @@
 -- How the contents of sections change: what is appended, cut, and taken back. No two contents are
 -- of one kind, whatever is appended or cut, so there are no more than kinds.
 use Rattle.{dwp_base.specs.declared.section.SectionKind.SectionKind, std.specs.List.position_or_len}
-use Rattle.std.proofs.Common.{Bool, cond, drop, List, ltb, map, refl, take, true, zero, ◌++◌, ◌==◌}
-use Rattle.std.proofs.Common.{append-nil, append_assoc, ltb-false, ltb-true, MatchOption, position}
-use Rattle.std.proofs.Common.{add-one, arith, eqb-true, get_or, length, one-add, Option, take_all}
+use Rattle.std.proofs.Common.{cond, drop, List, map, refl, take, true, zero, ◌++◌, ◌==◌}
+use Rattle.std.proofs.Common.{append-nil, append_assoc, None, one-add, position, Some}
+use Rattle.std.proofs.Common.{add-one, arith, eqb-true, get_or, length, take_all}
 use Rattle.{dwp_elf.specs.Contents.count_of, dwp_elf.specs.FileText.Object, std.specs.Global.Vec}
 use Rattle.std.proofs.Common.{[], ap, eqb, set, suc, sym, ℕ, ◌+◌, ◌<◌, ◌∙◌, ◌∷◌, ◌≡◌, ◌≤◌, ◌⊎◌}
 use Rattle.dwp_elf.specs.Contents.{appended, content_of, contents_of, KindsDiffer, truncated}
@@ -11,6 +11,7 @@ use Rattle.dwp_elf.specs.Growing.{Begins, Contents, HasFront, IsGrown, lengths, 
 use Rattle.std.proofs.Math.{ListN.get_or-map, Seq.map-set_same, Seq.take-append_seam}
 use Rattle.dwp_base.proofs.{Bools.by-bool, EveryKind.every, EveryKind.is-same}
 use Rattle.std.proofs.lemmas.List.{drop_all, length-map, map-set, take-map}
+use Rattle.std.proofs.lemmas.{Bool.Decides.nat_tests, Grind.common_steps}
 use Rattle.dwp_base.specs.Sections.{all_kinds, kind_count, same_kind}
 
 abbrev pub Sections : Type 0
@@ -20,61 +21,54 @@ pair_of : (a b : SectionKind) (x y : List ℕ) → a ≡ b → x ≡ y
     → ◌≡◌ {A = SectionKind × List ℕ} (a, x) (b, y)
 pair_of a b x y e f = cc
 
--- no section is of a kind: it has no content, and what is appended makes the last section
-pub record Absent (kind : SectionKind) (xs : Sections) : Type 0 where
-  pub content : content_of kind (contents_of xs) ≡ []
-  pub added : (bytes : List ℕ) (y : SectionKind × Vec ℕ) → y.0 ≡ kind → y.1.items ≡ bytes
-      → contents_of (xs ++ y ∷ []) ≡ appended kind bytes (contents_of xs)
+-- where the first section of a kind stands; past all where there is none
+abbrev pub place : SectionKind → Sections → ℕ
+place kind xs = position_or_len (λ s. same_kind s.0 kind) xs
 
--- section i is the first of a kind: it has the content, and what is appended goes there
-pub record AtFirst (kind : SectionKind) (xs : Sections) (i : ℕ) : Type 0 where
-  pub content : (x : SectionKind × Vec ℕ) → x ≡ get_or xs i x
-      → content_of kind (contents_of xs) ≡ x.1.items
-  pub added : (bytes : List ℕ) (x y : SectionKind × Vec ℕ) → x ≡ get_or xs i x → y.0 ≡ x.0
-      → y.1.items ≡ x.1.items ++ bytes
-      → contents_of (set xs i y) ≡ appended kind bytes (contents_of xs)
+pub first-found : (kind : SectionKind) (xs : Sections) (i : ℕ)
+    → Some i ≡ position (λ s. same_kind s.0 kind) xs
+    → (i ≡ place kind xs) × (place kind xs < length xs)
+first-found kind xs i found = grind (arith, nat_tests)
 
--- a section is of a kind
-abbrev is_of : SectionKind → SectionKind × Vec ℕ → Bool
-is_of kind s = same_kind s.0 kind
+pub none-found : (kind : SectionKind) (xs : Sections)
+    → None ≡ position (λ s. same_kind s.0 kind) xs → length xs ≤ place kind xs
+none-found kind xs none = grind (arith, nat_tests)
 
--- the first place at which a section of a kind may stand, within the sections and past them
-by_first : (kind : SectionKind) (xs : Sections)
-    → (position_or_len (is_of kind) xs < length xs
-    → AtFirst kind xs (position_or_len (is_of kind) xs))
-    × (length xs ≤ position_or_len (is_of kind) xs → Absent kind xs)
-by_first kind [] = (
-  λ h. absurd (omega (arith, h)),
-  λ h. record { content = refl; added = λ bytes y k v. rw (k, v) refl },
-)
-by_first kind (z ∷ zs) = by-bool _ (same_kind z.0 kind)
-    (λ here. rw here (
-      λ h. record {
-        content = λ x e. rw here (ap (λ p. p.1.items) (sym e));
-        added = λ bytes x y e k v. rw here (ap (λ p. p ∷ contents_of zs)
-            (pair_of _ _ _ _ (k ∙ ap (λ p. p.0) e) (v ∙ ap (λ p. p.1.items ++ bytes) e)));
-      },
-      λ h. absurd (omega (arith, h)),
-    ))
-    (λ other.
-    let later = by_first kind zs in
-    rw (other, one-add) (
-      λ h. let first = later.0 (omega (arith, h)) in record {
-        content = λ x e. rw other (first.content x e);
-        added = λ bytes x y e k v. rw (other, first.added bytes x y e k v) refl;
-      },
-      λ h. let none = later.1 (omega (arith, h)) in record {
-        content = rw other none.content;
-        added = λ bytes y k v. rw (other, none.added bytes y k v) refl;
-      },
-    ))
+-- the first section of a kind has the content, and what is appended goes there
+pub content-there : (kind : SectionKind) (xs : Sections) (x : SectionKind × Vec ℕ)
+    → place kind xs < length xs → x ≡ get_or xs (place kind xs) x
+    → x.1.items ≡ content_of kind (contents_of xs)
+content-there kind [] x = λ some is. absurd (omega (arith, some))
+content-there kind (z ∷ zs) x = by-bool _ (same_kind z.0 kind)
+    (λ here. rw here (λ some is. ap (λ p. p.1.items) is))
+    (λ other. rw (other, one-add) (λ some is. content-there kind zs x (omega (arith, some)) is))
 
-pub of_kind : (kind : SectionKind) (xs : Sections) (place : Option ℕ)
-    → place ≡ position (λ s. same_kind s.0 kind) xs
-    → MatchOption place (Absent kind xs) (AtFirst kind xs)
-of_kind kind xs place e = by-bool _ (ltb (position_or_len (is_of kind) xs) (length xs))
-    (λ inside. rw (e, inside) ((by_first kind xs).0 (ltb-true _ _ inside)))
-    (λ past. rw (e, past) ((by_first kind xs).1 (ltb-false _ _ past)))
+pub added-there : (kind : SectionKind) (xs : Sections) (x y : SectionKind × Vec ℕ) (bytes : List ℕ)
+    → place kind xs < length xs → x ≡ get_or xs (place kind xs) x → y.0 ≡ x.0
+    → y.1.items ≡ x.1.items ++ bytes
+    → contents_of (set xs (place kind xs) y) ≡ appended kind bytes (contents_of xs)
+added-there kind [] x y bytes = λ some is k v. absurd (omega (arith, some))
+added-there kind (z ∷ zs) x y bytes = by-bool _ (same_kind z.0 kind)
+    (λ here. rw here (λ some is k v. ap (λ p. p ∷ contents_of zs)
+    (pair_of _ _ _ _ (k ∙ ap (λ p. p.0) is) (v ∙ ap (λ p. p.1.items ++ bytes) is))))
+    (λ other. rw (other, one-add) (λ some is k v. ap (λ l. (z.0, z.1.items) ∷ l)
+    (added-there kind zs x y bytes (omega (arith, some)) is k v)))
+
+-- where none is of a kind it has no content, and what is appended makes the last section
+pub content-absent : (kind : SectionKind) (xs : Sections) → length xs ≤ place kind xs
+    → content_of kind (contents_of xs) ≡ []
+content-absent kind [] = λ none. refl
+content-absent kind (z ∷ zs) = by-bool _ (same_kind z.0 kind)
+    (λ here. rw here (λ none. absurd (omega (arith, none))))
+    (λ other. rw (other, one-add) (λ none. content-absent kind zs (omega (arith, none))))
+
+pub added-absent : (xs : Sections) (y : SectionKind × Vec ℕ) → length xs ≤ place y.0 xs
+    → contents_of (xs ++ y ∷ []) ≡ appended y.0 y.1.items (contents_of xs)
+added-absent [] y = λ none. refl
+added-absent (z ∷ zs) y = by-bool _ (same_kind z.0 y.0)
+    (λ here. rw here (λ none. absurd (omega (arith, none))))
+    (λ other. rw (other, one-add) (λ none. ap (λ l. (z.0, z.1.items) ∷ l)
+    (added-absent zs y (omega (arith, none)))))
 
 -- a write that leaves the content as it was
 pub contents_of-set_same : (xs : Sections) (i : ℕ) (x y : SectionKind × Vec ℕ)
@@ -82,6 +76,9 @@ pub contents_of-set_same : (xs : Sections) (i : ℕ) (x y : SectionKind × Vec �
     → contents_of (set xs i y) ≡ contents_of xs
 contents_of-set_same xs i x y e k v = map-set_same _ xs i y x
     (pair_of _ _ _ _ (k ∙ ap (λ p. p.0) e) (v ∙ ap (λ p. p.1.items) e))
+
+-- what is known of the section of a kind
+pub ruleset of_kinds = (content-absent, added-absent, contents_of-set_same, common_steps)
 
 -- ---- contents that are cut one after the other
 

@@ -91,13 +91,13 @@ offsets_and_sizes-lt o limit h = All-cons (λ n. n < limit) _ _ h (places_from-l
 pub Fits-from : (o : Object) → headers_place o.class o.contents < 2 ^ (8 * word_size o.class)
     → file_length o.class o.contents < 2 ^ 64 → Fits o
 unfolding Fits
-Fits-from o h k = limited-lt o.class h
-  where
-    limited-lt : (class : Class) → headers_place o.class o.contents < 2 ^ (8 * word_size class)
-        → All (λ n. n < 2 ^ (8 * word_size class)) (limited_by class o)
-    limited-lt Elf32 h = offsets_and_sizes-lt o (2 ^ 32) h
-    limited-lt Elf64 h = All-cons (λ n. n < 2 ^ 64) (length (file_text o)) (offsets_and_sizes o)
-        (omega (arith, length-file_text o)) (offsets_and_sizes-lt o (2 ^ 64) h)
+Fits-from o h k =
+    (elim o.class as (λ class. headers_place o.class o.contents < 2 ^ (8 * word_size class)
+    → All (λ n. n < 2 ^ (8 * word_size class)) (limited_by class o)) [
+      | Elf32 ↦ offsets_and_sizes-lt o (2 ^ 32)
+      | Elf64 ↦ λ h. All-cons (λ n. n < 2 ^ 64) (length (file_text o)) (offsets_and_sizes o)
+          (omega (arith, length-file_text o)) (offsets_and_sizes-lt o (2 ^ 64) h)
+    ]) h
 
 pub refused_of : (class : Class) (machine : ℕ) (order : Endianness)
     (cs : List (SectionKind × List ℕ))
@@ -210,58 +210,19 @@ widths [] = 0
 widths (f ∷ fs) = f.0 + widths fs
 
 -- the i-th of the numbers, at its place behind a front
-field-back : (front : List ℕ) (order : Endianness) (fs : List (ℕ × ℕ)) (rest : List ℕ)
-    (i n x k : ℕ) → slice_get fs i ≡ Some (n, x) → k ≡ length front + widths (take i fs)
-    → x < 256 ^ n → number order n (drop k (front ++ spelled order fs rest)) ≡ x
-field-back front order [] rest i n x k at place h = absurd cc
-field-back front order (f ∷ fs) rest zero n x k at place h =
+field-back : (bytes front : List ℕ) (order : Endianness) (fs : List (ℕ × ℕ)) (rest : List ℕ)
+    → bytes ≡ front ++ spelled order fs rest → (i n x k : ℕ) → slice_get fs i ≡ Some (n, x)
+    → k ≡ length front + widths (take i fs) → x < 256 ^ n → number order n (drop k bytes) ≡ x
+field-back bytes front order [] rest e i n x k at place h = absurd cc
+field-back bytes front order (f ∷ fs) rest e zero n x k at place h =
     let back = number-back order n x (spelled order fs rest) h in
     cc (drop-append-add front (spelled order (f ∷ fs) rest) 0, back)
-field-back front order (f ∷ fs) rest (suc i) n x k at place h =
+field-back bytes front order (f ∷ fs) rest e (suc i) n x k at place h =
     let here = number_bytes order f.0 f.1 in
     let sizes = length-append front here in
     let width = length-number_bytes order f.0 f.1 in
-    ap (λ l. number order n (drop k l)) (sym (append_assoc front here (spelled order fs rest)))
-    ∙ field-back (front ++ here) order fs rest i n x k at (omega arith) h
-
--- the section header that the bytes begin with
-section_header-back : (class : Class) (order : Endianness)
-    (name type place size : ℕ) (rest : List ℕ)
-    → name < 256 ^ 4 → type < 256 ^ 4 → place < 256 ^ word_size class → size < 256 ^ word_size class
-    → section_header_of (word_size class) order (section_header class order name type
-    place size ++ rest)
-    ≡ record {
-      name = name;
-      kind = type;
-      flags = 0;
-      address = 0;
-      offset = place;
-      size = size;
-      link = 0;
-      info = 0;
-    }
-unfolding section_header section_header_of
-section_header-back class order name type place size rest a b c d =
-    let w = word_size class in
-    let zero_fits : 0 < 256 ^ w = grind arith in
-    let back = field-back [] order ((4, name) ∷ (4, type) ∷ (w, 0) ∷ (w, 0) ∷ (w, place) ∷ (w, size)
-    ∷ (4, 0) ∷ (4, 0) ∷ (w, 1) ∷ (w, 0) ∷ []) rest in
-    simp append_assoc (cc (
-      back 0 4 name 0 refl refl a,
-      back 1 4 type 4 refl refl b,
-      back 2 w 0 8 refl refl zero_fits,
-      back 3 w 0 (8 + w) refl (omega arith) zero_fits,
-      back 4 w place (8 + 2 * w) refl (omega arith) c,
-      back 5 w size (8 + 3 * w) refl (omega arith) d,
-      back 6 4 0 (8 + 4 * w) refl (omega arith) (lit< tt),
-      back 7 4 0 (12 + 4 * w) refl (omega arith) (lit< tt),
-    ))
-
--- the numbers of a file's header behind its identification
-abbrev file_fields : ℕ → ℕ → ℕ → ℕ → ℕ → ℕ → List (ℕ × ℕ)
-file_fields w machine headers own entry count =
-    (2, 1) ∷ (2, machine) ∷ (4, 1) ∷ (w, 0) ∷ (w, 0) ∷ (w, headers) ∷ (4, 0) ∷ (2, own) ∷ (2, 0) ∷
-    (2, 0) ∷ (2, entry) ∷ (2, count) ∷ (2, count - 1) ∷ []
+    field-back bytes (front ++ here) order fs rest
+    (e ∙ sym (append_assoc front here (spelled order fs rest))) i n x k at (omega arith) h
 
 -- the file header that the bytes begin with
 file_header-back : (class : Class) (order : Endianness)
@@ -278,15 +239,17 @@ file_header-back : (class : Class) (order : Endianness)
 unfolding file_header file_header_of
 file_header-back class order machine headers count rest a b c =
     let w = word_size class in
-    let back = field-back (identification class order) order (file_fields w machine headers
-    (header_size class) (entry_size class) count) rest in
-    simp append_assoc (cc (
+    let back = field-back (file_header class order machine headers count ++ rest) (identification
+    class order) order ((2, 1) ∷ (2, machine) ∷ (4, 1) ∷ (w, 0) ∷ (w, 0) ∷ (w, headers) ∷ (4, 0) ∷
+    (2, header_size class) ∷ (2, 0) ∷ (2, 0) ∷ (2, entry_size class) ∷ (2, count) ∷ (2, count - 1) ∷
+    []) rest (simp append_assoc) in
+    cc (
       back 1 2 machine 18 refl refl a,
       back 5 w headers (24 + 2 * w) refl (omega arith) b,
       back 10 2 (entry_size class) (34 + 3 * w) refl (omega arith) (grind arith),
       back 11 2 count (36 + 3 * w) refl (omega arith) c,
       back 12 2 (count - 1) (38 + 3 * w) refl (omega arith) (omega arith),
-    ))
+    )
 
 -- ---- reading one written section: its content and its name
 
@@ -336,14 +299,36 @@ module _ (class : Class) (order : Endianness) (bytes table after : List ℕ) (he
       → is_name text ≡ true
       → section_of bytes table i (section_header_at class order bytes headers i) ≡
       plain_section i type text content
-  unfolding section_of section_content
+  unfolding section_of section_content section_header section_header_of
   one-back content after text more rest i name type place other small e f within fits g low h =
+      let w = word_size class in
+      let zero_fits : 0 < 256 ^ w = grind arith in
+      let front = section_header class order name type place (length content) ++ rest in
+      let back = field-back front [] order ((4, name) ∷ (4, type) ∷ (w, 0) ∷ (w, 0) ∷ (w, place) ∷
+      (w, length content) ∷ (4, 0) ∷ (4, 0) ∷ (w, 1) ∷ (w, 0) ∷ []) rest (simp append_assoc) in
+      let header : section_header_of w order front ≡ record {
+        name = name;
+        kind = type;
+        flags = 0;
+        address = 0;
+        offset = place;
+        size = length content;
+        link = 0;
+        info = 0;
+      } = cc (
+        back 0 4 name 0 refl refl low,
+        back 1 4 type 4 refl refl small,
+        back 2 w 0 8 refl refl zero_fits,
+        back 3 w 0 (8 + w) refl (omega arith) zero_fits,
+        back 4 w place (8 + 2 * w) refl (omega arith) (omega arith),
+        back 5 w (length content) (8 + 3 * w) refl (omega arith) (omega arith),
+        back 6 4 0 (8 + 4 * w) refl (omega arith) (lit< tt),
+        back 7 4 0 (12 + 4 * w) refl (omega arith) (lit< tt),
+      ) in
       let size : place + length content - place ≡ length content = omega arith in
-      let header = e ∙ section_header-back class order name type place (length content) rest low
-      small (omega arith) (omega arith) in
       let inside = le-leb (place + length content) (length bytes) within in
       let named = text_at-name table text more name g h in
-      ap (section_of bytes table i) header
+      ap (section_of bytes table i) (e ∙ header)
       ∙ rw (other, inside, size, f, take-append_seam content after, named) refl
 
   -- the contents' sections and the name table's, from the i-th on, and the name table's content
@@ -483,12 +468,8 @@ module _ (o : Object) where
       rw (identified, read, placed, sized, counted, inside, known, other, found, got, sections.0)
       refl
 
+-- how a file is read, and how long it is
+pub ruleset laws = (elf_of-file_text, length-file_text, length-KindsDiffer)
+
 -- what is found of a file by its layout
-pub ruleset layouts = (
-  few_sections,
-  length-KindsDiffer,
-  Fits-from,
-  refused_of,
-  elf_of-file_text,
-  common_steps,
-)
+pub ruleset layouts = (few_sections, Fits-from, refused_of, laws, common_steps)

@@ -1,4 +1,5 @@
 //! What a written file means and how long it is, as laws.
+#![tactic(auto, using(crate::proofs::ReadingBack::laws))]
 
 ghost use Rattle.std.specs.Prelude.{length, List, ℕ, ◌<◌, ◌^◌, ◌≡◌, ◌≤◌};
 ghost use Rattle.dwp_base.specs.{declared.section.SectionKind.SectionKind, Sections.kind_count};

@@ -1,10 +1,10 @@
 //! Objects that are made section by section, and written as ELF files.
+#![tactic(auto, using(crate::proofs::Changes::of_kinds))]
 
 ghost use Rattle.std.specs.Prelude.{Err, IfErr, IfOk, length, None, Ok, [], ◌++◌, ◌+◌, ◌<◌, ◌≡◌};
 ghost use Rattle.std.specs.Prelude.{OkIff, OnErr, OnOk, position, Some};
 ghost use Rattle.std.specs.{declared.io.ErrorKind.ErrorKind, Io.KnownBytes.Appends};
-ghost use Rattle.dwp_base.specs.Sections.{same_kind};
-ghost use Rattle.dwp_elf_read.specs.Elf.{elf_of};
+ghost use Rattle.{dwp_base.specs.Sections.same_kind, dwp_elf_read.specs.Elf.elf_of};
 ghost use Rattle.dwp_elf_read.specs.declared.error.WriteError.TheVariants.{Memory, NumberTooLarge};
 ghost use Rattle.dwp_elf.specs.Contents.{appended, content_of, contents_of, KindsDiffer, truncated};
 ghost use Rattle.dwp_elf.specs.{FileText.file_text, FileText.Object, Written.written_elf};
@@ -93,8 +93,7 @@ impl Model for WritableObject {
 
     ghost Value = { Object };
 
-    ghost use Rattle.dwp_elf.specs.Contents.{KindsDiffer, contents_of};
-    ghost use Rattle.dwp_elf.specs.Object.{object_of};
+    ghost use Rattle.dwp_elf.specs.{Contents.KindsDiffer, Contents.contents_of, Object.object_of};
 
     ghost view = { object_of };
 
@@ -248,6 +247,7 @@ impl WritableObject {
 
     /// How many bytes the file has. It takes no memory. Errors: `NumberTooLarge` where one of the
     /// file's offsets and sizes, or the length of an ELF 64 file, passes the limit of its class.
+    #[tactic(auto, using(crate::proofs::ReadingBack::layouts))]
     pub fn file_size(&self) -> Result<u64, WriteError>
         ensures size { OkIff result (Fits self.now) (length (file_text self.now)) }
         ensures refused { IfErr result (λ e. e ≡ NumberTooLarge) }

@@ -1,33 +1,20 @@
-use Rattle.dwp_elf.proofs.Changes.{contents_of-set_same, of_kind}
-use Rattle.std.proofs.Common.{ap, arith, length, None, refl, Some, sym}
-use Rattle.std.proofs.lemmas.Grind.{common_steps}
+use Rattle.dwp_elf.proofs.Changes.{added-there, content-there, first-found}
+use Rattle.std.proofs.Common.{ap, arith, length, refl}
 use Rattle.dwp_elf.proofs.object.append_to.Goals as goal
-
-pub returns-in_err-append_by_pieces-in-Some-clause-unchanged :
-    goal.returns-in_err-append_by_pieces-in-Some-clause-unchanged
-returns-in_err-append_by_pieces-in-Some-clause-unchanged c =
-    grind (arith, common_steps, contents_of-set_same)
 
 pub returns-in_ok-append_by_pieces-in-Some-clause-contents :
     goal.returns-in_ok-append_by_pieces-in-Some-clause-contents
 returns-in_ok-append_by_pieces-in-Some-clause-contents c =
-    (of_kind _ _ (Some _) (rw c.deref.ensures.value at c.in-Some.ensures)).added _ _ _
-    c.index_mut-section.ensures.value refl
-    c.in_ok-append_by_pieces-in-Some.ensures.ok
+    let xs = c.args.sections.now.items in
+    let at = first-found c.args.kind xs _ (rw c.deref.ensures.value at c.in-Some.ensures) in
+    rw at.0 (added-there c.args.kind xs _ _ _ at.1 (rw at.0 at c.index_mut-section.ensures.value)
+    refl c.in_ok-append_by_pieces-in-Some.ensures.ok)
 
 pub returns-in_ok-append_by_pieces-in-Some-clause-place :
     goal.returns-in_ok-append_by_pieces-in-Some-clause-place
 returns-in_ok-append_by_pieces-in-Some-clause-place c =
-    let first = of_kind _ _ (Some _) (rw c.deref.ensures.value at c.in-Some.ensures) in
-    let content = ap length (first.content _ c.index_mut-section.ensures.value) in
+    let xs = c.args.sections.now.items in
+    let at = first-found c.args.kind xs _ (rw c.deref.ensures.value at c.in-Some.ensures) in
+    let content = ap length (content-there c.args.kind xs _ at.1 (rw at.0 at
+    c.index_mut-section.ensures.value)) in
     omega (arith, content, c.index_mut-section.result.now.1.ok.0, c.len-place.ensures)
-
-pub returns-in_ok-push-in-None-clause-contents : goal.returns-in_ok-push-in-None-clause-contents
-returns-in_ok-push-in-None-clause-contents c =
-    rw c.in_ok-push-in-None.ensures.items ((of_kind _ _ None (rw c.deref.ensures.value at
-    c.in-None.ensures)).added _ _ refl c.in_ok-content-in-None.ensures.items)
-
-pub returns-in_ok-push-in-None-clause-place : goal.returns-in_ok-push-in-None-clause-place
-returns-in_ok-push-in-None-clause-place c =
-    sym (ap length (of_kind c.args.kind c.args.sections.now.items None (rw c.deref.ensures.value at
-    c.in-None.ensures)).content)
