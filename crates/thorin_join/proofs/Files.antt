@@ -18,7 +18,7 @@ use Rattle.thorin_join.specs.WrittenPackage.{IsIndexIn, package_with}
 use Rattle.{dwp_index.proofs.Indexes.entries_once, thorin_join.proofs.Parts.content-with_bytes}
 use Rattle.{dwp_elf.proofs.ReadingBack.elf_of-file_text, dwp_elf_read.specs.Layout.word_size}
 use Rattle.thorin_index.specs.ReadRows.{HasContributions, HasEntries, non_empty}
-use Rattle.dwp_base.specs.declared.class.Class.{Class, TheVariants.Elf32, TheVariants.Elf64}
+use Rattle.dwp_base.specs.declared.class.Class.{Class}
 use Rattle.dwp_elf.specs.FileText.{headers_place, name_table, Object}
 use Rattle.dwp_index.specs.{Holding.HasContent, Package.index_in_section, Package.package_of}
 use Rattle.dwp_elf.specs.{Numbers.Fits, Written.written_elf, Written.written_sections}
@@ -37,8 +37,7 @@ pub fitting : (class : Class) (machine : ℕ) (order : Endianness) (cs : List (S
     → Fits (record { class = class; machine = machine; order = order; contents = cs })
     → headers_place class cs < 256 ^ word_size class
 unfolding Fits
-fitting Elf32 machine order cs fits = let first = fits 0 0 (omega arith) in omega (arith, first)
-fitting Elf64 machine order cs fits = let second = fits 1 0 (omega arith) in omega (arith, second)
+fitting class machine order cs fits = grind (arith, fits 0 0, fits 1 0)
 
 -- where no content is of a kind
 pub nothing : (kind : SectionKind) (cs : List (SectionKind × List ℕ)) → count_of kind cs ≡ 0

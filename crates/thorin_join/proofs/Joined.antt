@@ -364,10 +364,6 @@ new-sound file None h =
     assumption (table, apart-none)
 new-sound file (Some made) h = h
 
-pub new-units : (file : Elf) (begun : Option InProgress) → units_of (package_or_new file begun) ≡
-    units_begun begun
-new-units file = same-begun units_begun file refl
-
 -- a package that a file begins has no more than none
 keeps-begun : (bytes : List ℕ) (file : Elf) (begun now : Option InProgress)
     → InputKeeps bytes (Some (package_or_new file begun)) now → InputKeeps bytes begun now
