@@ -20,8 +20,8 @@ use Rattle.dwp_table.specs.Columns.{contribution_kinds, gnu_column, kind_of_colu
 use Rattle.dwp_table.specs.Probing.{first_end, found_row, is_end, look_count, place, row_of}
 use Rattle.dwp_table.specs.Table.{FindsExactly, IsHashTable, IsIndex, signature_of}
 use Rattle.std.proofs.Common.{add-one, arith, inl, is_some, length-append, List, not, Option, subst}
-use Rattle.std.proofs.Common.{add-zero, append_assoc, below_more, eqb, false, lt-ltb, set, suc, ◌*◌}
-use Rattle.std.proofs.Common.{ap, drop, Err, filter, is_none, Result, take, zero-add, ◌+◌, ◌∙◌, ◌≡◌}
+use Rattle.std.proofs.Common.{add-zero, append_assoc, below_more, eqb, false, set, suc, ◌*◌}
+use Rattle.std.proofs.Common.{ap, drop, Err, filter, is_none, Result, take, ◌+◌, ◌∙◌, ◌≡◌}
 use Rattle.std.proofs.Common.{cond, drop-drop, eq-eqb, find, map-id, None, refl, [], ◌++◌, ◌<◌, ◌≤◌}
 use Rattle.std.proofs.Common.{get_or, get_or-set_other, length-set, map, Some, true, unwrap_or, ◌∷◌}
 use Rattle.std.proofs.Common.{inr, le-ltb, length, length-drop, ltb, ne_eqb, sym, zero, ℕ, ◌-◌, ◌⊎◌}
@@ -29,9 +29,9 @@ use Rattle.std.proofs.lemmas.List.Sorted.{IsPermutation-map, IsPermutation-refl,
 use Rattle.std.proofs.lemmas.List.Sorted.{IsPermutation-middle, IsPermutation-push_more}
 use Rattle.std.proofs.lemmas.List.{Elements.filter-append, get_or_past, Sorted.IsPermutation-append}
 use Rattle.std.proofs.lemmas.List.{FromFn.fill_by_all, FromFn.map-range_with_len_more, get_or-map}
-use Rattle.std.proofs.lemmas.{Bool.cases_eq, Bool.false≢true, Bool.or_right, Grind.get_or-set_at}
+use Rattle.std.proofs.lemmas.{Bool.cases_eq, Bool.or_right, Grind.get_or-set_at}
 use Rattle.std.proofs.{Common.Bool, Common.Ok, lemmas.Bool.Decides.nat_tests, lemmas.List.set_split}
-use Rattle.std.proofs.{lemmas.List.length-map, lemmas.Option.same_Some, Math.Seq.get_or-append_seam}
+use Rattle.std.proofs.{lemmas.List.length-map, Math.Seq.get_or-append_seam}
 use Rattle.std.specs.List.{list_any, position_from, range_with_len, Sorted.IsPermutation}
 use Rattle.std.{proofs.lemmas.List.set-get_or, specs.Option.option_and_then, specs.Option.option_or}
 
@@ -50,24 +50,18 @@ length-number_rows order columns (suc n) bytes =
 pub get_or-numbers : (order : Endianness) (width n : ℕ) (bytes : List ℕ) (k d : ℕ) → k < n
     → get_or (numbers order width n bytes) k d ≡ number order width (drop (width * k) bytes)
 get_or-numbers order width zero bytes k d h = absurd (omega arith)
-get_or-numbers order width (suc n) bytes zero d h =
-    let none : width * 0 ≡ 0 = omega arith in rw none refl
+get_or-numbers order width (suc n) bytes zero d h = grind arith
 get_or-numbers order width (suc n) bytes (suc k) d h =
-    let next : width * suc k ≡ width + width * k = omega arith in
-    rw (next, ← drop-drop (width * k) width bytes)
-    (get_or-numbers order width n (drop width bytes) k d (omega arith))
+    grind (arith, drop-drop, get_or-numbers order width n (drop width bytes) k d)
 
 -- the row at a place
 pub get_or-number_rows : (order : Endianness) (columns n : ℕ) (bytes : List ℕ) (r : ℕ) (d : List ℕ)
     → r < n → get_or (number_rows order columns n bytes) r d ≡ numbers order 4 columns
     (drop (4 * columns * r) bytes)
 get_or-number_rows order columns zero bytes r d h = absurd (omega arith)
-get_or-number_rows order columns (suc n) bytes zero d h =
-    let none : 4 * columns * 0 ≡ 0 = omega arith in rw none refl
+get_or-number_rows order columns (suc n) bytes zero d h = grind arith
 get_or-number_rows order columns (suc n) bytes (suc r) d h =
-    let next : 4 * columns * suc r ≡ 4 * columns + 4 * columns * r = omega arith in
-    rw (next, ← drop-drop (4 * columns * r) (4 * columns) bytes)
-    (get_or-number_rows order columns n (drop (4 * columns) bytes) r d (omega arith))
+    grind (arith, drop-drop, get_or-number_rows order columns n (drop (4 * columns) bytes) r d)
 
 -- what is known of the numbers of an index's fields
 pub ruleset read_numbers =
@@ -80,7 +74,7 @@ numbers_more order width n bytes = rw (add-one n) (last n bytes)
   where
     last : (n : ℕ) (bytes : List ℕ) → numbers order width (suc n) bytes ≡ numbers order width n
         bytes ++ number order width (drop (width * n) bytes) ∷ []
-    last zero bytes = let none : width * 0 ≡ 0 = omega arith in rw none refl
+    last zero bytes = grind arith
     last (suc n) bytes =
         let next : width * suc n ≡ width + width * n = omega arith in
         rw (next, ← drop-drop (width * n) width bytes) (ap (λ xs. number order width bytes ∷ xs)
@@ -110,9 +104,7 @@ module _ (order : Endianness) (version : ℕ) (bytes : List ℕ) (count i : ℕ)
 
     pub ends : length bytes < 4 * i + 4 → Behind order version bytes count i ≡ Err UnexpectedEof
     unfolding columns_at
-    ends short =
-        rw (more, lt-ltb (length (drop (4 * i) bytes)) 4 (omega (arith, length-drop (4 * i) bytes)))
-        refl
+    ends short = grind (arith, nat_tests, more, length-drop)
 
     module _ (enough : 4 * i + 4 ≤ length bytes) where
       there : ltb (length (drop (4 * i) bytes)) 4 ≡ false
@@ -156,20 +148,20 @@ with_number column n (k ∷ ks) kind e = grind (arith, nat_tests, with_number co
 
 number_of_kind : (version n : ℕ) (kind : SectionKind) → kind_of_column version n ≡ Some kind
     → column_of version kind ≡ Some n
-number_of_kind version n kind e = by-bool (column_of version kind ≡ Some n) (eqb version 5)
-    (λ five. rw five (with_number standard_column n contribution_kinds kind (rw five at e)))
-    (λ two. rw two (with_number gnu_column n contribution_kinds kind (rw two at e)))
+number_of_kind version n kind e = grind (
+  arith,
+  with_number standard_column n contribution_kinds kind,
+  with_number gnu_column n contribution_kinds kind,
+)
 
 -- ---- what the number of a place says
 pub says_none : (count held n : ℕ) (o : Option ℕ) → IsPlace count held o → n ≡ held
     → n ≡ NO_COLUMN → o ≡ None
-says_none count held n None is e none = refl
-says_none count held n (Some i) is e none = absurd (omega (arith, is.0, is.2))
+says_none count held n o is e none = grind arith
 
 pub says_some : (count held n : ℕ) (o : Option ℕ) → IsPlace count held o → n ≡ held
     → (n ≡ NO_COLUMN → ⊥) → (o ≡ Some n) × (n < count)
-says_some count held n None is e other = absurd (other (e ∙ is))
-says_some count held n (Some i) is e other = (ap Some (sym (e ∙ is.0)), omega (arith, is.0, is.1))
+says_some count held n o is e other = grind arith
 
 -- ---- one more column
 -- the place in a list with one number more
@@ -188,8 +180,7 @@ unfolding column_place
 number_place version n columns kind e = rw (number_of_kind version n kind e) refl
 
 wider : (count held : ℕ) (o : Option ℕ) → IsPlace count held o → IsPlace (count + 1) held o
-wider count held None is = is
-wider count held (Some i) is = (is.0, omega (arith, is.1), is.2)
+wider count held o is = grind arith
 
 same_place : (version n : ℕ) (columns : List ℕ) (kind : SectionKind)
     → (column_of version kind ≡ Some n → ⊥)
@@ -209,29 +200,31 @@ pub one_more : (old new : ByKind ℕ) (version count n : ℕ) (columns more : Li
     → place_held old kind ≡ NO_COLUMN → ((other : SectionKind) → place_held new other ≡ cond
     (same_kind other kind) count (place_held old other)) → ArePlaces new version (count + 1) more
 one_more old new version count n columns more kind longer long small are named none put other =
-    let absent : position_from (λ x. eqb x n) 0 columns ≡ None =
-    sym (number_place version n columns kind named) ∙ says_none count (place_held old kind)
-    (place_held old kind) (column_place version columns kind) (are kind) refl none in
-    let found : column_place version (columns ++ n ∷ []) kind ≡ Some count = number_place version n
-    (columns ++ n ∷ []) kind named ∙ position_push (λ x. eqb x n) 0 columns n
-    ∙ rw (absent, eq-eqb n n refl, zero-add, long) refl in rw longer (by-bool
-    (IsPlace (count + 1) (place_held new other) (column_place version (columns ++ n ∷ []) other))
-    (same_kind other kind) (λ e. let same = is-same other kind e in
-    rw (put other, e, same, found) (refl, omega arith, small)) (λ e. let apart : (column_of
-    version other ≡ Some n → ⊥) = λ f. false≢true (sym e ∙ ap (λ k. same_kind k kind)
-    (same_Some other kind (sym (kind_of_number version n other f) ∙ named)) ∙ same-self kind) in
-    rw (put other, e, same_place version n columns other apart)
-    (wider count (place_held old other) (column_place version columns other) (are other))))
-
-no_place : (o : Option ℕ) → place_of o [] ≡ None
-no_place None = refl
-no_place (Some c) = refl
+    let absent = says_none count (place_held old kind) (place_held old kind)
+    (column_place version columns kind) (are kind) refl none in
+    let place = λ (l : List ℕ). number_place version n l kind named in
+    let pushed = position_push (λ x. eqb x n) 0 columns n in
+    grind (
+      arith,
+      nat_tests,
+      absent,
+      place columns,
+      place (columns ++ n ∷ []),
+      pushed,
+      put other,
+      are other,
+      is-same other kind,
+      same-self kind,
+      kind_of_number version n other,
+      same_place version n columns other,
+      wider count (place_held old other) (column_place version columns other),
+    )
 
 -- there are no columns yet
 pub none_yet : (p : ByKind ℕ) (version : ℕ) → ((kind : SectionKind) → place_held p kind ≡ NO_COLUMN)
     → ArePlaces p version 0 []
 unfolding column_place
-none_yet p version none kind = rw (no_place (column_of version kind)) (none kind)
+none_yet p version none kind = grind (arith, none kind)
 
 -- a number is among the columns just where its section's column has a place
 pub among : (version n : ℕ) (columns : List ℕ) (kind : SectionKind) → kind_of_column version n
@@ -313,13 +306,11 @@ pub used-more : (index : Index) (k : ℕ) → k < length index.rows
     → used_in index k ≡ cond (not (eqb (get_or index.rows k 0) 0))
     (slot_at index k ∷ used_in index (k + 1)) (used_in index (k + 1))
 unfolding used_in
-used-more index k less =
-    let more : length index.rows - k ≡ suc (length index.rows - (k + 1)) = omega arith in
-    rw more refl
+used-more index k less = grind arith
 
 pub used-none : (index : Index) (k : ℕ) → length index.rows ≤ k → used_in index k ≡ []
 unfolding used_in
-used-none index k past = let none : length index.rows - k ≡ 0 = omega arith in rw none refl
+used-none index k past = grind arith
 
 pub ruleset used_slots = (used-more, used-none, nat_tests)
 
@@ -334,8 +325,7 @@ record HasEach (n : ℕ) (xs : List ℕ) : Type 0 where
 
 none_used : (xs : List ℕ) → ((k : ℕ) → get_or xs k 0 ≤ 0) → filter used xs ≡ []
 none_used [] h = refl
-none_used (x ∷ xs) h =
-    let first : x ≡ 0 = omega (arith, h 0) in rw (first, none_used xs (λ k. h (suc k))) refl
+none_used (x ∷ xs) h = grind (arith, h 0, none_used xs (λ k. h (suc k)))
 
 -- one of them taken out
 one_out : (xs : List ℕ) (k r : ℕ) → k < length xs → get_or xs k 0 ≡ suc r
@@ -387,11 +377,10 @@ slot-within rows k some = grind (arith, get_or_past rows k 0)
 rows_have_each : (ids rows : List ℕ) → IsHashTable ids rows → HasEach (length ids) rows
 rows_have_each ids rows table = record {
   each = λ r h. let at = table.placed r h in
-      let slot = place (length rows) (get_or ids r 0) at.0 in let row : get_or rows slot 0
-      ≡ suc r = omega (arith, at.1.here) in (slot, slot-within rows slot (omega (arith, row)), row);
+      let slot = place (length rows) (get_or ids r 0) at.0 in
+      (slot, grind (arith, at.1.here, slot-within rows slot), grind (arith, at.1.here));
   most = table.only;
-  once = λ k l some same. table.once k l
-      (slot-within rows k some) (slot-within rows l (omega (arith, some, same))) some same;
+  once = λ k l some same. grind (arith, table.once k l, slot-within rows);
 }
 
 used-map : (ids rows : List ℕ)
@@ -413,8 +402,7 @@ used-named ids index is =
 -- ---- the identifiers
 named-at : (before ids : List ℕ) (x r : ℕ) → r ≡ suc (length before)
     → named (before ++ x ∷ ids) r ≡ (x, r)
-named-at before ids x r e =
-    rw e (ap (λ s. (s, suc (length before))) (get_or-append_seam before x ids 0))
+named-at before ids x r e = grind (arith, get_or-append_seam before x ids 0)
 
 numbered-from : (before ids : List ℕ) (r : ℕ) → r ≡ suc (length before) → numbered r ids ≡ map
     (named (before ++ ids)) (range_with_len r (length ids))

@@ -1,32 +1,30 @@
 -- The first section of a kind, met in file order, and the contents of a file whose sections hold
 -- them as they stand. What looking a unit up in a package gives; it is found by its row.
-use Rattle.dwp_index.specs.Package.{FoundUnit, found, is_outside, package_of, row_bytes, row_inside}
-use Rattle.dwp_base.specs.Sections.{all_kinds, compressed_name_of, is_named, kind_named, same_kind}
-use Rattle.dwp_index.specs.{Holding.Holds, Index.Index, Index.Ranges, Index.range_in, Index.row_in}
-use Rattle.std.proofs.Common.{Bool, List, None, Some, cond, drop, find, inr, refl, true, ◌&&◌, ◌≡◌}
-use Rattle.std.proofs.Common.{is_some, ne_eqb, option_and_then, option_map, slice_get, slice_range}
-use Rattle.dwp_base.specs.declared.{endian.Endianness.Endianness, section.SectionKind.SectionKind}
-use Rattle.dwp_index.specs.Package.{all_inside, row_counted, unit_at_row, unit_found, unit_of_row}
-use Rattle.dwp_index.specs.Package.{first_outside, found_by_row, found_counted, index_in_section}
-use Rattle.dwp_table.{proofs.Tables.finds_exactly, specs.declared.object.DwarfObject.DwarfObject}
-use Rattle.std.proofs.Common.{IfSome, Ok, [], ap, inl, le-leb, not, sym, ◌+◌, ◌<◌, ◌∙◌, ◌∷◌, ◌≤◌}
 use Rattle.dwp_base.proofs.EveryKind.{kind-named, named-itself, not-older, same-each, same-self}
-use Rattle.dwp_base.proofs.{EveryKind.is-same, Finds.find_hit, Finds.find_miss, Steps.each-read}
-use Rattle.dwp_elf_read.specs.Elf.{Elf, SHT_NOBITS, SectionMeaning, elf_of, has_name, is_empty}
-use Rattle.dwp_index.specs.Contents.{Sections, content, content_among, is_of_kind, used_bytes}
-use Rattle.dwp_index.specs.Package.{Package, found_by, index_for, row_by, row_found, unit_in}
-use Rattle.{dwp_units.proofs.Readings.by-result, std.proofs.lemmas.Slice.Eq.bytes_eq-Decides}
-use Rattle.dwp_base.{proofs.Bools.by-bool, specs.declared.section.Contribution.Contribution}
-use Rattle.dwp_base.{proofs.EveryKind.value-of, specs.Reading.◌>>=◌, specs.Sections.name_of}
-use Rattle.std.proofs.{Common.IsTrue, lemmas.Bool.Decides.nat_tests, lemmas.Bool.false≢true}
-use Rattle.{dwp_bytes.specs.declared.encoding.Encoding.Encoding, std.specs.Option.option_or}
-use Rattle.dwp_index.specs.Finding.{GivesWithin, HasIndex, IsNotNamed, IsUnitOf, unit_of}
-use Rattle.dwp_index.specs.{Contents.contents_of, Firsts.found_with, IndexBytes.index_of}
-use Rattle.dwp_table.specs.{Objects.identifier_of, Probing.found_row, Probing.look_count}
+use Rattle.dwp_base.proofs.{EveryKind.is-same, EveryKind.value-of, Finds.find_hit, Finds.find_miss}
+use Rattle.dwp_base.specs.Sections.{all_kinds, compressed_name_of, is_named, kind_named, same_kind}
 use Rattle.dwp_base.specs.declared.section.SectionKind.TheVariants.{CuIndex, TuIndex}
-use Rattle.dwp_index.specs.Holding.{HasContent, HoldsInOrder, held_of, sections_of}
-use Rattle.dwp_elf_read.specs.{View.section, declared.section.Section.Section}
-use Rattle.std.proofs.Common.{Option, arith, false, length, rules, subst, ℕ}
+use Rattle.dwp_base.specs.declared.section.{Contribution.Contribution, SectionKind.SectionKind}
+use Rattle.dwp_elf_read.specs.Elf.{Elf, elf_of, has_name, is_empty, SectionMeaning}
+use Rattle.dwp_index.specs.Contents.{content_among, contents_of, is_of_kind, Sections, used_bytes}
+use Rattle.dwp_index.specs.Finding.{GivesWithin, HasIndex, IsNotNamed, IsUnitOf, unit_of}
+use Rattle.dwp_index.specs.Holding.{HasContent, held_of, Holds, HoldsInOrder, sections_of}
+use Rattle.dwp_index.specs.Package.{first_outside, found_counted, FoundUnit, package_of, row_inside}
+use Rattle.dwp_index.specs.Package.{found, index_for, index_in_section, Package, row_bytes, unit_in}
+use Rattle.dwp_index.specs.Package.{found_by_row, is_outside, row_counted, unit_at_row, unit_of_row}
+use Rattle.dwp_index.specs.{Firsts.found_with, Index.Index, Index.range_in, Index.Ranges}
+use Rattle.dwp_index.specs.{IndexBytes.index_of, Package.row_found, Package.unit_found}
+use Rattle.dwp_table.{proofs.Tables.finds_exactly, specs.declared.object.DwarfObject.DwarfObject}
+use Rattle.std.proofs.Common.{IfSome, is_some, IsTrue, le-leb, Option, option_and_then, slice_range}
+use Rattle.std.proofs.Common.{ap, Ok, sym, [], ℕ, ◌+◌, ◌<◌, ◌∙◌, ◌∷◌, ◌≡◌, ◌≤◌}
+use Rattle.std.proofs.Common.{arith, Bool, false, length, List, option_map, rules, slice_get, subst}
+use Rattle.std.proofs.Common.{cond, drop, find, inl, inr, ne_eqb, None, not, refl, Some, true, ◌&&◌}
+use Rattle.std.proofs.lemmas.{Bool.Decides.nat_tests, Slice.Eq.bytes_eq-Decides}
+use Rattle.{dwp_base.proofs.Bools.by-bool, std.specs.Option.option_or, dwp_base.specs.Reading.◌>>=◌}
+use Rattle.{dwp_base.proofs.Steps.each-read, dwp_bytes.specs.declared.encoding.Encoding.Encoding}
+use Rattle.{dwp_base.specs.Sections.name_of, dwp_elf_read.specs.declared.section.Section.Section}
+use Rattle.{dwp_base.specs.declared.endian.Endianness.Endianness, dwp_index.specs.Contents.content}
+use Rattle.{dwp_elf_read.specs.View.section, dwp_table.specs.Objects.identifier_of}
 
 -- ---- the kind that a section's name belongs to
 
@@ -79,16 +77,12 @@ module _ (met : SectionKind → Option (ℕ × Section)) (i : ℕ) (next : Secti
   -- the first of that kind
   pub met-first : is_some (met own) ≡ false → (kind : SectionKind) → found_with kind (met kind) i
       next ≡ cond (same_kind kind own) (Some (i, next)) (met kind)
-  met-first none kind = by-bool _ (same_kind kind own) (λ same. rw (same, is-same kind own same)
-      (grind (arith, none, of_next own ∙ same-self own)))
-      (λ other. rw other (grind (arith, of_next kind ∙ other)))
+  met-first none kind = grind (arith, none, of_next kind, is-same kind own)
 
   -- one more of that kind
   pub met-later : is_some (met own) ≡ true → (kind : SectionKind)
       → found_with kind (met kind) i next ≡ met kind
-  met-later some kind = by-bool _ (same_kind kind own)
-      (λ same. rw (is-same kind own same) (grind (arith, some)))
-      (λ other. grind (arith, of_next kind ∙ other))
+  met-later some kind = grind (arith, some, of_next kind, is-same kind own)
 
 -- ---- the walk
 
@@ -103,26 +97,18 @@ pub record IsMet (kind : SectionKind) (xs : List SectionMeaning) (i : ℕ)
 pub met-next : (kind : SectionKind) (xs : List SectionMeaning) (i : ℕ) (next : Section)
     (met : Option (ℕ × Section)) → slice_get xs i ≡ Some (section next) → IsMet kind xs i met
     → IsMet kind xs (i + 1) (found_with kind met i next)
-met-next kind xs i next (Some found) at is =
-    record { first = is.first; there = is.there; filled = is.filled }
-met-next kind xs i next None at is = by-bool _ (is_of_kind kind (section next))
-    (λ here. rw here (record {
-      first = sym (find_hit (is_of_kind kind) xs i (section next) at here) ∙ is.first;
-      there = at;
-      filled = here;
-    })) (λ other. rw other (record {
-      first = sym (find_miss (is_of_kind kind) xs i (section next) at other) ∙ is.first;
-      there = tt;
-      filled = tt;
-    }))
+met-next kind xs i next met at is = grind (
+  arith,
+  is,
+  find_hit (is_of_kind kind) xs i (section next) at,
+  find_miss (is_of_kind kind) xs i (section next) at,
+)
 
 -- ---- which sections are of a kind
 pub another_kind : (section : SectionMeaning) (kind other : SectionKind) → section.name ≡ Some
     (name_of other) → same_kind other kind ≡ false → is_of_kind kind section ≡ false
 another_kind section kind other e ne =
-    let apart : same_kind kind other ≡ false = by-bool _ (same_kind kind other) (λ same. absurd
-    (false≢true (sym ne ∙ rw (is-same kind other same) (same-self other)))) (λ not. not) in
-    of_kind kind section ∙ rw (e, kind-named other, apart) (grind arith)
+    of_kind kind section ∙ rw (e, kind-named other) (grind (arith, is-same kind other))
 
 pub foreign : (section : SectionMeaning) (kind : SectionKind) (name : List ℕ) → section.name ≡ Some
     name → kind_named name ≡ None → is_of_kind kind section ≡ false
@@ -138,15 +124,8 @@ pub content_is : (sections : List SectionMeaning) (kind : SectionKind) (bytes : 
     → HasContent sections kind bytes → content_among sections kind ≡ Ok bytes
 unfolding content_among is_of_kind used_bytes
 content_is [] kind bytes h = ap (λ l. Ok l) (sym h)
-content_is (s ∷ ss) kind bytes (inl h) = rw (
-  ne_eqb s.size 0 (λ e. omega (arith, h.size_is, h.some)),
-  ne_eqb s.kind SHT_NOBITS h.has_bytes,
-  h.name_is,
-  named-itself kind,
-  h.stored,
-  not-older kind,
-  h.content_is,
-) refl
+content_is (s ∷ ss) kind bytes (inl h) =
+    grind (arith, nat_tests, h, named-itself kind, not-older kind)
 content_is (s ∷ ss) kind bytes (inr h) = rw h.0 (content_is ss kind bytes h.1)
 
 pub held_in_order : (sections : List SectionMeaning) (contents : List (SectionKind × List ℕ))
@@ -243,30 +222,19 @@ row_bytes-absent contents row kind e = rw e refl
 
 module _ (pack : Package) (object : DwarfObject) where
   -- a range outside is told by both
-  ranged : (number count : ℕ) (row : Ranges) (outside : Option SectionKind)
-      → first_outside pack.contents row ≡ outside → (unit_in pack object number row >>= λ unit. Ok
+  ranged : (number count : ℕ) (row : Ranges) → (unit_in pack object number row >>= λ unit. Ok
       (Some unit, count)) ≡ (row_inside pack number count row >>= unit_of_row pack object)
   unfolding unit_in
-  ranged number count row None e = sym (ap (λ (o : Option SectionKind).
-      (all_inside o >>= λ inside. Ok (Some (number, row), count)) >>= unit_of_row pack object) e)
-  ranged number count row (Some kind) e = rw e refl
+  ranged number count row = grind arith
 
   numbered : (index : Index) (number : Option ℕ) (count : ℕ) → unit_found pack
       object index number count ≡ (row_found pack index number count >>= unit_of_row pack object)
   unfolding unit_at_row
-  numbered index None count = refl
-  numbered index (Some number) count = by-result _ (row_in index number) (λ row e. rw e
-      (ranged number count row (first_outside pack.contents row) refl)) (λ cause e. rw e refl)
-
-  indexed : (index : Option Index)
-      → found_by pack object index ≡ (row_by pack object index >>= unit_of_row pack object)
-  indexed None = refl
-  indexed (Some index) = numbered index (found_row index.signatures index.rows
-      (identifier_of object)) (look_count index.signatures index.rows (identifier_of object))
+  numbered index number count = grind (arith, ranged)
 
 pub by_row : (pack : Package) (object : DwarfObject)
     → found_counted pack object ≡ found_by_row pack object
 unfolding found_counted row_counted
-by_row pack object = indexed pack object (index_for pack object)
+by_row pack object = grind (arith, numbered pack object)
 
 pub ruleset laws = (by_row, row_bytes-absent, row_bytes-part)
