@@ -17,7 +17,7 @@ use Joined.{bind-was, Contents, Encoding, HasFront, identity, IsSound, list_all,
 use Joined.{by-bool, is-same, is_some, name_for, names_of, NewUnit, place_of, with_part, with_parts}
 use Joined.{content_of, contribution_put, is_package, LieInside, map-append, unit_bytes, with_bytes}
 use Joined.{is_shared, nat_tests, place_for, ReadError, same_kind, same_name, slice_get, with_input}
-use Rattle.dwp_units.specs.Units.{header_at, older_at, older_type_at, unit_at, units, units_within}
+use Rattle.dwp_units.specs.Units.{unit_at, units, units_within}
 use Rattle.std.proofs.Common.{eqb-true}
 use Rattle.std.proofs.lemmas.List.{Elements.recursion_from_All, Sums.AllPass-from_list_all}
 use Rattle.std.proofs.lemmas.Option.{get_or_from_slice_get, slice_get_within}
@@ -34,8 +34,9 @@ use Rattle.thorin_join.proofs.Rows.{grows-trans, grows-with_bytes, is-unit_row, 
 use Rattle.thorin_join.proofs.Units.{AllSo, Listed, name-identity, Reads, same_name-true, WasRead}
 use Rattle.thorin_join.proofs.Units.{AreAdded, identity-sort, kind-place, units-joined, UnitsJoined}
 use Rattle.thorin_join.proofs.Units.{added-keys, each-joining, each-named, goes-alone, sections-are}
-use Rattle.thorin_join.proofs.Units.{each-all, IsAdded, IsKnown, known-in, same_name-self, units-go}
-use Rattle.thorin_join.proofs.{Moved.identity-shifted, Moved.newer-five, Units.Goes, Units.News}
+use Rattle.thorin_join.proofs.Units.{each-all, IsAdded, same_name-self, units-go}
+use Rattle.dwp_index.proofs.UnitBytes.{reads-alone, ReadsAlone}
+use Rattle.thorin_join.proofs.{Moved.identity-shifted, Moved.unit-five, Units.Goes, Units.News}
 use Rattle.thorin_join.specs.Meaning.{named_at, named_each, named_sections}
 use Rattle.thorin_join.specs.StandApart.{EachRow, rows_begun}
 use Rattle.{dwp_base.proofs.Bools.or-right, thorin_index.specs.IndexText.is_used}
@@ -51,7 +52,8 @@ encoding-eq a b h = grind (arith, nat_tests)
 
 -- what is known of a unit of an input of one encoding
 abbrev pub OfOne : Source → UnitSection → Header → Type 0
-OfOne source place unit = IsKnown source.object.order place unit × (unit.encoding ≡ source.encoding)
+OfOne source place unit = ReadsAlone source.object.order place unit
+    × (unit.encoding ≡ source.encoding)
 
 pub of-one : (source : Source) (sections : List Used)
     → list_all (section_has source.encoding source.object.order) sections ≡ true
@@ -67,7 +69,7 @@ of-one source sections has =
     (slice_get_within reads k (Ok unit) there) in
     let same = encoding-eq unit.encoding e
     (rw (get_or_from_slice_get reads k (Ok unit) (Ok unit) there) at is) in
-    (known-in order place used.bytes k unit there, same))
+    (reads-alone order place unit used.bytes k there, same))
     sections (recursion_from_All _ sections all)
 
 -- each unit is added for one that was read, of which this holds
@@ -360,7 +362,8 @@ module _ {source : Source} {before now : InProgress} (plain : is_package source.
       ∙ put-stays (content_of kinds.Abbrev before.file.contents) (joined_parts kinds.Abbrev a.parts)
       (content-with_parts kinds.Abbrev a.parts before.file.contents) (grown kinds.Abbrev)
       ∙ parts-copied source before.strings a.parts a.after a.parts_are kinds.Abbrev refl ∙ f.is in (
-        ap (λ (u : Header). u.encoding) same ∙ sym v.shifted.encoding ∙ w.so.1,
+        ap (λ (u : Header). u.encoding) same ∙ ap (λ (u : Header). u.encoding)
+            (sym v.shifted) ∙ w.so.1,
         (λ i. identity (section order (part i)) (same i))
             ∙ identity-stays order table f.rest v.alone (Some r.0)
             (sym (identity-shifted (section order table) v.behind v.alone r.1.unit v.shifted)
@@ -375,12 +378,6 @@ module _ {source : Source} {before now : InProgress} (plain : is_package source.
       rw (order-added a ∙ sym same) (rows-added a (OfOne source) (news-are a (OfOne source) so)
       (NamesItself order source.encoding) new-names (λ d up. keep-names order source.encoding
       before.file.contents d up before.rows (sound-inside before sound) (rw same named)))
-
--- a unit in info is of version 5, or no type unit
-unit-none : (i rest : Input) (u : Header) → unit_at places.Info i ≡ Ok (u, rest)
-    → (u.encoding.version ≡ 5) ⊎ (type_signature u.unit_type ≡ None)
-unfolding unit_at header_at older_at older_type_at
-unit-none i rest u h = grind (arith, newer-five)
 
 -- a name is of these
 abbrev IsThere : DwarfObject → List DwarfObject → Type 0
@@ -415,10 +412,10 @@ module _ (source : Source) (encoding : Encoding) where
       let read : named_at source from (Some places.Info) ≡ Ok a.0 =
       grind (arith, a.1, is-same from.kind kinds.Info is) in
       let head = head-named from.kind _ a.0 read (rw is at e) in
-      let known = (known-in source.object.order places.Info from.bytes 0 head.0 head.1).0 in
-      let five = unit-none _ _ _ known.read in
+      let known = reads-alone source.object.order places.Info head.0 from.bytes 0 head.1 in
+      let five = unit-five places.Info _ _ _ known.read in
       let goes : (encoding.version ≡ 5) ⊎ (name_signature head.3 ≡ None) =
-      grind (arith, five, known.shifted.encoding, head.2, head.5, known.shifted.type) in
+      grind (arith, five, known.shifted, head.2, head.5) in
       (head.3, list_any-append (same_name head.3) (keys a.0) (keys b.0) ∙ rw head.4 refl, goes))
       (λ other. let l = first-named rest b.0 b.1 (rw other at e) in
       (l.0, list_any-append (same_name l.0) (keys a.0) (keys b.0) ∙ or-right _ _ l.1, l.2)))

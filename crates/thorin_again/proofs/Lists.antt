@@ -341,11 +341,11 @@ input-encoded bytes begun now one sound h before =
           (of-one source source.object.sections has)) (Encodes order)
           (λ c d n new grows up place found rest read.
           let bytes = new.0.1.unit.whole.bytes in
-          let known = new.3.so.0.0 in
+          let known = new.3.so.0 in
           let own = (own-lies a n new.0 new.1 new.2 c d up).1 ∙ new.1.bytes in
           places-encoding place new.3.place (section order bytes) (found, rest)
           (known.alone, known.rest) (ap (λ l. unit_at place (section order l)) (sym own) ∙ read)
-          known.read ∙ sym known.shifted.encoding ∙ new.3.so.1 ∙ sym
+          known.read ∙ ap (λ (u : Header). u.encoding) (sym known.shifted) ∙ new.3.so.1 ∙ sym
           (new-encoding a n new.0 new.1 c)) (λ d up. recursion_from_All (Encodes order d) old.rows
           (λ k e within place found rest read.
           let row = get_or old.rows k e in

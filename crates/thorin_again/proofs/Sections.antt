@@ -3,7 +3,7 @@
 -- another. The ranges of string offsets that its indexes have are all that fill their section, in
 -- their order.
 use Rattle.thorin_join.proofs.Terms as Joined
-use Joined.{after, All, ap, append_assoc, arith, Bool, by-bool, content_of, Contents, Contribution}
+use Joined.{All, ap, append_assoc, arith, Bool, by-bool, content_of, Contents, Contribution}
 use Joined.{contribution_to, drop-append-le, DwarfObject, Each, Encoding, Endianness, false}
 use Joined.{HasFront, Header, identity, Index, IndexEntry, inl, Input, inr, is_chosen, is_some}
 use Joined.{kind_of, length, length-append, List, list_any, list_any-append, map, name_signature}
@@ -26,7 +26,8 @@ use Rattle.std.proofs.{ByRecursion.all_kept_by, Common.⊎_elim, lemmas.Option.s
 use Rattle.std.specs.{BTreeSet.insert_key, List.range_with_len}
 use Rattle.thorin_again.specs.Plain.{HasOneOf, IsAmong, IsOfSome, IsWholeRange, Tile}
 use Rattle.thorin_index.specs.{IndexText.is_used, ReadRows.HasContributions}
-use Rattle.thorin_join.proofs.{Files.HasRows, Moved.IsShifted, Moved.plain, Moved.unit-moves}
+use Rattle.{dwp_index.proofs.UnitBytes.plain, thorin_join.proofs.Files.HasRows}
+use Rattle.dwp_index.proofs.UnitBytes.{unit-moves, unit_behind}
 use Rattle.thorin_join.specs.Laid.{HaveOneRange, is_at, Lie, rows_at, same_place}
 use Rattle.thorin_join.{proofs.Rows.part-inside, proofs.Rows.whole_behind, specs.StandApart.EachRow}
 use Rattle.thorin_package_input.proofs.Rows.{compilation_there, range_is, range_of_found}
@@ -116,7 +117,7 @@ pub record IsUnitOf (order : Endianness) (contents : Contents) (place : UnitSect
   pub alone : Header
   pub rest : Input
   pub read : unit_at place (section order own) ≡ Ok (alone, rest)
-  pub shifted : IsShifted offset alone unit
+  pub shifted : unit ≡ unit_behind offset alone
 
 pub at-seam : {X : Type 0} (xs ys : List X) {y : X} → slice_get (xs ++ y ∷ ys) (length xs) ≡ Some y
 at-seam [] ys = refl
@@ -163,19 +164,17 @@ module _ (order : Endianness) (contents : Contents) (place : UnitSection) (rows 
       let head = l.0 in
       let own = head.own in
       let end = offset + length own in
-      let moved = unit-moves order place own head.rest offset _ _ head.is.read in
-      let left : after (length head.is.unit.whole.bytes) (plain order offset (own ++ head.rest)) ≡
-      plain order end head.rest =
-      rw head.is.whole (ap (plain order end) (drop-append_seam own head.rest)) in
-      let read : unit_at place (plain order offset bytes) ≡ Ok
-      (moved.unit, plain order end head.rest) = ap (λ l. unit_at place (plain order offset l))
-      head.are ∙ moved.read ∙ ap (λ i. Ok (moved.unit, i)) left in
+      let unit = unit_behind offset head.is.unit in
+      let moved = unit-moves order place head.is.unit own head.rest offset _ head.is.read
+      head.is.whole in
+      let read : unit_at place (plain order offset bytes) ≡ Ok (unit, plain order end head.rest) =
+      ap (λ l. unit_at place (plain order offset l)) head.are ∙ moved.0 in
       let long = ap length head.are ∙ length-append own head.rest in
       let some : 0 < length bytes = omega (arith, head.is.some) in
       let more : n ≡ suc (n - 1) = omega arith in
       let content_is = content ∙ ap (λ l. pre ++ l) head.are in
       rw (more, ne_eqb (length bytes) 0 (λ e. omega (arith, some)), read)
-      (one r rs moved.unit (units_within (n - 1) place (plain order end head.rest)) (record {
+      (one r rs unit (units_within (n - 1) place (plain order end head.rest)) (record {
         before = before;
         split = split;
         here = is;
@@ -184,12 +183,12 @@ module _ (order : Endianness) (contents : Contents) (place : UnitSection) (rows 
         below = below;
         range = head.range;
         part = part-middle pre own head.rest _ offset content_is at;
-        whole = moved.whole ∙ ap (plain order offset) head.is.whole;
-        sort = ap type_signature moved.shifted.type ∙ head.is.sort;
+        whole = moved.1;
+        sort = head.is.sort;
         alone = head.is.unit;
         rest = head.is.rest;
         read = head.is.read;
-        shifted = moved.shifted;
+        shifted = refl;
       }) (from (before ++ r ∷ []) rs (pre ++ own) head.rest end (n - 1) next once.1
       (All-push (IsBelow (kind_of place) end) before r
       (All-weaker (IsBelow (kind_of place) offset) (IsBelow (kind_of place) end) (λ x h c e.

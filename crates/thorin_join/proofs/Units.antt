@@ -5,28 +5,27 @@
 -- are apart: no two places have one name. The units that a package represents are those that stand
 -- in the ranges of its rows.
 use Rattle.thorin_join.proofs.Terms
-use Terms.{Adding, All, All-append, All-weaker, ap, append-nil, append_assoc, AreApart, AreDistinct}
-use Terms.{AreRowsOf, arith, as_error, bind-was, Bool, can_join, Contents, data_of, drop}
-use Terms.{DwarfObject, Each, encoding_in, Endianness, entry_identity, entry_ids, ErrorValue, false}
-use Terms.{Input, is_chosen, is_compilation, IsRowOf, IsTable, IsWhole, joining, kept_bytes, keys}
-use Terms.{New, new_units, NewUnit, None, Ok, Option, place_for, ReadError, refl, Result}
-use Terms.{Source, source_units, suc, sym, take-append-drop, take-length, true, type_signature}
-use Terms.{filter_passes, first_identifier, Header, identifier_of, identity, IndexEntry, InProgress}
-use Terms.{kind_of, length, length-map, List, list_any, list_any-append, list_any_at, map, ◌∙◌, ◌∷◌}
-use Terms.{map-append, map-map, Meaning, meaning_at, Members, name_for, name_signature, names_of}
-use Terms.{root_identity, rows_of, same-ok, same_name, section, SectionKind, slice_get, Some, ◌≡◌}
-use Terms.{unit_section, UnitRead, units_of, UnitSection, Used, with_unit, [], ℕ, ◌++◌, ◌+◌, ◌-◌}
-use Rattle.thorin_input.specs.Rows.{row_test, unit_row}
-use Rattle.{std.proofs.lemmas.Map.Made.is_some-lookup, thorin_errors.specs.Errors.ParseUnitHeader}
-use Rattle.{dwp_dwarf.specs.Entries.DebugAttribute, thorin_join.specs.Represents.Represents}
-use Rattle.{dwp_units.proofs.Units.unit_taken, thorin_join.proofs.Ranges.strings-are}
-use Rattle.dwp_index.proofs.UnitBytes.{unit_anywhere, units_alone, within_at}
+use Rattle.dwp_index.proofs.UnitBytes.{reads-alone, ReadsAlone, there, unit_anywhere}
+use Rattle.dwp_units.{proofs.Units.unit_taken, specs.Units.units}
+use Rattle.std.proofs.Common.{AllPairs}
 use Rattle.std.proofs.lemmas.List.{get_or-map, Kept.AllPairs-filter, Quantifiers.all_pairs_push}
-use Rattle.{dwp_units.specs.Units.unit_at, dwp_units.specs.Units.units, std.proofs.Common.AllPairs}
-use Rattle.thorin_input.specs.NewUnits.{none_met, SeenSections, with_each_read, with_each_section}
-use Rattle.thorin_input.specs.NewUnits.{with_first, with_read, with_section, with_section_at}
+use Rattle.thorin_input.specs.NewUnits.{SeenSections, with_each_read, with_section, with_section_at}
+use Rattle.thorin_input.specs.NewUnits.{none_met, with_each_section, with_first, with_read}
+use Rattle.thorin_input.specs.Rows.{row_test, unit_row}
+use Rattle.thorin_join.proofs.{Moved.unit-five, Ranges.strings-are}
 use Rattle.thorin_join.specs.Meaning.{named_at, named_each, named_sections, named_unit}
-use Rattle.thorin_join.proofs.Moved.{FiveOrType, IsShifted, plain, unit-five, unit-moves}
+use Rattle.{dwp_dwarf.specs.Entries.DebugAttribute, thorin_join.specs.Represents.Represents}
+use Rattle.{std.proofs.lemmas.Map.Made.is_some-lookup, thorin_errors.specs.Errors.ParseUnitHeader}
+use Terms.{Adding, data_of, Header, joining, kind_of, map-map, Members, NewUnit, rows_of, with_unit}
+use Terms.{All, keys, map, New, Ok, refl, section, suc, sym, true, [], ℕ, ◌++◌, ◌+◌, ◌-◌, ◌∷◌, ◌≡◌}
+use Terms.{All-append, All-weaker, list_any_at, SectionKind, take-length, unit_section, UnitSection}
+use Terms.{AreApart, as_error, bind-was, can_join, Contents, identity, list_any, name_for, UnitRead}
+use Terms.{AreDistinct, DwarfObject, list_any-append, name_signature, root_identity, type_signature}
+use Terms.{AreRowsOf, entry_ids, is_chosen, length-map, map-append, new_units, place_for, ReadError}
+use Terms.{IsRowOf, IsTable, IsWhole, Meaning, meaning_at, names_of, same_name, slice_get, units_of}
+use Terms.{append-nil, Endianness, ErrorValue, first_identifier, IndexEntry, InProgress, kept_bytes}
+use Terms.{append_assoc, entry_identity, filter_passes, identifier_of, is_compilation, source_units}
+use Terms.{arith, Bool, Each, false, Input, List, None, Option, Result, same-ok, Some, Source, Used}
 use Rattle.dwp_units.specs.declared.unit.UnitSection.TheVariants as places
 
 abbrev pub Listed : Type 0
@@ -239,70 +238,33 @@ pub identity-sort : (section : Input) (unit : Header) (name : DwarfObject) → i
 unfolding identity root_identity entry_identity
 identity-sort section unit name h = grind (arith, first-none)
 
--- a unit as it is read of its own bytes alone
-pub record ReadsAlone (order : Endianness) (place : UnitSection) (unit : Header) : Type 0 where
-  pub alone : Header
-  pub rest : Input
-  pub read : unit_at place (section order unit.whole.bytes) ≡ Ok (alone, rest)
-  pub whole : alone.whole.bytes ≡ unit.whole.bytes
-  pub behind : ℕ
-  pub shifted : IsShifted behind alone unit
-
--- what is known of a unit that was read in a section of that place
-abbrev pub IsKnown : Endianness → UnitSection → Header → Type 0
-IsKnown order place unit = ReadsAlone order place unit × (place ≡ places.Types → FiveOrType unit)
-
 -- a unit is a whole one of its name where it goes to
 abbrev pub Goes : Endianness → DwarfObject × UnitRead → Type 0
 Goes order read = IsWhole order (place_for read.0 read.1.from) read.0 read.1.unit.whole.bytes
 
-module _ (order : Endianness) (place : UnitSection) where
-  pub known-in : (bytes : List ℕ) (k : ℕ) (unit : Header)
-      → slice_get (units place (section order bytes)) k ≡ Some (Ok unit) → IsKnown order place unit
-  unfolding units encoding_in
-  known-in bytes k unit h =
-      let at = within_at order place unit (length bytes) 0 bytes k h in
-      let i = plain order at.0 at.1 in
-      let t = unit_taken place i at.2 unit at.3 in
-      let own = unit.whole.bytes in
-      let more = drop t.0.taken at.1 in
-      let whole_is : own ++ more ≡ at.1 = cc (t.1, take-append-drop t.0.taken at.1) in
-      let s = bind-was (unit_at place (section order own)) _ unit.encoding
-      (units_alone order place unit bytes k h) in
-      let moved = unit-moves order place own more at.0 s.0.0 s.0.1 s.1 in
-      let same : moved.unit ≡ unit = ap (λ (x : Header × Input). x.0)
-      (same-ok _ _ (sym (rw whole_is at moved.read) ∙ at.3)) in (
-        record {
-          alone = s.0.0;
-          rest = s.0.1;
-          read = s.1;
-          whole = sym (ap (λ (i : Input). i.bytes) (rw same at moved.whole));
-          behind = at.0;
-          shifted = rw same at moved.shifted;
-        },
-        λ is. unit-five i at.2 unit (ap (λ p. unit_at p i) (sym is) ∙ at.3),
-      )
-
 -- where a unit goes to it is read alone
 pub goes-alone : (order : Endianness) (place : UnitSection) (name : DwarfObject) (unit : Header)
-    → IsKnown order place unit → type_signature unit.unit_type ≡ name_signature name
+    → ReadsAlone order place unit → type_signature unit.unit_type ≡ name_signature name
     → ReadsAlone order (place_for name (kind_of place)) unit
-goes-alone order place name unit known sort =
-    grind (arith, known.0.shifted, unit_anywhere place places.Info)
+goes-alone order place name unit a sort =
+    let five = unit-five place (section order unit.whole.bytes) a.rest a.alone in
+    grind (arith, a.read, a.shifted, five, unit_anywhere place places.Info)
 
 -- all units of an input do so
 pub units-go : (source : Source) (all : Reads) → source_units source ≡ Ok all
     → Each (Goes source.object.order) all
+unfolding there
 units-go source all h =
     let order = source.object.order in
-    All-weaker (WasRead source (IsKnown order)) (Goes order) (λ r w.
+    All-weaker (WasRead source (ReadsAlone order)) (Goes order) (λ r w.
     let id = name-identity source r.1.from r.1.unit r.0 w.named in
     let sort = identity-sort id.0 r.1.unit r.0 id.1 in
     let a = goes-alone order w.place r.0 r.1.unit w.so sort in
     let t = unit_taken _ (section order r.1.unit.whole.bytes) a.rest a.alone a.read in
-    grind (arith, w.from, a.read, a.whole, a.shifted.type, t.0.some, t.0.enough, sort)) all
-    (sections-are source (IsKnown order) source.object.sections all
-    (each-all _ (λ used place at. known-in order place used.bytes) source.object.sections) h)
+    grind (arith, w.from, a.read, a.shifted, t.0.some, t.0.enough, sort)) all
+    (sections-are source (ReadsAlone order) source.object.sections all
+    (each-all _ (λ used place at k unit. reads-alone order place unit used.bytes k)
+    source.object.sections) h)
 
 -- one name is the other
 pub same_name-true : (a b : DwarfObject) → same_name a b ≡ true → a ≡ b
