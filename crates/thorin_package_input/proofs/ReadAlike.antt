@@ -1,25 +1,26 @@
 -- A package's string offsets, rewritten, read as they read before: one range is rewritten after
 -- another, and string offsets without a header, joined, are read in turn.
 use Rattle.dwp_base.proofs.Steps.{bind-was, guard-ok, same-ok}
-use Rattle.dwp_base.specs.{declared.endian.Endianness.Endianness, Numbers.number, Reading.◌>>=◌}
+use Rattle.dwp_base.specs.declared.{endian.Endianness.Endianness, section.Contribution.Contribution}
 use Rattle.dwp_bytes.specs.StringOffsets.{entry_count, entry_in, header_size, string_at, string_in}
 use Rattle.dwp_bytes.specs.declared.encoding.{Encoding.Encoding, Format.Format}
 use Rattle.dwp_strings.specs.Strings.{data_of, IsTable}
-use Rattle.std.proofs.Common.{Err, ltb, Ok, sym, [], ⊎_elim, ◌%◌, ◌*◌, ◌+◌, ◌-◌, ◌<◌, ◌∙◌, ◌∷◌, ◌≡◌}
-use Rattle.std.proofs.Common.{add-mul, drop-drop, drop_at, get_or, length, Option, Result, take_all}
+use Rattle.std.proofs.Common.{Err, ltb, Ok, sym, [], ℕ, ◌%◌, ◌*◌, ◌+◌, ◌-◌, ◌<◌, ◌∙◌, ◌∷◌, ◌≡◌, ◌≤◌}
+use Rattle.std.proofs.Common.{add-mul, drop-drop, drop_at, length, Option, Result, take_all, ⊎_elim}
 use Rattle.std.proofs.Common.{append_assoc, length-append, length-drop, length-take-le, slice_range}
 use Rattle.std.proofs.Common.{arith, cond, drop, List, None, refl, Some, subst, take, take_at, ◌++◌}
 use Rattle.std.proofs.lemmas.Bool.{cases_eq, cases_lt, Decides.nat_tests, lt-leb}
-use Rattle.std.proofs.lemmas.List.{at_drop_all, at_drop_more, drop-append-le, get_or_append_left}
-use Rattle.std.proofs.{Common.ap, lemmas.Nat.row_fits, Math.Nat.div-add-mod, Common.ℕ, Common.◌≤◌}
+use Rattle.std.proofs.lemmas.List.{drop-append-le, get_or_append_left, take_rest}
+use Rattle.std.proofs.{Common.ap, lemmas.Nat.row_fits, Math.Nat.div-add-mod}
 use Rattle.thorin_package_input.proofs.Rows.{compilation_there, IsIn, type_there}
 use Rattle.thorin_package_input.specs.PackagedOffsets.{offset_ranges, packaged_offsets, ranges_test}
 use Rattle.thorin_package_input.specs.PackagedReading.{PackageReadsAlike, RangeReadsAlike}
 use Rattle.thorin_package_input.specs.{PackagedOffsets.rewritten_from, PackagedReading.range_bytes}
+use Rattle.thorin_package_input.{proofs.Rows.first_found, specs.ReadStrings.ReadsAlike}
 use Rattle.thorin_strings.proofs.Remapping.{as_error_ok, kept_more, range_named}
-use Rattle.thorin_strings.specs.StringOffsets.{named_at, offset_at, remapped}
-use Rattle.{dwp_base.specs.declared.section.Contribution.Contribution, dwp_index.specs.Index.Index}
-use Rattle.{dwp_bytes.specs.Encoding.offset_size, thorin_package_input.specs.ReadStrings.ReadsAlike}
+use Rattle.thorin_strings.specs.StringOffsets.{named_at, offset_at}
+use Rattle.{dwp_base.specs.Numbers.number, dwp_index.specs.Index.Index}
+use Rattle.{dwp_bytes.specs.Encoding.offset_size, std.proofs.lemmas.Grind.common_steps}
 use Rattle.{thorin_errors.specs.Errors.ErrorValue, thorin_strings.specs.Rewritten.NamesTheSame}
 
 -- ---- what the tests say of the next range
@@ -37,76 +38,13 @@ unfolding ranges_test
 next_passed encoding size last r rs h = grind (arith, nat_tests)
 
 -- ---- what was written, in front of what is to come
-abbrev Rewriting : Type 0
-Rewriting = Result (List ℕ × List (List ℕ)) ErrorValue
-
-abbrev pub onto : List ℕ → Rewriting → Rewriting
+abbrev pub onto : List ℕ → Result (List ℕ × List (List ℕ)) ErrorValue
+    → Result (List ℕ × List (List ℕ)) ErrorValue
 onto front (Ok p) = Ok (front ++ p.0, p.1)
 onto front (Err e) = Err e
 
--- so far the rewriting of all is that of the rest behind what was written
-pub record IsSoFar (order : Endianness) (encoding : Encoding) (section bytes : List ℕ)
-    (ranges : List Contribution) (before : List (List ℕ)) (out : List ℕ) (at n : ℕ)
-    (strings : List (List ℕ)) : Type 0 where
-  pub kept : take (length before) strings ≡ before
-  pub within : at ≤ length bytes
-  pub passed : ranges_test encoding (length bytes) at (drop n ranges) ≡ Ok tt
-  pub all : onto out (rewritten_from order encoding section bytes at (drop n ranges) strings) ≡
-      rewritten_from order encoding section bytes 0 ranges before
-
-module _ {order : Endianness} {encoding : Encoding} {section bytes : List ℕ}
-    {ranges : List Contribution} {before : List (List ℕ)} where
-  module _ {out : List ℕ} {at n : ℕ} {strings : List (List ℕ)} (so_far : IsSoFar order encoding
-      section bytes ranges before out at n strings) where
-    abbrev whole : Rewriting
-    whole = rewritten_from order encoding section bytes 0 ranges before
-
-    -- at the end
-    pub all_written : length ranges ≤ n → whole ≡ Ok (out ++ drop at bytes, strings)
-    unfolding rewritten_from
-    all_written past = sym so_far.all ∙ at_drop_all
-        (λ rs. onto out (rewritten_from order encoding section bytes at rs strings)) ranges n past
-
-    -- one more
-    module _ (d : Contribution) (less : n < length ranges) where
-      abbrev r : Contribution
-      r = get_or ranges n d
-
-      pub next : IsNext encoding (length bytes) at r (drop (n + 1) ranges)
-      next = next_passed encoding (length bytes) at r (drop (n + 1) ranges) (sym
-          (at_drop_more (ranges_test encoding (length bytes) at) ranges n d less) ∙ so_far.passed)
-
-      abbrev range_of_next : Rewriting
-      range_of_next = remapped order encoding section (slice_range bytes r.offset.0
-          (r.offset.0 + r.size)) r.size strings
-
-      from_next : onto out (rewritten_from order encoding section bytes at (r ∷ drop (n + 1) ranges)
-          strings) ≡ whole
-      from_next =
-          sym (at_drop_more (λ rs. onto out (rewritten_from order encoding section bytes at rs
-          strings)) ranges n d less) ∙ so_far.all
-
-      pub one_refused : (error : ErrorValue) → range_of_next ≡ Err error → whole ≡ Err error
-      unfolding rewritten_from
-      one_refused error refused = sym from_next ∙ rw refused refl
-
-      onto_more : (front range : List ℕ) (rest : Rewriting) → onto ((out ++ front) ++ range) rest ≡
-          onto out (rest >>= λ p. Ok (front ++ range ++ p.0, p.1))
-      onto_more front range (Ok p) = ap (λ l. Ok (l, p.1)) (simp append_assoc)
-      onto_more front range (Err e) = refl
-
-      pub one_more : (range : List ℕ) (after : List (List ℕ)) (new : List ℕ) (end : ℕ)
-          → range_of_next ≡ Ok (range, after) → take (length strings) after ≡ strings
-          → new ≡ (out ++ slice_range bytes at r.offset.0) ++ range → end ≡ r.offset.0 + r.size
-          → IsSoFar order encoding section bytes ranges before new end (n + 1) after
-      unfolding rewritten_from
-      one_more range after new end ok kept new_is end_is = record {
-        kept = kept_more before strings after so_far.kept kept;
-        within = omega (arith, next.inside, end_is);
-        passed = rw end_is next.others;
-        all = rw (new_is, end_is) (onto_more (slice_range bytes at r.offset.0) range _
-            ∙ (rw ok at from_next));
-      }
+-- what is known of ranges that are rewritten in turn
+pub ruleset in_turn = (append_assoc, kept_more, take_rest, nat_tests, common_steps)
 
 -- a number in front doesn't depend on what follows it
 pub number_front : (order : Endianness) (format : Format) (xs ys : List ℕ) → offset_size format ≤

@@ -8,7 +8,7 @@ use Rattle.std.proofs.lemmas.List.FromFn.{get_or-map-range_with_len, length-map-
 use Rattle.thorin_package_input.specs.PackagedOffsets.{offset_ranges, place_cmp, with_ranges}
 use Rattle.dwp_base.specs.declared.section.SectionKind.{SectionKind, TheVariants.StrOffsets}
 use Rattle.dwp_base.{proofs.Bools.by-bool, specs.declared.section.Contribution.Contribution}
-use Rattle.std.proofs.Common.{Bool, Equal, Ok, arith, false, get_or, is_eq, rules, suc}
+use Rattle.std.proofs.Common.{Bool, Equal, Ok, arith, false, get_or, is_eq, rules, suc, unwrap_or}
 use Rattle.std.proofs.Common.{List, None, Option, Some, drop, inl, refl, sym, ◌+◌, ◌∙◌}
 use Rattle.std.proofs.lemmas.{Bool.Decides.nat_tests, Bool.cases_eq, Option.same_Some}
 use Rattle.thorin_package_input.specs.{PackagedOffsets.with_rows, RowPlaces.is_range}
@@ -21,20 +21,15 @@ module _ {X : Type 0} (t : X → Bool) (f : ℕ → X) where
   abbrev first_from : ℕ → ℕ → Option ℕ
   first_from a n = position_from t a (map f (range_with_len a n))
 
-  -- it passes, and none before it does
+  -- it passes
   found_at : (a n i : ℕ) → first_from a n ≡ Some i → (a ≤ i) × (i < a + n) × (t (f i) ≡ true)
   found_at a zero i found = absurd cc
   found_at a (suc n) i found = grind (arith, found_at (a + 1) n i)
 
-  before_found : (a n i j : ℕ) → first_from a n ≡ Some i → a ≤ j → j < i → t (f j) ≡ false
-  before_found a zero i j found from below = absurd cc
-  before_found a (suc n) i j found from below =
-      grind (arith, cases_eq j a, before_found (a + 1) n i j)
-
-  -- or none passes
-  none_found : (a n j : ℕ) → first_from a n ≡ None → a ≤ j → j < a + n → t (f j) ≡ false
-  none_found a zero j none from below = absurd (omega arith)
-  none_found a (suc n) j none from below = grind (arith, cases_eq j a, none_found (a + 1) n j)
+  -- none before it does, or none at all
+  before_fails : (a n j : ℕ) → a ≤ j → j < unwrap_or (first_from a n) (a + n) → t (f j) ≡ false
+  before_fails a zero j from below = absurd (omega arith)
+  before_fails a (suc n) j from below = grind (arith, cases_eq j a, before_fails (a + 1) n j)
 
   -- what passes where none before it does is found
   finds : (a n i : ℕ) → a ≤ i → i < a + n → t (f i) ≡ true
@@ -86,8 +81,8 @@ module _ (index : Index) (kind : SectionKind) (range : Contribution) where
         low = at.0;
         high = omega arith;
         first = λ lower other below there has. let passes = has_range lower other there has in
-            let fails = before_found test of_row 1 (length index.offsets) number lower found
-            (numbered index lower other there).0 below in cc;
+            let fails = before_fails test of_row 1 (length index.offsets) lower
+            (numbered index lower other there).0 (rw found below) in cc;
       }
 
   pub no_row : row_by_place (Some index) kind range ≡ None → (number : ℕ) (row : Ranges)
@@ -96,8 +91,8 @@ module _ (index : Index) (kind : SectionKind) (range : Contribution) where
   no_row none number row there has =
       let within = numbered index number row there in
       let passes = has_range number row there has in
-      let fails = none_found test of_row 1 (length index.offsets) number none within.0
-      (omega (arith, within.1)) in cc
+      let fails = before_fails test of_row 1 (length index.offsets) number within.0
+      (rw none (omega (arith, within.1))) in cc
 
   pub first_found : (number : ℕ) → IsFirstWith index kind range number
       → row_by_place (Some index) kind range ≡ Some number

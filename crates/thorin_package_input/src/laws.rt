@@ -1,11 +1,11 @@
 //! What is read of rewritten string offsets, and what rows by place and rewritten offsets of
 //! packages are, as laws.
+#![tactic(auto, using(crate::proofs::ReadAlike::joined_read, crate::proofs::Rows::first_row))]
 
 ghost use Rattle.std.specs.Prelude.{List, Option, if◌then◌else◌, ℕ, ◌*◌, ◌++◌, ◌-◌, ◌<◌, ◌≡◌, ◌≢◌};
 ghost use Rattle.std.specs.Prelude.{length, nat_lt, None, Ok, Some, take};
 ghost use Rattle.dwp_base.specs.declared.endian.Endianness.{Endianness};
-ghost use Rattle.dwp_base.specs.declared.section.SectionKind.{SectionKind};
-ghost use Rattle.dwp_base.specs.declared.section.Contribution.{Contribution};
+ghost use Rattle.dwp_base.specs.declared.section.{Contribution.Contribution, SectionKind.SectionKind};
 ghost use Rattle.dwp_bytes.specs.{declared.encoding.Encoding.Encoding, Encoding.offset_size};
 ghost use Rattle.dwp_bytes.specs.StringOffsets.{string_in};
 ghost use Rattle.dwp_index.specs.Index.{Index, range_in, Ranges, row_in};

@@ -53,6 +53,7 @@ pub fn remap_packaged_offsets(
 }
 
 /// Rewrites the ranges, which passed the tests.
+#[tactic(auto, using(crate::proofs::ReadAlike::in_turn), unfolding(crate::specs::PackagedOffsets::ranges_test, crate::specs::PackagedOffsets::rewritten_from))]
 fn rewritten(
     alloc: Global,
     strings: &mut PackageStringTable,

@@ -1,51 +1,15 @@
-use Rattle.thorin_package_input.proofs.ReadAlike.{all_written, next, one_more, one_refused}
-use Rattle.std.proofs.lemmas.{List.take_rest, Result.err_from_is_err_and}
-use Rattle.dwp_base.specs.declared.section.Contribution.{Contribution}
-use Rattle.std.proofs.Common.{ap₂, arith, refl, ◌++◌, ◌∙◌}
+use Rattle.thorin_package_input.proofs.ReadAlike.{in_turn}
+use Rattle.thorin_package_input.specs.PackagedOffsets.{ranges_test, rewritten_from}
+use Rattle.thorin_strings.proofs.Remapping.{kept_more}
+use Rattle.std.proofs.Common.{arith}
 use Rattle.thorin_package_input.proofs.packaged_offsets.rewritten.Goals as goal
 
-abbrev zero_range : Contribution
-zero_range = record { offset = record { 0 = 0 }; size = 0 }
-
-pub overflow_add-end : goal.overflow_add-end
-overflow_add-end c =
-    let r = next c.loop-range.invariant.so_far zero_range c.loop-range-test.true in
-    omega (arith, r.inside)
-
-pub slice_bounds-extend_from_slice-count : goal.slice_bounds-extend_from_slice-count
-slice_bounds-extend_from_slice-count c =
-    (next c.loop-range.invariant.so_far zero_range c.loop-range-test.true).behind
-
-pub slice_bounds-extend_from_slice-start : goal.slice_bounds-extend_from_slice-start
-slice_bounds-extend_from_slice-start c =
-    (next c.loop-range.invariant.so_far zero_range c.loop-range-test.true).behind
-
-pub slice_bounds-extend_from_slice-end : goal.slice_bounds-extend_from_slice-end
-slice_bounds-extend_from_slice-end c =
-    let r = next c.loop-range.invariant.so_far zero_range c.loop-range-test.true in
-    omega (arith, r.inside)
-
-pub slice_bounds-one-end : goal.slice_bounds-one-end
-slice_bounds-one-end c =
-    (next c.loop-range.invariant.so_far zero_range c.loop-range-test.true).inside
-
-pub returns-in_err-bytes-clause-meaning : goal.returns-in_err-bytes-clause-meaning
-returns-in_err-bytes-clause-meaning c =
-    let p = err_from_is_err_and c.from_residual-in_err-bytes.result
-    c.from_residual-in_err-bytes.ensures.1 in rw (p.1, p.2) (λ other. one_refused
-    c.loop-range.invariant.so_far _ c.loop-range-test.true _ (c.in_err-bytes.ensures.meaning other))
-
 pub loop-range-preserved : goal.loop-range-preserved
+unfolding ranges_test rewritten_from
 loop-range-preserved c = record {
-  so_far = one_more c.loop-range.invariant.so_far _ c.loop-range-test.true _ _ _ _
-      c.in_ok-bytes.ensures.meaning c.in_ok-bytes.ensures.kept
-      (c.in_ok-extend_from_slice-2.ensures.items ∙ ap₂ (λ l m. l ++ m)
-      c.in_ok-extend_from_slice.ensures.items c.deref.ensures.value) refl;
+  kept = kept_more _ _ _ c.loop-range.invariant.kept c.in_ok-bytes.ensures.kept;
+  within = grind (arith, in_turn);
+  passed = grind (arith, in_turn);
+  all = grind (arith, in_turn);
   known = c.in_ok-bytes.ensures.known;
 }
-
-pub returns-clause-meaning : goal.returns-clause-meaning
-returns-clause-meaning c = all_written c.loop-range.invariant.so_far c.loop-range-test.false ∙ rw (
-  ← take_rest c.args.section.now.offsets.now c.loop-range.at,
-  ← c.in_ok-extend_from_slice-3.ensures.items,
-) refl
