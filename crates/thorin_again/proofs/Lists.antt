@@ -429,7 +429,7 @@ first-of made file encoding sound fin differ encoded alike some =
     ∙ of-section order contents places.Info made.rows (λ todo got. EachRow (Encodes order contents)
     todo → HaveEncoding encoding todo → (got ≡ [] → ⊥) → first_encoding got ≡ Ok encoding)
     (λ are all none. absurd (none refl)) (λ r rs got other later are all. later are.1 all.1)
-    (λ r rs h got u later are all none. ap Ok (u.shifted.encoding
+    (λ r rs h got u later are all none. ap Ok (ap (λ (x : Header). x.encoding) u.shifted
     ∙ are.0 (place_of r.id r.debug_types) u.alone u.rest (read-alone u) ∙ all.0))
     sound.laid.once sound.laid.info encoded alike
     (λ none. let there = rw own at some in grind (arith, there, none))
